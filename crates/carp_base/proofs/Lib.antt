@@ -1,0 +1,13 @@
+pub mod Ranks
+pub mod EdgeFaults
+pub mod DraftFaults
+pub mod Bounds
+pub mod Disjunctions
+pub mod Ends
+pub mod Chains
+pub mod Finding
+pub mod Paths
+pub mod ReachFaults
+pub mod Reachable
+pub mod Validity
+pub mod Entries
