@@ -1,0 +1,6 @@
+pub mod Causes
+pub mod Told
+pub mod Calls
+pub mod Files
+pub mod MemShelf
+pub mod MemSink

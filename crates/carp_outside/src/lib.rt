@@ -1,0 +1,22 @@
+//! The outside as the product sees it: a store of named files, and an output.
+//!
+//! A [`Shelf`] and a [`Sink`] are handed in. [`read_whole`] and [`put_all`] move whole texts through them.
+//! [`MemShelf`] and [`MemSink`] stand in memory, tell what they hold, and fail at the calls that they are told to.
+#![tactic(auto)]
+
+mod calls;
+mod mem_file;
+mod mem_files;
+mod mem_shelf;
+mod mem_sink;
+mod reading;
+mod shelf;
+mod sink;
+#[cfg(test)]
+mod tests;
+
+pub use mem_shelf::MemShelf;
+pub use mem_sink::MemSink;
+pub use reading::{ReadFault, put_all, read_whole};
+pub use shelf::{Shelf, ShelfFault};
+pub use sink::{Sink, SinkFault};
