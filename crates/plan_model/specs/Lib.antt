@@ -1,0 +1,5 @@
+pub mod Plans
+pub mod Verdicts
+pub mod Passes
+pub mod Laws
+pub mod Offers

@@ -1,0 +1,28 @@
+//! Walks and plans of an instance, what makes a plan lawful, and what it costs.
+//!
+//! A [`Plan`] is a list of [`Walk`]s, and a walk a list of [`Step`]s; contracts see plain lists. [`judge`] tells what is
+//! first wrong with a plan, or what it costs where it is lawful. [`Proposer`] is the interface of a helper that offers
+//! plans.
+#![tactic(auto)]
+
+mod judging;
+mod laws;
+mod plan;
+mod proposer;
+mod served;
+mod step;
+#[cfg(test)]
+mod tests;
+mod totals;
+mod tours;
+mod verdict;
+mod walk;
+
+pub use judging::{JudgeRoom, judge};
+pub use laws::{required_cost_is_least, verdicts_are_exact};
+pub use plan::Plan;
+pub use proposer::Proposer;
+pub use step::Step;
+pub use totals::{cost_of, load_of};
+pub use verdict::Verdict;
+pub use walk::Walk;
