@@ -1,0 +1,15 @@
+pub mod FlatMaps
+pub mod Runs
+pub mod LineParts
+pub mod KeyLines
+pub mod KeyShapes
+pub mod EdgeLines
+pub mod Values
+pub mod Turns
+pub mod Endings
+pub mod WholeTexts
+pub mod WrittenLines
+pub mod WrittenEdges
+pub mod RoundTrip
+pub mod LineVerdicts
+pub mod TextVerdicts
