@@ -1,0 +1,4 @@
+pub mod Incident
+pub mod Laying
+pub mod Searching
+pub mod Making

@@ -1,0 +1,3 @@
+pub mod Incidence
+pub mod Lists
+pub mod Search

@@ -1,0 +1,12 @@
+// The two ends of an edge.
+ghost use Rattle.std.specs.Prelude.{◌≡◌};
+ghost use Rattle.road_network.specs.Incidence.{far_end};
+
+use carp_base::Edge;
+
+/// The end of an edge that is not the given one.
+pub fn far_end(edge: &Edge, v: u32) -> u32
+    ensures { result ≡ far_end v edge.now }
+{
+    if edge.u == v { edge.v } else { edge.u }
+}

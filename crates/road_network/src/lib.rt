@@ -1,0 +1,16 @@
+//! The edges at each vertex of an instance, and which vertices the depot reaches.
+//!
+//! A [`Network`] is made once for an instance, in time and space in proportion to its vertices and edges. Its
+//! answers then take constant time and no memory.
+#![tactic(auto)]
+
+mod counting;
+mod ends;
+mod network;
+mod reach;
+#[cfg(test)]
+mod tests;
+
+pub use counting::copy_edges;
+pub use ends::far_end;
+pub use network::Network;

@@ -1,0 +1,99 @@
+// What an instance's network tells of a vertex.
+ghost use Rattle.std.specs.Prelude.{◌≡◌, ℕ, ◌<◌, ◌↔◌, length, slice_index, IsTrue, IfOk, Contains};
+ghost use Rattle.carp_base.specs.Problem.{IsVertex, IsReached, IsEdgeNumber, edge_at};
+ghost use Rattle.road_network.specs.Incidence.{has_end, incident, required_degree_of};
+
+use crate::counting::{copy_edges, count_ends, lay_out, starts_of};
+use crate::reach::find_reached;
+use carp_base::{Edge, Instance, Memory};
+use std::alloc::Global;
+use std::marker::Model;
+
+/// The edges at each vertex of an instance, in rising number, and which vertices the depot reaches.
+///
+/// Contracts see the instance that it was made for, of which it keeps the numbers and the edges.
+#[derive(Drop)]
+pub struct Network {
+    vertices: u32,
+    depot: u32,
+    capacity: u64,
+    required: u32,
+    edges: Vec<Edge>,
+    starts: Vec<u32>,
+    incident: Vec<u32>,
+    required_degrees: Vec<u32>,
+    reached: Vec<bool>,
+}
+
+impl Model for Network {
+    ghost use Rattle.carp_base.specs.Problem.{Problem};
+    ghost use Rattle.road_network.specs.Lists.{IsNetwork};
+
+    ghost Value = { Problem };
+
+    ghost view = { λ n. record { vertices = n.vertices; depot = n.depot; capacity = n.capacity; required = n.required; edges = n.edges.items } };
+
+    ghost invariant = { λ n. IsNetwork (record { vertices = n.vertices; depot = n.depot; capacity = n.capacity; required = n.required; edges = n.edges.items }) n.starts.items n.incident.items n.required_degrees.items n.reached.items };
+}
+
+impl Network {
+    /// The network of an instance.
+    pub fn new(alloc: Global, inst: &Instance) -> Result<Network, Memory>
+        ensures { IfOk result (λ net. net ≡ inst.now) }
+    {
+        let vertices = inst.vertices();
+        let required = inst.required();
+        let edges = copy_edges(alloc, inst)?;
+        let starts = starts_of(alloc, vertices, &edges)?;
+        let incident = lay_out(alloc, vertices, &edges, &starts)?;
+        let required_degrees = count_ends(alloc, vertices, &edges[..required as usize])?;
+        let reached = find_reached(alloc, inst, &starts, &incident)?;
+        Ok(Network {
+            vertices,
+            depot: inst.depot(),
+            capacity: inst.capacity(),
+            required,
+            edges,
+            starts,
+            incident,
+            required_degrees,
+            reached,
+        })
+    }
+
+    /// The number of edges with an end at the vertex.
+    pub fn degree(&self, v: u32) -> u32
+        requires { IsVertex self.now v }
+        ensures value { result ≡ length (incident self.now v) }
+        ensures complete { (e : ℕ) → IsEdgeNumber self.now e → IsTrue (has_end v (edge_at self.now e)) → Contains (incident self.now v) e }
+    {
+        self.starts[v as usize + 1] - self.starts[v as usize]
+    }
+
+    /// The number of required edges with an end at the vertex.
+    pub fn required_degree(&self, v: u32) -> u32
+        requires { IsVertex self.now v }
+        ensures { result ≡ required_degree_of self.now v }
+    {
+        self.required_degrees[v as usize]
+    }
+
+    /// The edge at a place from 0, below the degree, among the edges at the vertex in rising number.
+    pub fn edge_at(&self, v: u32, i: u32) -> u32
+        requires vertex { IsVertex self.now v }
+        requires below { i < length (incident self.now v) }
+        ensures value { result ≡ slice_index (incident self.now v) i }
+        ensures number { IsEdgeNumber self.now result }
+        ensures there { IsTrue (has_end v (edge_at self.now result)) }
+    {
+        self.incident[self.starts[v as usize] as usize + i as usize]
+    }
+
+    /// Whether the depot reaches the vertex.
+    pub fn reached(&self, v: u32) -> bool
+        requires { IsVertex self.now v }
+        ensures { IsTrue result ↔ IsReached self.now v }
+    {
+        self.reached[v as usize]
+    }
+}
