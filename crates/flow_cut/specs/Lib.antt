@@ -1,0 +1,5 @@
+pub mod Adjacency
+pub mod Flows
+pub mod Laws
+pub mod Layers
+pub mod Residual

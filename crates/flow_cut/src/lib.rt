@@ -1,0 +1,22 @@
+//! Greatest flows and least cuts in a network of arcs with rooms (Ford and Fulkerson 1956).
+//!
+//! [`max_flow`] gives a flow from one node to another that no flow exceeds, and a side of the nodes that shows it:
+//! the rooms of the arcs that leave the side add up to the flow. It layers the residual network by breadth-first
+//! search, sends over all shortest ways, and goes on until the target is not reached
+//! (Dinic 1970). [`cut_bounds_flow`] and [`equal_is_best`] say why such a flow is greatest and such a cut least.
+#![tactic(auto)]
+
+mod adjacency;
+mod blocking;
+mod dinic;
+mod laws;
+mod layers;
+mod network;
+mod paths;
+mod residual;
+#[cfg(test)]
+mod tests;
+
+pub use dinic::max_flow;
+pub use laws::{cut_bounds_flow, equal_is_best};
+pub use network::{Arc, Flow, MAX_ARCS, MAX_NODES, MAX_ROOM};
