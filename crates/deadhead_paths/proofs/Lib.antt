@@ -1,0 +1,9 @@
+pub mod Searching
+pub mod Labels
+pub mod Rows
+pub mod Following
+pub mod Reading
+pub mod Walking
+pub mod Filling
+pub mod Joining
+pub mod Plans

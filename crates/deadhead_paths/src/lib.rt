@@ -1,0 +1,17 @@
+//! Deadheads of least price between the vertices of an instance, and plans tidied by them.
+//!
+//! [`distances`] makes a table of the least prices between all pairs of vertices, for any price per edge, from which
+//! [`Distances::get`] reads a price and [`Distances::path`] a list of steps. [`tidy`] joins the services of a plan by
+//! such paths.
+#![tactic(auto)]
+
+mod making;
+mod search;
+mod table;
+#[cfg(test)]
+mod tests;
+mod tidying;
+
+pub use making::{cost_prices, distances};
+pub use table::Distances;
+pub use tidying::tidy;

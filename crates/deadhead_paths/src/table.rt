@@ -1,0 +1,133 @@
+// A table of the least prices between all pairs of vertices.
+ghost use Rattle.std.specs.Prelude.{◌≡◌, ◌+◌, ◌-◌, ◌*◌, ◌^◌, ◌<◌, length, map, IfOk, OnOk, MatchOption};
+ghost use Rattle.carp_base.specs.Problem.{IsVertex};
+ghost use Rattle.deadhead_paths.specs.Prices.{ArePrices, IsLeastPrice, IsLeastPath, AddsPath, NoneLead, edge_price, costs_of};
+
+use crate::search::{PRICE_UNIT, Search, UNREACHED};
+use carp_base::{Edge, Instance, Memory};
+use plan_model::{Step, Walk};
+use road_network::{Network, copy_edges, far_end};
+use std::alloc::Global;
+use std::marker::Model;
+
+/// The least prices of deadheads between all pairs of vertices of an instance, and steps that have them.
+///
+/// Contracts see the instance, of which it keeps the numbers and the edges, and the price of each edge. Its labels are
+/// potentials: no edge leads to a vertex at a lower price than its label.
+#[derive(Drop)]
+pub struct Distances {
+    vertices: u32,
+    depot: u32,
+    capacity: u64,
+    required: u32,
+    edges: Vec<Edge>,
+    prices: Vec<u64>,
+    labels: Vec<u128>,
+    nexts: Vec<u32>,
+}
+
+impl Model for Distances {
+    ghost use Rattle.deadhead_paths.specs.Prices.{Priced};
+    ghost use Rattle.deadhead_paths.specs.Table.{IsTable};
+
+    ghost Value = { Priced };
+
+    ghost view = { λ d. record { problem = record { vertices = d.vertices; depot = d.depot; capacity = d.capacity; required = d.required; edges = d.edges.items }; prices = d.prices.items } };
+
+    ghost invariant = { λ d. IsTable (record { problem = record { vertices = d.vertices; depot = d.depot; capacity = d.capacity; required = d.required; edges = d.edges.items }; prices = d.prices.items }) d.labels.items d.nexts.items };
+}
+
+impl Distances {
+    // The table of an instance and its prices: a row towards each vertex in turn.
+    pub(crate) fn make(
+        alloc: Global,
+        inst: &Instance,
+        net: &Network,
+        prices: &[u64],
+    ) -> Result<Distances, Memory>
+        requires net { net.now ≡ inst.now }
+        requires prices { ArePrices inst.now prices.now }
+        ensures problem { IfOk result (λ dist. dist.problem ≡ inst.now) }
+        ensures prices { IfOk result (λ dist. dist.prices ≡ prices.now) }
+    {
+        let vertices = inst.vertices();
+        let places = vertices as usize * (vertices as usize + 1);
+        let mut labels = Vec::with_capacity(alloc, places)?;
+        let mut nexts = Vec::with_capacity(alloc, places)?;
+        for target in 1..vertices + 1 {
+            let search = Search::towards(alloc, inst, net, prices, target)?;
+            labels.extend_from_slice(&search.labels)?;
+            nexts.extend_from_slice(&search.nexts)?;
+        }
+        Ok(Distances {
+            vertices,
+            depot: inst.depot(),
+            capacity: inst.capacity(),
+            required: inst.required(),
+            edges: copy_edges(alloc, inst)?,
+            prices: Vec::from_slice(alloc, prices)?,
+            labels,
+            nexts,
+        })
+    }
+
+    // The place of a vertex in the row of another.
+    fn place(&self, from: u32, to: u32) -> usize
+        requires from { IsVertex self.now.problem from }
+        requires to { IsVertex self.now.problem to }
+        ensures { result ≡ (to - 1) * (self.now.problem.vertices + 1) + from }
+    {
+        (to as usize - 1) * (self.vertices as usize + 1) + from as usize
+    }
+
+    /// The least price of a list of steps from one vertex to another; `None` where no steps lead there.
+    pub fn get(&self, from: u32, to: u32) -> Option<u128>
+        requires from { IsVertex self.now.problem from }
+        requires to { IsVertex self.now.problem to }
+        ensures { MatchOption result (NoneLead self.now.problem from to) (λ price. IsLeastPrice self.now.problem (edge_price self.now) from to price) }
+    {
+        let label = self.labels[self.place(from, to)];
+        if label == UNREACHED {
+            None
+        } else {
+            Some(label / PRICE_UNIT)
+        }
+    }
+
+    // Adds steps of the least price from one vertex to another, where some lead there, to a walk.
+    pub(crate) fn follow(&self, walk: &mut Walk, from: u32, to: u32) -> Result<(), Memory>
+        requires from { IsVertex self.now.problem from }
+        requires to { IsVertex self.now.problem to }
+        requires linked { ¬ (NoneLead self.now.problem from to) }
+        requires room { length walk.old + 1000 < 2 ^ 32 }
+        ensures { OnOk result (AddsPath self.now from to walk.old walk.new) }
+    {
+        let mut at = from;
+        while at != to {
+            let next = self.nexts[self.place(at, to)];
+            let edge = self.edges[next as usize - 1];
+            walk.push(Step {
+                edge: next,
+                forward: edge.u == at,
+                served: false,
+            })?;
+            at = far_end(&edge, at);
+        }
+        Ok(())
+    }
+
+    /// Steps of the least price from one vertex to another, fewer than the instance has vertices; `None` where no steps
+    /// lead there.
+    pub fn path(&self, alloc: Global, from: u32, to: u32) -> Result<Option<Walk>, Memory>
+        requires from { IsVertex self.now.problem from }
+        requires to { IsVertex self.now.problem to }
+        ensures { IfOk result (λ found. MatchOption found (NoneLead self.now.problem from to) (λ walk. IsLeastPath self.now.problem (edge_price self.now) from to walk)) }
+    {
+        if self.get(from, to).is_none() {
+            return Ok(None);
+        }
+        let mut walk = Walk::new(alloc);
+        self.follow(&mut walk, from, to)?;
+        Ok(Some(walk))
+    }
+}
