@@ -1,0 +1,37 @@
+//! The program: the real files, the real output and the words of the command line, given to the top call.
+#![tactic(auto)]
+
+use carp_base::Memory;
+use carp_cli::{DirShelf, Status, StdSink, run};
+use plan_model::Proposer;
+use std::io::ErrorKind;
+use std::process::ExitCode;
+use std::rt::Env;
+use std::{env, io};
+
+fn main(rt: HostRuntime) -> ExitCode {
+    let alloc = rt.alloc();
+    let Ok(words) = words_of(&rt) else {
+        return ExitCode::from(Status::Memory.code());
+    };
+    let mut shelf = DirShelf::new(&rt, alloc);
+    let mut out = StdSink::new(io::writer(&rt));
+    let mut helpers: Vec<Box<dyn Proposer>> = Vec::new(alloc);
+    let status = run(alloc, &words, &mut shelf, &mut out, &mut helpers);
+    ExitCode::from(status.code())
+}
+
+// The words after the program's name. Where one is no text there are none, since no command has such a word.
+fn words_of(rt: &(impl Env + AllocGlobal)) -> Result<Vec<String>, Memory> {
+    let mut words = Vec::new(rt.alloc());
+    match env::args(rt) {
+        Ok(all) => {
+            for word in all.skip(1) {
+                words.push(word)?;
+            }
+            Ok(words)
+        }
+        Err(error) if error.kind() == ErrorKind::OutOfMemory => Err(Memory),
+        Err(_) => Ok(words),
+    }
+}

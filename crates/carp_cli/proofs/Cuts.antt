@@ -1,0 +1,51 @@
+-- What a delivery that was cut short leaves of a run.
+use Rattle.std.proofs.Common.{◌≡◌, ℕ, List, refl, ◌∙◌, inl, inr}
+use Rattle.std.specs.Prelude.{Option, None, Some, IsSomeAnd}
+use Rattle.carp_base.specs.Problem.{Problem}
+use Rattle.carp_outside.specs.Told.{HoldsExactly, HoldsFront, SameContents, WroteFront}
+use Rattle.carp_cli.specs.Words.{FileNames}
+use Rattle.dat_text.specs.Text.{IsTextOf}
+use Rattle.carp_cli.specs.Refusals.{refusal_text}
+use Rattle.carp_cli.specs.declared.status.Status.TheVariants.{BadUsage}
+use Rattle.carp_cli.specs.Outcome.{IsCutDelivery, IsSolvedInPart, IsCutShort}
+
+-- what is there may be named
+with_some : {X : Type 0} {P : X → Type 0} {Q : Type 0} (o : Option X) → IsSomeAnd o P → ((x : X) → o ≡ Some x → P x → Q) → Q
+with_some None none use_it = absurd none
+with_some (Some x) holds use_it = use_it x refl holds
+
+front_from : (name bytes : List ℕ) (before mid now : List ℕ → Option (List ℕ)) → SameContents before mid → HoldsFront name bytes mid now → HoldsFront name bytes before now
+front_from name bytes before mid now same held = record {
+  there = elim held.there [ inl stays ↦ inl (stays ∙ same name) | inr front ↦ inr front ];
+  others = λ other apart. held.others other apart ∙ same other;
+}
+
+exactly_from : (name bytes : List ℕ) (before mid now : List ℕ → Option (List ℕ)) → SameContents before mid → HoldsExactly name bytes mid now → HoldsExactly name bytes before now
+exactly_from name bytes before mid now same held = record { there = held.there; others = λ other apart. held.others other apart ∙ same other }
+
+-- a delivery that was cut short, seen from contents that were the same
+pub cut_from : (p : Problem) (cert : List ℕ) (before mid now : List ℕ → Option (List ℕ)) (written_before written : List ℕ) → SameContents before mid →
+    IsCutDelivery p cert mid now written_before written → IsCutDelivery p cert before now written_before written
+cut_from p cert before mid now written_before written same cut = record {
+  status = cut.status;
+  kept_text = cut.kept_text;
+  report = cut.report;
+  texts = cut.texts;
+  left = elim cut.left [
+    | inl front ↦ inl (front_from cert cut.kept_text before mid now same front.0, front.1)
+    | inr whole ↦ inr (exactly_from cert cut.kept_text before mid now same whole.0, whole.1)
+  ];
+}
+
+pub solved_in_part : (names : FileNames) (before now : List ℕ → Option (List ℕ)) (written_before written : List ℕ) (p : Problem) →
+    IsSomeAnd (before names.file) (λ bytes. IsTextOf bytes p) → IsCutDelivery p names.cert before now written_before written →
+    IsSolvedInPart names before now written_before written
+solved_in_part names before now written_before written p read cut =
+    with_some (before names.file) read (λ file was text. record { file = file; was = was; instance = p; read = text; cut = cut })
+
+-- the usage text was cut short
+pub usage_cut : (names : Option FileNames) (before : List ℕ → Option (List ℕ)) (looks : List ℕ → ℕ) (written_before written : List ℕ) → names ≡ None →
+    WroteFront (refusal_text BadUsage) written_before written → IsCutShort names before before looks looks written_before written
+usage_cut None before looks written_before written none wrote =
+    record { status = BadUsage; caused = refl; kept = λ name. refl; wrote = wrote }
+usage_cut (Some names) before looks written_before written none wrote = cc

@@ -1,0 +1,5 @@
+mod Cuts
+mod Judged
+mod Lines
+mod Singles
+mod Ways

@@ -1,0 +1,106 @@
+-- A way out, a service and a way home serve one edge alone; such tours, one for each required edge, are a lawful plan.
+use Rattle.std.proofs.Common.{◌≡◌, ℕ, ◌+◌, ◌<◌, ◌≤◌, ◌==◌, Bool, true, false, List, [], ◌∷◌, ◌++◌, refl, sym, ◌∙◌, ap, arith, length, cond, inl, inr, append-nil, length-append}
+use Rattle.std.specs.Prelude.{IsTrue, if◌then◌else◌}
+use Rattle.std.specs.List.{sum_by, count_by, AllByRecursion}
+use Rattle.std.proofs.lemmas.List.Sums.{sum_by-cons, sum_by-append}
+use Rattle.std.proofs.lemmas.Grind.{flat_map-append}
+use Rattle.std.proofs.lemmas.List.Concat.{flat_map-cons}
+use Rattle.std.proofs.lemmas.Bool.{cases_eq, eq-eqb, ne_eqb}
+use Rattle.carp_base.specs.Problem.{Problem, IsValid, IsRequired, IsEdgeNumber, edge_at}
+use Rattle.plan_model.specs.Plans.{IsLawful, IsLawfulWalk, serves, services_of, steps_of, step_load}
+use Rattle.plan_model.specs.declared.step.Step.{Step}
+use Rattle.deadhead_paths.specs.Prices.{NoneServed}
+use Rattle.carp_cli.specs.Singles.{IsWay, ServesAlone}
+use Rattle.carp_cli.proofs.Ways.{leads-append}
+
+AllByRecursion-append : {X : Type 0} (P : X → Type 0) (xs ys : List X) → AllByRecursion P xs → AllByRecursion P ys → AllByRecursion P (xs ++ ys)
+AllByRecursion-append P [] ys all more = more
+AllByRecursion-append P (x ∷ xs) ys all more = (all.0, AllByRecursion-append P xs ys all.1 more)
+
+-- what counts served steps alone is 0 where none is served
+nothing_served : (f : Step → ℕ) → ((s : Step) → s.served ≡ false → f s ≡ 0) → (steps : List Step) → NoneServed steps → sum_by f steps ≡ 0
+nothing_served f zero_of [] none = refl
+nothing_served f zero_of (s ∷ steps) none = omega (arith, sum_by-cons f s steps, zero_of s none.0, nothing_served f zero_of steps none.1)
+
+-- so over a way out, a service and a way home it is what the service gives
+one_served : (f : Step → ℕ) → ((s : Step) → s.served ≡ false → f s ≡ 0) → (out home : List Step) (s : Step) → NoneServed out → NoneServed home →
+    sum_by f ((out ++ s ∷ []) ++ home) ≡ f s
+one_served f zero_of out home s none_out none_home =
+    omega (
+      arith,
+      sum_by-append f (out ++ s ∷ []) home,
+      sum_by-append f out (s ∷ []),
+      sum_by-cons f s [],
+      nothing_served f zero_of out none_out,
+      nothing_served f zero_of home none_home,
+    )
+
+none_serves : (p : Problem) (steps : List Step) → NoneServed steps → AllByRecursion (λ s. IsTrue s.served → IsRequired p s.edge) steps
+none_serves p [] none = tt
+none_serves p (s ∷ steps) none = ((λ served. absurd (let both : true ≡ false = sym served ∙ none.0 in cc)), none_serves p steps none.1)
+
+-- the step that serves the edge forward
+abbrev pub service_of : ℕ → Step
+service_of e = record { edge = e; forward = true; served = true }
+
+pub serves_alone : (p : Problem) (e : ℕ) (out home : List Step) → IsRequired p e → IsEdgeNumber p e →
+    IsWay p p.depot (edge_at p e).u out → IsWay p (edge_at p e).v p.depot home → ServesAlone p e ((out ++ service_of e ∷ []) ++ home)
+serves_alone p e out home required number way_out way_home = record {
+  leads =
+      leads-append p (out ++ service_of e ∷ []) home p.depot (edge_at p e).v p.depot
+      (leads-append p out (service_of e ∷ []) p.depot (edge_at p e).u (edge_at p e).v way_out.leads (number, refl, refl)) way_home.leads;
+  serves_required =
+      AllByRecursion-append _ (out ++ service_of e ∷ []) home
+      (AllByRecursion-append _ out (service_of e ∷ []) (none_serves p out way_out.unserved) ((λ _. required), tt)) (none_serves p home way_home.unserved);
+  services = λ f. one_served (λ s. cond (serves f s) 1 0) (λ s idle. rw idle refl) out home (service_of e) way_out.unserved way_home.unserved;
+  load = one_served (step_load p) (λ s idle. rw idle refl) out home (service_of e) way_out.unserved way_home.unserved;
+}
+
+pub lawful_walk : (p : Problem) (e : ℕ) (walk : List Step) → IsValid p → IsRequired p e → ServesAlone p e walk → IsLawfulWalk p walk
+lawful_walk p e walk valid required alone = record {
+  leads = alone.leads;
+  serves_required = alone.serves_required;
+  load = let fits = (valid.tasks e required).demand_fits in omega (arith, alone.load, fits);
+}
+
+-- the tours of the required edges below e
+pub record AreSingles (p : Problem) (e : ℕ) (plan : List (List Step)) : Type 0 where
+  pub walks : AllByRecursion (IsLawfulWalk p) plan
+  pub done : (f : ℕ) → 1 ≤ f → f < e → services_of f plan ≡ 1
+  pub open_yet : (f : ℕ) → e ≤ f → services_of f plan ≡ 0
+  pub long : length plan + 1 ≡ e
+
+pub no_singles : (p : Problem) → AreSingles p 1 []
+no_singles p = record { walks = tt; done = λ f one below. absurd (omega arith); open_yet = λ f above. refl; long = refl }
+
+abbrev bit : Bool → ℕ
+bit b = if b then 1 else 0
+
+test_true : (e f : ℕ) → e ≡ f → bit (e == f) ≡ 1
+test_true e f same = rw (eq-eqb e f same) refl
+
+test_false : (e f : ℕ) → (e ≡ f → ⊥) → bit (e == f) ≡ 0
+test_false e f other = rw (ne_eqb e f other) refl
+
+services_push : (f : ℕ) (plan : List (List Step)) (walk : List Step) → services_of f (plan ++ walk ∷ []) ≡ services_of f plan + count_by (serves f) walk
+services_push f plan walk =
+    let one : ℕ → Step → ℕ = λ e s. cond (serves e s) 1 0 in
+    ap (sum_by (one f)) (flat_map-append (λ w. w) plan (walk ∷ []) ∙ ap (λ steps. steps_of plan ++ steps) (flat_map-cons (λ w. w) walk [] ∙ append-nil walk))
+    ∙ sum_by-append (one f) (steps_of plan) walk
+
+pub more_singles : (p : Problem) (e : ℕ) (plan : List (List Step)) (walk : List Step) → IsValid p → IsRequired p e → AreSingles p e plan → ServesAlone p e walk →
+    AreSingles p (e + 1) (plan ++ walk ∷ [])
+more_singles p e plan walk valid required singles alone = record {
+  walks = AllByRecursion-append _ plan (walk ∷ []) singles.walks (lawful_walk p e walk valid required alone, tt);
+  done = λ f one below. elim (cases_eq e f) [
+    | inl same ↦ omega (arith, services_push f plan walk, alone.services f, singles.open_yet f (omega arith), test_true e f same)
+    | inr other ↦ omega (arith, services_push f plan walk, alone.services f, singles.done f one (omega arith), test_false e f other)
+  ];
+  open_yet = λ f above.
+      omega (arith, services_push f plan walk, alone.services f, singles.open_yet f (omega arith), test_false e f (λ same. omega arith));
+  long = omega (arith, length-append plan (walk ∷ []), singles.long);
+}
+
+pub lawful_singles : (p : Problem) (e : ℕ) (plan : List (List Step)) → e ≡ p.required + 1 → AreSingles p e plan → IsLawful p plan
+lawful_singles p e plan last singles =
+    record { walks = singles.walks; once = λ f required. singles.done f required.from_one (let below = required.in_range in omega (arith, below, last)) }

@@ -1,0 +1,10 @@
+pub mod Words
+pub mod Certificate
+pub mod Sound
+pub mod Singles
+pub mod Report
+pub mod Files
+pub mod Refusals
+pub mod Codes
+pub mod Stops
+pub mod Outcome

@@ -1,0 +1,124 @@
+// What `solve` writes.
+ghost use Rattle.std.specs.Prelude.{◌≡◌, ◌+◌, ◌<◌, ◌≤◌, ◌^◌, ◌++◌, length, IfOk, OnOk, decimal, All};
+ghost use Rattle.std.specs.List.{flat_map};
+ghost use Rattle.carp_base.specs.Problem.{IsEdgeNumber};
+ghost use Rattle.plan_model.specs.Plans.{IsLawful, IsOnEdges};
+ghost use Rattle.carp_cli.specs.Certificate.{certificate_of, turns_of, number_line};
+ghost use Rattle.carp_cli.specs.Report.{report_text, instance_line, result_lines, gap_line, tour_lines, tour_line, route_text, crossing_text};
+
+use crate::certificate::Draft;
+use crate::text::{push_line, push_number, push_words};
+use carp_base::{Instance, Memory};
+use plan_model::{Plan, Step, Walk, cost_of, load_of};
+use std::alloc::Global;
+
+fn push_crossing(text: &mut Vec<u8>, inst: &Instance, step: Step) -> Result<(), Memory>
+    requires { IsEdgeNumber inst.now step.edge }
+    ensures { OnOk result (text.new.items ≡ text.old.items ++ crossing_text inst.now step) }
+{
+    text.push(if step.served { b'=' } else { b'-' })?;
+    let edge = inst.edge(step.edge);
+    push_number(text, if step.forward { edge.v } else { edge.u })
+}
+
+fn push_crossings(text: &mut Vec<u8>, inst: &Instance, walk: &Walk) -> Result<(), Memory>
+    requires { IsOnEdges inst.now walk.now }
+    ensures { OnOk result (text.new.items ≡ text.old.items ++ flat_map (crossing_text inst.now) walk.now) }
+{
+    for i in 0..walk.len() {
+        push_crossing(text, inst, walk.step(i))?;
+    }
+    Ok(())
+}
+
+#[tactic(auto, unfolding(crate::specs::Report::route_text))]
+fn push_route(text: &mut Vec<u8>, inst: &Instance, walk: &Walk) -> Result<(), Memory>
+    requires { IsOnEdges inst.now walk.now }
+    ensures { OnOk result (text.new.items ≡ text.old.items ++ route_text inst.now walk.now) }
+{
+    push_number(text, inst.depot())?;
+    push_crossings(text, inst, walk)?;
+    Ok(())
+}
+
+fn push_tour_line(
+    text: &mut Vec<u8>,
+    inst: &Instance,
+    number: usize,
+    walk: &Walk,
+) -> Result<(), Memory>
+    requires { IsOnEdges inst.now walk.now }
+    ensures { OnOk result (text.new.items ≡ text.old.items ++ tour_line inst.now number walk.now) }
+{
+    push_words(text, b"tour ", number)?;
+    push_words(text, b" load ", load_of(inst, walk))?;
+    push_words(text, b" cost ", cost_of(inst, walk))?;
+    text.extend_from_slice(b" route ")?;
+    push_route(text, inst, walk)?;
+    text.push(b'\n')?;
+    Ok(())
+}
+
+fn push_tour_lines(text: &mut Vec<u8>, inst: &Instance, plan: &Plan) -> Result<(), Memory>
+    requires { IsLawful inst.now plan.now }
+    ensures { OnOk result (text.new.items ≡ text.old.items ++ tour_lines inst.now 1 plan.now) }
+{
+    for i in 0..plan.len() {
+        push_tour_line(text, inst, i + 1, plan.walk(i))?;
+    }
+    Ok(())
+}
+
+fn push_instance_line(text: &mut Vec<u8>, inst: &Instance) -> Result<(), Memory>
+    ensures { OnOk result (text.new.items ≡ text.old.items ++ instance_line inst.now) }
+{
+    push_words(text, b"instance vertices ", inst.vertices())?;
+    push_words(text, b" edges ", inst.edge_count())?;
+    push_words(text, b" required ", inst.required())?;
+    push_words(text, b" capacity ", inst.capacity())?;
+    push_line(text, b" demand ", u128::from(inst.total_demand()))?;
+    Ok(())
+}
+
+#[tactic(auto, unfolding(crate::specs::Report::gap_line))]
+fn push_gap_line(text: &mut Vec<u8>, cost: u128, bound: u128) -> Result<(), Memory>
+    requires { bound ≤ cost }
+    ensures { OnOk result (text.new.items ≡ text.old.items ++ gap_line cost bound) }
+{
+    if bound == cost {
+        text.extend_from_slice(b"proven\n")?;
+        Ok(())
+    } else {
+        push_line(text, b"open gap ", cost - bound)
+    }
+}
+
+#[tactic(auto, unfolding(crate::specs::Report::result_lines))]
+fn push_result_lines(text: &mut Vec<u8>, draft: &Draft, turns: u64) -> Result<(), Memory>
+    requires { draft.now.bound ≤ draft.now.cost }
+    ensures { OnOk result (text.new.items ≡ text.old.items ++ result_lines (certificate_of draft.now) turns) }
+{
+    push_line(text, b"cost ", draft.cost)?;
+    push_line(text, b"bound ", draft.bound)?;
+    push_line(text, b"turns ", u128::from(turns))?;
+    push_gap_line(text, draft.cost, draft.bound)
+}
+
+/// The report of an instance, the certificate found for it and the turns of the certificate's tree.
+pub(crate) fn write_report(
+    alloc: Global,
+    inst: &Instance,
+    draft: &Draft,
+    turns: u64,
+) -> Result<Vec<u8>, Memory>
+    requires lawful { IsLawful inst.now draft.now.plan }
+    requires bounded { draft.now.bound ≤ draft.now.cost }
+    ensures { IfOk result (λ text. text.items ≡ report_text inst.now (certificate_of draft.now) turns) }
+{
+    let mut text = Vec::new(alloc);
+    push_instance_line(&mut text, inst)?;
+    push_result_lines(&mut text, draft, turns)?;
+    push_line(&mut text, b"tours ", draft.plan.len() as u128)?;
+    push_tour_lines(&mut text, inst, &draft.plan)?;
+    Ok(text)
+}

@@ -1,0 +1,192 @@
+// The top call.
+ghost use Rattle.std.specs.Prelude.{◌≡◌, ◌≢◌, ℕ, ◌+◌, ◌<◌, ◌≤◌, ◌++◌, ◌⊎◌, List, length, None, Some, IsTrue, IsSomeAnd};
+ghost use Rattle.carp_outside.specs.Causes.{Rose, RoseBy};
+ghost use Rattle.carp_outside.specs.Told.{HoldsExactly, HoldsFront, SameContents, WroteFront};
+ghost use Rattle.carp_base.specs.Problem.{Problem};
+ghost use Rattle.dat_text.specs.Text.{IsTextOf, IsFaultOf};
+ghost use Rattle.carp_cli.specs.Words.{names_of};
+ghost use Rattle.carp_cli.specs.Files.{IsAccepted, OfFile};
+ghost use Rattle.carp_cli.specs.Refusals.{refusal_text};
+ghost use Rattle.carp_cli.specs.Outcome.{IsDelivered, IsCutDelivery, IsSolved, IsCutShort, SameElsewhere, RoseAtFile};
+
+use crate::gathering::{FILE_LIMIT, Stop, Texts, build_texts, read_instance};
+use crate::refusals::refusal;
+use crate::status::Status;
+use crate::words::{Names, read_words};
+use carp_base::{Instance, Memory};
+use carp_outside::{Shelf, Sink, put_all};
+use dat_text::DatFault;
+use plan_model::Proposer;
+use std::alloc::Global;
+
+/// Runs the command that the words name: `solve FILE CERT` reads the instance of FILE, keeps a certificate at CERT and
+/// writes a report. All other words are bad usage. The helpers are left as they are.
+pub fn run<H: Shelf, O: Sink>(
+    alloc: Global,
+    words: &[String],
+    shelf: &mut H,
+    out: &mut O,
+    helpers: &mut Vec<Box<dyn Proposer>>,
+) -> Status
+    // The headline: where a solution is answered, the certificate is kept, the report is written, and both are true.
+    ensures solved { IsTrue H.tells → IsTrue O.tells → (result ≡ Status.Proven) ⊎ (result ≡ Status.Gap) → IsSomeAnd (names_of words.now) (λ names.
+        IsSolved names result (H.contents shelf.old) (H.contents shelf.new) (O.written out.old) (O.written out.new)) }
+    ensures complete { IsTrue H.tells → OfFile (λ bytes. (length bytes ≤ FILE_LIMIT) × IsAccepted bytes) (names_of words.now) (H.contents shelf.old)
+        → (RoseAtFile (names_of words.now) (H.failed_looks shelf.old) (H.failed_looks shelf.new) → ⊥)
+        → (Rose (H.failed_keeps shelf.old) (H.failed_keeps shelf.new) → ⊥) → (Rose (O.faults out.old) (O.faults out.new) → ⊥)
+        → (result ≡ Status.Proven) ⊎ ((result ≡ Status.Gap) ⊎ (result ≡ Status.Memory)) }
+
+    // Each refusal has its cause.
+    ensures usage { result ≡ Status.BadUsage → names_of words.now ≡ None }
+    ensures usage_only { names_of words.now ≡ None → (result ≡ Status.BadUsage) ⊎ ((result ≡ Status.WriteFault) ⊎ (result ≡ Status.Memory)) }
+    ensures instance { IsTrue H.tells → (fault : DatFault) → result ≡ Status.BadInstance fault →
+        OfFile (λ bytes. IsFaultOf bytes fault) (names_of words.now) (H.contents shelf.old) }
+    ensures instance_only { IsTrue H.tells → (fault : DatFault) →
+        OfFile (λ bytes. (length bytes ≤ FILE_LIMIT) × IsFaultOf bytes fault) (names_of words.now) (H.contents shelf.old)
+        → (RoseAtFile (names_of words.now) (H.failed_looks shelf.old) (H.failed_looks shelf.new) → ⊥)
+        → (result ≡ Status.BadInstance fault) ⊎ ((result ≡ Status.WriteFault) ⊎ (result ≡ Status.Memory)) }
+    ensures read { result ≡ Status.ReadFault → RoseAtFile (names_of words.now) (H.failed_looks shelf.old) (H.failed_looks shelf.new) }
+    ensures write { result ≡ Status.WriteFault → Rose (H.failed_keeps shelf.old) (H.failed_keeps shelf.new) ⊎ Rose (O.faults out.old) (O.faults out.new) }
+    ensures too_long { (limit : ℕ) → result ≡ Status.TooLong limit → (limit ≡ FILE_LIMIT) × RoseBy (limit + 1) (H.given shelf.old) (H.given shelf.new) }
+    ensures too_long_told { IsTrue H.tells → (limit : ℕ) → result ≡ Status.TooLong limit
+        → OfFile (λ bytes. limit < length bytes) (names_of words.now) (H.contents shelf.old) }
+    ensures too_long_only { IsTrue H.tells → OfFile (λ bytes. FILE_LIMIT < length bytes) (names_of words.now) (H.contents shelf.old)
+        → (RoseAtFile (names_of words.now) (H.failed_looks shelf.old) (H.failed_looks shelf.new) → ⊥)
+        → (result ≡ Status.TooLong FILE_LIMIT) ⊎ ((result ≡ Status.WriteFault) ⊎ (result ≡ Status.Memory)) }
+
+    // What stands after each answer.
+    ensures elsewhere { IsTrue H.tells → SameElsewhere (names_of words.now) (H.contents shelf.old) (H.contents shelf.new) }
+    ensures kept_only { IsTrue H.tells → result ≢ Status.Proven → result ≢ Status.Gap → result ≢ Status.WriteFault
+        → SameContents (H.contents shelf.old) (H.contents shelf.new) }
+    ensures refused { IsTrue O.tells → result ≢ Status.Proven → result ≢ Status.Gap → result ≢ Status.WriteFault
+        → O.written out.new ≡ O.written out.old ++ refusal_text result }
+    ensures cut { IsTrue H.tells → IsTrue O.tells → result ≡ Status.WriteFault
+        → IsCutShort (names_of words.now) (H.contents shelf.old) (H.contents shelf.new) (H.failed_looks shelf.old) (H.failed_looks shelf.new) (O.written out.old) (O.written out.new) }
+    ensures helpers { helpers.new.items ≡ helpers.old.items }
+{
+    let _untouched = helpers.len();
+    match read_words(words) {
+        None => refuse(alloc, out, Status::BadUsage),
+        Some(names) => solve_file(alloc, &names, shelf, out),
+    }
+}
+
+// Solves the instance of a file.
+fn solve_file<H: Shelf, O: Sink>(
+    alloc: Global,
+    names: &Names<'_>,
+    shelf: &mut H,
+    out: &mut O,
+) -> Status
+    ensures solved { IsTrue H.tells → IsTrue O.tells → (result ≡ Status.Proven) ⊎ (result ≡ Status.Gap) →
+        IsSolved (record { file = names.now.file.now; cert = names.now.cert.now }) result (H.contents shelf.old) (H.contents shelf.new) (O.written out.old) (O.written out.new) }
+    ensures complete { IsTrue H.tells → IsSomeAnd (H.contents shelf.old names.now.file.now) (λ bytes. (length bytes ≤ FILE_LIMIT) × IsAccepted bytes)
+        → (Rose (H.failed_looks shelf.old names.now.file.now) (H.failed_looks shelf.new names.now.file.now) → ⊥)
+        → (Rose (H.failed_keeps shelf.old) (H.failed_keeps shelf.new) → ⊥) → (Rose (O.faults out.old) (O.faults out.new) → ⊥)
+        → (result ≡ Status.Proven) ⊎ ((result ≡ Status.Gap) ⊎ (result ≡ Status.Memory)) }
+    ensures usage { result ≢ Status.BadUsage }
+    ensures instance { IsTrue H.tells → (fault : DatFault) → result ≡ Status.BadInstance fault →
+        IsSomeAnd (H.contents shelf.old names.now.file.now) (λ bytes. IsFaultOf bytes fault) }
+    ensures instance_only { IsTrue H.tells → (fault : DatFault) →
+        IsSomeAnd (H.contents shelf.old names.now.file.now) (λ bytes. (length bytes ≤ FILE_LIMIT) × IsFaultOf bytes fault)
+        → (Rose (H.failed_looks shelf.old names.now.file.now) (H.failed_looks shelf.new names.now.file.now) → ⊥)
+        → (result ≡ Status.BadInstance fault) ⊎ ((result ≡ Status.WriteFault) ⊎ (result ≡ Status.Memory)) }
+    ensures read { result ≡ Status.ReadFault → Rose (H.failed_looks shelf.old names.now.file.now) (H.failed_looks shelf.new names.now.file.now) }
+    ensures write { result ≡ Status.WriteFault → Rose (H.failed_keeps shelf.old) (H.failed_keeps shelf.new) ⊎ Rose (O.faults out.old) (O.faults out.new) }
+    ensures too_long { (limit : ℕ) → result ≡ Status.TooLong limit → (limit ≡ FILE_LIMIT) × RoseBy (limit + 1) (H.given shelf.old) (H.given shelf.new) }
+    ensures too_long_told { IsTrue H.tells → (limit : ℕ) → result ≡ Status.TooLong limit
+        → IsSomeAnd (H.contents shelf.old names.now.file.now) (λ bytes. limit < length bytes) }
+    ensures too_long_only { IsTrue H.tells → IsSomeAnd (H.contents shelf.old names.now.file.now) (λ bytes. FILE_LIMIT < length bytes)
+        → (Rose (H.failed_looks shelf.old names.now.file.now) (H.failed_looks shelf.new names.now.file.now) → ⊥)
+        → (result ≡ Status.TooLong FILE_LIMIT) ⊎ ((result ≡ Status.WriteFault) ⊎ (result ≡ Status.Memory)) }
+    ensures elsewhere { IsTrue H.tells → (other : List ℕ) → other ≢ names.now.cert.now → H.contents shelf.new other ≡ H.contents shelf.old other }
+    ensures kept_only { IsTrue H.tells → result ≢ Status.Proven → result ≢ Status.Gap → result ≢ Status.WriteFault
+        → SameContents (H.contents shelf.old) (H.contents shelf.new) }
+    ensures refused { IsTrue O.tells → result ≢ Status.Proven → result ≢ Status.Gap → result ≢ Status.WriteFault
+        → O.written out.new ≡ O.written out.old ++ refusal_text result }
+    ensures cut { IsTrue H.tells → IsTrue O.tells → result ≡ Status.WriteFault
+        → IsCutShort (Some (record { file = names.now.file.now; cert = names.now.cert.now })) (H.contents shelf.old) (H.contents shelf.new)
+        (H.failed_looks shelf.old) (H.failed_looks shelf.new) (O.written out.old) (O.written out.new) }
+{
+    match read_instance(alloc, shelf, names.file) {
+        Ok(inst) => solve_instance(alloc, &inst, names.cert, shelf, out),
+        Err(Stop::NoMemory) => Status::Memory,
+        Err(Stop::NotRead) => refuse(alloc, out, Status::ReadFault),
+        Err(Stop::Longer) => refuse(alloc, out, Status::TooLong(FILE_LIMIT)),
+        Err(Stop::NoInstance(fault)) => refuse(alloc, out, Status::BadInstance(fault)),
+    }
+}
+
+// Solves an instance, keeps the certificate and writes the report.
+fn solve_instance<H: Shelf, O: Sink>(
+    alloc: Global,
+    inst: &Instance,
+    cert: &str,
+    shelf: &mut H,
+    out: &mut O,
+) -> Status
+    ensures answers { (result ≡ Status.Proven) ⊎ ((result ≡ Status.Gap) ⊎ ((result ≡ Status.Memory) ⊎ (result ≡ Status.WriteFault))) }
+    ensures solved { IsTrue H.tells → IsTrue O.tells → (result ≡ Status.Proven) ⊎ (result ≡ Status.Gap) →
+        IsDelivered inst.now cert.now result (H.contents shelf.old) (H.contents shelf.new) (O.written out.old) (O.written out.new) }
+    ensures cause { result ≡ Status.WriteFault → Rose (H.failed_keeps shelf.old) (H.failed_keeps shelf.new) ⊎ Rose (O.faults out.old) (O.faults out.new) }
+    ensures cut { IsTrue H.tells → IsTrue O.tells → result ≡ Status.WriteFault →
+        IsCutDelivery inst.now cert.now (H.contents shelf.old) (H.contents shelf.new) (O.written out.old) (O.written out.new) }
+    ensures elsewhere { IsTrue H.tells → (other : List ℕ) → other ≢ cert.now → H.contents shelf.new other ≡ H.contents shelf.old other }
+    ensures kept_not { IsTrue H.tells → result ≡ Status.Memory → SameContents (H.contents shelf.old) (H.contents shelf.new) }
+    ensures wrote_not { IsTrue O.tells → result ≡ Status.Memory → O.written out.new ≡ O.written out.old }
+    ensures looks { (name : List ℕ) → H.failed_looks shelf.new name ≡ H.failed_looks shelf.old name }
+    ensures given { H.given shelf.new ≡ H.given shelf.old }
+{
+    match build_texts(alloc, inst) {
+        Ok(texts) => deliver(&texts, cert, shelf, out),
+        Err(Memory) => Status::Memory,
+    }
+}
+
+// Keeps the certificate, and then writes the report.
+fn deliver<H: Shelf, O: Sink>(texts: &Texts, cert: &str, shelf: &mut H, out: &mut O) -> Status
+    requires { (texts.now.status ≡ Status.Proven) ⊎ (texts.now.status ≡ Status.Gap) }
+    ensures answers { (result ≡ texts.now.status) ⊎ (result ≡ Status.WriteFault) }
+    ensures kept { IsTrue H.tells → result ≢ Status.WriteFault → HoldsExactly cert.now texts.now.kept.items (H.contents shelf.old) (H.contents shelf.new) }
+    ensures wrote { IsTrue O.tells → result ≢ Status.WriteFault → O.written out.new ≡ O.written out.old ++ texts.now.report.items }
+    ensures cause { result ≡ Status.WriteFault → Rose (H.failed_keeps shelf.old) (H.failed_keeps shelf.new) ⊎ Rose (O.faults out.old) (O.faults out.new) }
+    ensures cut { IsTrue H.tells → IsTrue O.tells → result ≡ Status.WriteFault
+        → (HoldsFront cert.now texts.now.kept.items (H.contents shelf.old) (H.contents shelf.new) × (O.written out.new ≡ O.written out.old))
+        ⊎ (HoldsExactly cert.now texts.now.kept.items (H.contents shelf.old) (H.contents shelf.new)
+        × WroteFront texts.now.report.items (O.written out.old) (O.written out.new)) }
+    ensures elsewhere { IsTrue H.tells → (other : List ℕ) → other ≢ cert.now → H.contents shelf.new other ≡ H.contents shelf.old other }
+    ensures looks { (name : List ℕ) → H.failed_looks shelf.new name ≡ H.failed_looks shelf.old name }
+    ensures given { H.given shelf.new ≡ H.given shelf.old }
+{
+    if shelf.keep(cert, &texts.kept).is_err() {
+        return Status::WriteFault;
+    }
+    if put_all(out, &texts.report).is_err() {
+        return Status::WriteFault;
+    }
+    texts.status
+}
+
+// Writes the text of an answer that has no report.
+fn refuse<O: Sink>(alloc: Global, out: &mut O, status: Status) -> Status
+    requires { status ≢ Status.WriteFault }
+    ensures answers { (result ≡ status) ⊎ ((result ≡ Status.Memory) ⊎ ((result ≡ Status.WriteFault) × Rose (O.faults out.old) (O.faults out.new))) }
+    ensures wrote { IsTrue O.tells → result ≢ Status.WriteFault → O.written out.new ≡ O.written out.old ++ refusal_text result }
+    ensures front { IsTrue O.tells → result ≡ Status.WriteFault → WroteFront (refusal_text status) (O.written out.old) (O.written out.new) }
+{
+    match refusal(alloc, &status) {
+        Ok(text) => write_refusal(out, status, &text),
+        Err(Memory) => Status::Memory,
+    }
+}
+
+fn write_refusal<O: Sink>(out: &mut O, status: Status, text: &[u8]) -> Status
+    ensures answers { (result ≡ status) ⊎ ((result ≡ Status.WriteFault) × Rose (O.faults out.old) (O.faults out.new)) }
+    ensures wrote { IsTrue O.tells → result ≢ Status.WriteFault → O.written out.new ≡ O.written out.old ++ text.now }
+    ensures front { IsTrue O.tells → result ≡ Status.WriteFault → WroteFront text.now (O.written out.old) (O.written out.new) }
+{
+    if put_all(out, text).is_err() {
+        return Status::WriteFault;
+    }
+    status
+}

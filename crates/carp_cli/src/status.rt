@@ -1,0 +1,45 @@
+// How a run ends.
+ghost use Rattle.std.specs.Prelude.{◌≡◌};
+
+use dat_text::DatFault;
+
+/// How a run ends.
+#[derive(Clone, Copy, Debug, PartialEq, Eq)]
+pub enum Status {
+    /// A plan was found, and its cost is the bound.
+    Proven,
+    /// A plan was found, and its cost is above the bound.
+    Gap,
+    /// The words are no command.
+    BadUsage,
+    /// The bytes of the instance file have this fault.
+    BadInstance(DatFault),
+    /// A file could not be read.
+    ReadFault,
+    /// The certificate could not be kept, or a text could not be written.
+    WriteFault,
+    /// Memory was not to be had. Nothing was kept, and nothing written.
+    Memory,
+    /// A file has more bytes than this limit.
+    TooLong(u64),
+}
+
+impl Status {
+    ghost use Rattle.carp_cli.specs.Codes.{code_of};
+
+    /// The status code of the process: 0 and 1 where a plan was found, and from 3 to 9 otherwise.
+    pub fn code(&self) -> u8
+        ensures { result ≡ code_of self.now }
+    {
+        match self {
+            Status::Proven => 0,
+            Status::Gap => 1,
+            Status::BadUsage => 3,
+            Status::BadInstance(_) => 4,
+            Status::ReadFault => 6,
+            Status::WriteFault => 7,
+            Status::Memory => 8,
+            Status::TooLong(_) => 9,
+        }
+    }
+}
