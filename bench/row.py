@@ -1,15 +1,15 @@
 #!/usr/bin/env python3
 """Compares what carp and a plain program wrote, and prints a row of the table in bench/README.md.
 
-usage: row.py KIND NAME FILE OURS PLAIN OUR_CLOCK PLAIN_CLOCK, where KIND is solve or read, OURS and PLAIN are the files of what
-was written, and the clocks are what bench/plain/clock.cpp prints. bench/solve and bench/read call it.
+usage: row.py KIND NAME FILE OURS PLAIN OUR_CLOCK PLAIN_CLOCK, where KIND is solve, read or flow, OURS and PLAIN are the files of what
+was written, and the clocks are what bench/plain/clock.cpp prints. The scripts of bench/ call it.
 """
 import datetime
 import os
 import platform
 import sys
 
-COMPARED = {"solve": ["cost", "bound"], "read": ["vertices", "edges", "demand"]}
+COMPARED = {"solve": ["cost", "bound"], "read": ["vertices", "edges", "demand"], "flow": ["value"]}
 
 
 def words_of(path):
@@ -39,7 +39,8 @@ def machine():
 
 def main():
     kind, name, path, ours, plain, our_clock, plain_clock = sys.argv[1:]
-    report, facts = facts_of_report(ours), dict(words_of(plain))
+    report = dict(words_of(ours)) if kind == "flow" else facts_of_report(ours)
+    facts = dict(words_of(plain))
     for fact in COMPARED[kind]:
         if report.get(fact) != facts.get(fact):
             sys.exit(f"bench: {name}: {fact} is {report.get(fact)} by carp and {facts.get(fact)} by the plain program")
