@@ -6,3 +6,4 @@ pub mod Search
 pub mod Refusals
 pub mod Allowed
 pub mod Laws
+pub mod Examples

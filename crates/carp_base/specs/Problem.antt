@@ -33,7 +33,7 @@ described vertices depot capacity required others = record {
 abbrev pub no_edge : Edge
 no_edge = record { u = 0; v = 0; cost = 0; demand = 0; service = 0 }
 
--- the edge of a number from 1
+-- the edge of a number from 1; past the last number an edge of zeros, and 0 is read as 1, so `IsEdgeNumber` stands beside it
 abbrev pub edge_at : Problem → ℕ → Edge
 edge_at p e = slice_index_or p.edges (e - 1) no_edge
 
@@ -93,7 +93,7 @@ pub record IsFineEdge (p : Problem) (x : Edge) : Type 0 where
   pub no_loop : x.u ≢ x.v
   pub cost_in : x.cost ≤ 1000000
 
--- a required edge can be served: a vehicle carries its demand and reaches it
+-- a required edge can be served: a vehicle carries its demand and reaches it, and its service cost is within its limit
 pub record IsFineTask (p : Problem) (e : ℕ) : Type 0 where
   pub some_demand : 1 ≤ (edge_at p e).demand
   pub demand_fits : (edge_at p e).demand ≤ p.capacity
@@ -105,7 +105,7 @@ pub record IsIdle (x : Edge) : Type 0 where
   pub no_demand : x.demand ≡ 0
   pub no_service : x.service ≡ 0
 
--- none of the faults of an instance applies
+-- none of the faults of an instance applies, the required edges are among the edges, and the others have nothing to serve
 pub record IsValid (p : Problem) : Type 0 where
   pub few_vertices : p.vertices ≤ 1000
   pub few_edges : length p.edges ≤ 4000

@@ -5,7 +5,7 @@ ghost use Rattle.carp_base.specs.Refusals.{RefusesFirstFault};
 
 use crate::description::Description;
 use crate::draft::Draft;
-use crate::{Edge, Fail, InstanceFault, RawEdge};
+use crate::{Edge, Fail, InstanceFault, Memory, RawEdge};
 use std::alloc::Global;
 use std::marker::Model;
 
@@ -82,6 +82,19 @@ impl Instance {
         }
     }
 
+    /// A copy of the instance.
+    pub fn copy(&self, alloc: Global) -> Result<Instance, Memory>
+        ensures { IfOk result (λ inst. inst ≡ self.now) }
+    {
+        Ok(Instance {
+            vertices: self.vertices,
+            depot: self.depot,
+            capacity: self.capacity,
+            required: self.required,
+            edges: Vec::from_slice(alloc, &self.edges)?,
+        })
+    }
+
     /// The number of vertices, 1 to 1,000. Vertices are numbered from 1.
     pub fn vertices(&self) -> u32
         ensures value { result ≡ self.now.vertices }
@@ -142,6 +155,14 @@ impl Instance {
             sum += self.edge(e).service;
         }
         sum
+    }
+
+    /// The edges in the order of their numbers: first the required ones, and then the others.
+    pub fn edges(&self) -> &[Edge]
+        ensures value { result.now ≡ self.now.edges }
+        ensures valid { IsValid self.now }
+    {
+        &self.edges
     }
 
     /// The edge of a number.

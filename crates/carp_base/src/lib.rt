@@ -29,4 +29,6 @@ pub use instance::Instance;
 pub use laws::valid_where_no_fault;
 
 #[cfg(test)]
+mod examples;
+#[cfg(test)]
 mod tests;

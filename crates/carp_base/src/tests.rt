@@ -217,6 +217,21 @@ fn gives_back_what_was_described(rt: HostRuntime) {
 }
 
 #[test]
+fn a_copy_is_the_same_instance(rt: HostRuntime) {
+    let required = [raw(1, 2, 5, 3, 7), raw(3, 2, 6, 4, 0)];
+    let Ok(inst) = Instance::build(rt.alloc(), 6, 3, 4, &required, &[raw(4, 5, 8, 9, 10)]) else {
+        panic!(rt; "it is valid");
+    };
+    let Ok(copy) = inst.copy(rt.alloc()) else {
+        panic!(rt; "there is memory");
+    };
+    assert_eq!(rt; (copy.vertices(), copy.depot(), copy.capacity()), (6, 3, 4));
+    assert_eq!(rt; (copy.required(), copy.edge_count()), (2, 3));
+    assert_eq!(rt; copy.edges(), inst.edges());
+    assert_eq!(rt; copy.edges().len(), 3);
+}
+
+#[test]
 fn takes_out_one_pair(rt: HostRuntime) {
     let street = raw(1, 2, 5, 1, 5);
     let Ok(inst) = Instance::build(rt.alloc(), 2, 1, 1, &[street, street, street], &[street]) else {

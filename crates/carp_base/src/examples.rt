@@ -1,0 +1,54 @@
+// Small data on which a fact that no call decides holds, and on which it does not.
+ghost use Rattle.std.specs.Prelude.{[], ◌∷◌};
+ghost use Rattle.carp_base.specs.declared.fault.InstanceFault.TheVariants.{CapacityOutOfRange, DepotOutOfRange, Loop};
+ghost use Rattle.carp_base.specs.Problem.{IsEdgeNumber, IsIdle, IsRequired, TasksLead, no_edge};
+ghost use Rattle.carp_base.specs.Faults.{IsBefore, IsFirstFault};
+ghost use Rattle.carp_base.specs.Allowed.{IsOf, IsRelation, IsSamePair, TakesOut};
+ghost use Rattle.carp_base.specs.Examples.{busy_edge, first_forward, nothing, one_order, pair_in, pair_out, second_backward, second_forward, two_streets};
+
+fn an_idle_edge()
+    ensures idle { IsIdle no_edge }
+    ensures busy { ¬ (IsIdle busy_edge) }
+{}
+
+fn a_number()
+    ensures edge { IsEdgeNumber two_streets 2 }
+    ensures no_edge { ¬ (IsEdgeNumber two_streets 3) }
+    ensures required { IsRequired two_streets 1 }
+    ensures other { ¬ (IsRequired two_streets 2) }
+{}
+
+fn a_path_leads_there()
+    ensures there { TasksLead two_streets 1 (first_forward ∷ second_forward ∷ []) 3 }
+    ensures back { TasksLead two_streets 3 (second_backward ∷ []) 2 }
+    ensures turned { ¬ (TasksLead two_streets 1 (first_forward ∷ second_backward ∷ []) 3) }
+    ensures unfinished { ¬ (TasksLead two_streets 1 (first_forward ∷ []) 3) }
+{}
+
+fn a_fault_before_another()
+    ensures before { IsBefore (Loop 1) (Loop 2) }
+    ensures after { ¬ (IsBefore (Loop 2) (Loop 1)) }
+{}
+
+fn a_first_fault()
+    ensures first { IsFirstFault nothing (CapacityOutOfRange 0) }
+    ensures second { ¬ (IsFirstFault nothing (DepotOutOfRange 0)) }
+{}
+
+fn a_relation()
+    ensures on { IsOf pair_in 2 }
+    ensures not_on { ¬ (IsOf pair_in 3) }
+    ensures both_orders { IsRelation pair_in }
+    ensures one_order { ¬ (IsRelation one_order) }
+{}
+
+fn a_same_pair()
+    ensures turned { IsSamePair 1 2 2 1 }
+    ensures other { ¬ (IsSamePair 1 2 1 1) }
+{}
+
+fn a_pair_taken_out()
+    ensures out { TakesOut pair_in pair_out 1 2 }
+    ensures stays { ¬ (TakesOut pair_in pair_in 1 2) }
+    ensures one_order { ¬ (TakesOut pair_in one_order 1 2) }
+{}
