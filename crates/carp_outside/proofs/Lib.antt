@@ -1,2 +1,3 @@
+mod Nowhere
 mod Pieces
 mod Updates

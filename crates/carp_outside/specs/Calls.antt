@@ -1,5 +1,5 @@
 -- Numbered calls of one kind, some of which fail.
-use Rattle.std.specs.Prelude.{◌≡◌, ℕ, List, Contains, Result, OnOk, OnErr}
+use Rattle.std.specs.Prelude.{◌≡◌, ℕ, ◌+◌, List, Contains, Result, OnOk, OnErr}
 use Rattle.carp_outside.specs.declared.calls.Calls.{Calls}
 use Rattle.carp_outside.specs.Causes.{grown}
 
@@ -13,9 +13,9 @@ pub record CallLog : Type 0 where
 abbrev pub empty_log : List ℕ → CallLog
 empty_log listed = record { made = 0; listed = listed; faults = 0 }
 
--- the next call is to fail; the first call has number 1
+-- the next call is to fail; the first call has number 1. A number of more than 64 bits is never listed
 abbrev pub IsListed : CallLog → Type 0
-IsListed log = Contains log.listed (grown log.made 1)
+IsListed log = Contains log.listed (log.made + 1)
 
 -- one more call was made, and it counts as a fault just where it failed
 pub record AddsCall {T E : Type 0} (before now : CallLog) (result : Result T E) : Type 0 where

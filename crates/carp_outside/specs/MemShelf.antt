@@ -28,7 +28,7 @@ keeps_of shelf = log_of shelf.keeps
 abbrev pub given_of : MemShelf → ℕ
 given_of shelf = shelf.given
 
--- no look and no keep was made
+-- no look and no keep was made, and the piece is the same
 pub record SameCounts (before now : MemShelf) : Type 0 where
   pub looks : looks_of now ≡ looks_of before
   pub keeps : keeps_of now ≡ keeps_of before

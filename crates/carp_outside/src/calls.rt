@@ -30,8 +30,12 @@ impl Calls {
         ensures failing { self.new.failing.items ≡ self.old.failing.items }
         ensures faults { self.new.faults ≡ self.old.faults }
     {
+        // A call past the last number of 64 bits is never listed.
+        let number = u128::from(self.made) + 1;
         self.made = self.made.saturating_add(1);
-        self.failing.contains(&self.made)
+        self.failing
+            .iter()
+            .any(|listed| u128::from(*listed) == number)
     }
 
     // Counts a fault.

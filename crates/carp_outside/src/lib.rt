@@ -5,6 +5,8 @@
 #![tactic(auto)]
 
 mod calls;
+#[cfg(test)]
+mod examples;
 mod mem_file;
 mod mem_files;
 mod mem_shelf;

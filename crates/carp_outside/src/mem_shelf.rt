@@ -116,6 +116,7 @@ impl Shelf for MemShelf {
         ensures contents { SameContents (contents_of self.old) (contents_of self.new) }
         ensures given { IfOk result (λ n. given_of self.new ≡ grown (given_of self.old) n) }
         ensures given_none { OnErr result (given_of self.new ≡ given_of self.old) }
+        ensures given_later { given_of self.old ≤ given_of self.new }
         ensures keeps { keeps_of self.new ≡ keeps_of self.old }
         ensures cause { HasCause (looks_of self.old).faults (looks_of self.new).faults result }
         ensures others { (other : List ℕ) → (looks_of self.old).faults ≤ (looks_of self.new).faults }

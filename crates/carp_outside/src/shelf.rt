@@ -33,6 +33,7 @@ pub trait Shelf {
         ensures contents { IsTrue tells → SameContents (contents self.old) (contents self.new) }
         ensures given { IfOk result (λ n. given self.new ≡ grown (given self.old) n) }
         ensures given_none { OnErr result (given self.new ≡ given self.old) }
+        ensures given_later { given self.old ≤ given self.new }
         ensures keeps { failed_keeps self.new ≡ failed_keeps self.old }
         ensures cause { HasCause (failed_looks self.old name.now) (failed_looks self.new name.now) result }
         ensures others { (other : List ℕ) → failed_looks self.old other ≤ failed_looks self.new other };
