@@ -168,7 +168,8 @@ numbers_of x = x.u ∷ x.v ∷ x.cost ∷ (option_to_list x.demand ++ option_to_
 abbrev pub AreShort : List (List ℕ) → Type 0
 AreShort numbers = AllByRecursion IsShort numbers
 
--- the edge of the numbers; where no service stands, it costs what the edge costs
+-- the edge of the numbers: a required one whose line names no service costs as much with service as without, and another has
+-- nothing to serve
 abbrev pub edge_of : Key → EdgeNumbers → RawEdge
 edge_of RequiredList x = record {
   u = digits_value 10 x.u;

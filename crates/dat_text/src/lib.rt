@@ -9,6 +9,8 @@
 mod draft;
 mod edge_line;
 mod fault;
+#[cfg(test)]
+mod fault_tests;
 mod key;
 mod key_line;
 mod kind;
