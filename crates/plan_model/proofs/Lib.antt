@@ -5,3 +5,4 @@ pub mod Clear
 pub mod Firsts
 pub mod Costs
 pub mod Tallies
+pub mod SmallPlans

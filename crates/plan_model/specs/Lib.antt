@@ -3,3 +3,4 @@ pub mod Verdicts
 pub mod Passes
 pub mod Laws
 pub mod Offers
+pub mod Examples

@@ -1,4 +1,4 @@
--- What a pass over a plan finds. Places count from 0.
+-- What a pass over a plan finds. Places count from 0. No public contract speaks of this.
 use Rattle.std.specs.Prelude.{◌≡◌, ℕ, ◌+◌, ◌-◌, ◌<◌, ◌≤◌, List, length, Option, MatchOption, count_by, min, slice_index}
 use Rattle.carp_base.specs.Problem.{Problem, IsEdgeNumber, IsRequired}
 use Rattle.plan_model.specs.declared.step.Step.{Step}

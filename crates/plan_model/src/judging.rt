@@ -37,7 +37,7 @@ impl JudgeRoom {
 
 /// What is first wrong with the plan, or what it costs where nothing is.
 ///
-/// It takes no memory, and time in proportion to the plan's steps and the number of required edges.
+/// It takes no memory, and time in proportion to the plan's walks and steps and the number of required edges.
 pub fn judge(inst: &Instance, plan: &Plan, room: &mut JudgeRoom) -> Verdict
     requires { room.old ≡ inst.now.required }
     ensures verdict { IsVerdict inst.now plan.now result }

@@ -5,10 +5,14 @@
 //! plans.
 #![tactic(auto)]
 
+#[cfg(test)]
+mod examples;
 mod judging;
 mod laws;
 mod plan;
 mod proposer;
+#[cfg(test)]
+mod proposer_tests;
 mod served;
 mod step;
 #[cfg(test)]

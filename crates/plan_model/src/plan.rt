@@ -59,6 +59,7 @@ impl Plan {
         ensures short { length result.now < 2 ^ 32 }
     {
         let walk = &self.walks[i];
+        // What a read of the walk says of it reaches the caller, who needs that it is short.
         let _ = walk.len();
         walk
     }
