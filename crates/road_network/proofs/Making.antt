@@ -1,21 +1,16 @@
 -- What a network keeps, from what its parts are.
-use Rattle.std.proofs.Common.{◌≡◌, ℕ, ◌+◌, ◌<◌, ◌≤◌, Bool, true, List, length, take, drop, get_or, min, sym, ap, ◌∙◌, arith, subst}
+use Rattle.std.proofs.Common.{◌≡◌, ℕ, ◌+◌, ◌<◌, ◌≤◌, true, List, length, take, drop, get_or, min, sym, ap, ◌∙◌, arith, subst}
 use Rattle.std.specs.List.{count_by}
 use Rattle.std.proofs.lemmas.List.{get_or-take, get_or-drop, get_or_read}
 use Rattle.carp_base.specs.declared.edge.Edge.{Edge}
 use Rattle.carp_base.specs.Problem.{Problem, IsValid, IsEdgeNumber, edge_at}
 use Rattle.road_network.specs.Incidence.{has_end, incident, incident_among, required_degree_of}
-use Rattle.road_network.specs.Lists.{AreLists, IsNetwork}
+use Rattle.road_network.specs.Lists.{AreLists}
 use Rattle.road_network.proofs.Incident.{incident_is, required_count}
 
 pub lists_same : (last last' : ℕ) (edges edges' : List Edge) (starts starts' incident : List ℕ) → last ≡ last' → edges ≡ edges' → starts ≡ starts' →
     AreLists last edges starts incident → AreLists last' edges' starts' incident
 lists_same last last' edges edges' starts starts' incident same_last same_edges same_starts lists = rw (← same_last, ← same_edges, ← same_starts) lists
-
-pub network_same : (p : Problem) (vertices depot capacity required : ℕ) (edges : List Edge) (starts incident degrees : List ℕ) (reached : List Bool) →
-    vertices ≡ p.vertices → depot ≡ p.depot → capacity ≡ p.capacity → required ≡ p.required → edges ≡ p.edges → IsNetwork p starts incident degrees reached →
-    IsNetwork (record { vertices = vertices; depot = depot; capacity = capacity; required = required; edges = edges }) starts incident degrees reached
-network_same p vertices depot capacity required edges starts incident degrees reached v d c r e is = rw (v, d, c, r, e) is
 
 pub degrees_are : (p : Problem) → IsValid p → (required : ℕ) (edges : List Edge) (degrees : List ℕ) → required ≡ p.required → edges ≡ p.edges →
     ((v : ℕ) → v ≤ p.vertices → get_or degrees v 0 ≡ count_by (has_end v) (take required edges)) →

@@ -8,7 +8,7 @@ use Rattle.carp_base.specs.Problem.{Problem, no_edge}
 abbrev pub has_end : ℕ → Edge → Bool
 has_end v x = (x.u == v) || (x.v == v)
 
--- the end of an edge that is not the given one
+-- the end of an edge that is not the given one, where that is an end of it
 abbrev pub far_end : ℕ → Edge → ℕ
 far_end v x = if x.u == v then x.v else x.u
 

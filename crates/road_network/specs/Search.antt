@@ -1,4 +1,4 @@
--- A search from the depot, as the vertices that it found.
+-- A search from the depot, as the vertices that it found. No public contract speaks of this.
 use Rattle.std.specs.Prelude.{◌≡◌, ℕ, ◌+◌, ◌<◌, ◌≤◌, Bool, true, false, List, length, slice_index, slice_index_or, count_by}
 use Rattle.std.specs.List.{Contains}
 use Rattle.carp_base.specs.Problem.{Problem, IsVertex, IsReached, IsEdgeNumber, edge_at, tail_of, head_of}

@@ -11,6 +11,5 @@ mod reach;
 #[cfg(test)]
 mod tests;
 
-pub use counting::copy_edges;
 pub use ends::far_end;
 pub use network::Network;

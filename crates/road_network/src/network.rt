@@ -3,22 +3,18 @@ ghost use Rattle.std.specs.Prelude.{◌≡◌, ℕ, ◌<◌, ◌↔◌, length, 
 ghost use Rattle.carp_base.specs.Problem.{IsVertex, IsReached, IsEdgeNumber, edge_at};
 ghost use Rattle.road_network.specs.Incidence.{has_end, incident, required_degree_of};
 
-use crate::counting::{copy_edges, count_ends, lay_out, starts_of};
+use crate::counting::{count_ends, lay_out, starts_of};
 use crate::reach::find_reached;
-use carp_base::{Edge, Instance, Memory};
+use carp_base::{Instance, Memory};
 use std::alloc::Global;
 use std::marker::Model;
 
 /// The edges at each vertex of an instance, in rising number, and which vertices the depot reaches.
 ///
-/// Contracts see the instance that it was made for, of which it keeps the numbers and the edges.
+/// Contracts see the instance that it was made for, of which it keeps a copy.
 #[derive(Drop)]
 pub struct Network {
-    vertices: u32,
-    depot: u32,
-    capacity: u64,
-    required: u32,
-    edges: Vec<Edge>,
+    inst: Instance,
     starts: Vec<u32>,
     incident: Vec<u32>,
     required_degrees: Vec<u32>,
@@ -31,9 +27,9 @@ impl Model for Network {
 
     ghost Value = { Problem };
 
-    ghost view = { λ n. record { vertices = n.vertices; depot = n.depot; capacity = n.capacity; required = n.required; edges = n.edges.items } };
+    ghost view = { λ n. n.inst };
 
-    ghost invariant = { λ n. IsNetwork (record { vertices = n.vertices; depot = n.depot; capacity = n.capacity; required = n.required; edges = n.edges.items }) n.starts.items n.incident.items n.required_degrees.items n.reached.items };
+    ghost invariant = { λ n. IsNetwork n.inst n.starts.items n.incident.items n.required_degrees.items n.reached.items };
 }
 
 impl Network {
@@ -42,18 +38,14 @@ impl Network {
         ensures { IfOk result (λ net. net ≡ inst.now) }
     {
         let vertices = inst.vertices();
-        let required = inst.required();
-        let edges = copy_edges(alloc, inst)?;
-        let starts = starts_of(alloc, vertices, &edges)?;
-        let incident = lay_out(alloc, vertices, &edges, &starts)?;
-        let required_degrees = count_ends(alloc, vertices, &edges[..required as usize])?;
+        let edges = inst.edges();
+        let starts = starts_of(alloc, vertices, edges)?;
+        let incident = lay_out(alloc, vertices, edges, &starts)?;
+        let required = &edges[..inst.required() as usize];
+        let required_degrees = count_ends(alloc, vertices, required)?;
         let reached = find_reached(alloc, inst, &starts, &incident)?;
         Ok(Network {
-            vertices,
-            depot: inst.depot(),
-            capacity: inst.capacity(),
-            required,
-            edges,
+            inst: inst.copy(alloc)?,
             starts,
             incident,
             required_degrees,

@@ -1,36 +1,37 @@
-use Rattle.std.proofs.Common.{arith, ◌∙◌}
+use Rattle.std.proofs.Common.{arith, subst, sym}
 use Rattle.std.proofs.lemmas.List.Elements.{All-take}
-use Rattle.road_network.specs.Lists.{AreJoining}
+use Rattle.road_network.specs.Lists.{AreJoining, IsNetwork}
 use Rattle.road_network.proofs.Incident.{joining_in}
-use Rattle.road_network.proofs.Making.{lists_same, network_same, degrees_are}
+use Rattle.road_network.proofs.Making.{lists_same, degrees_are}
 use Rattle.road_network.proofs.network.Network.new.Goals as goal
 
 pub starts_of-requires-clause-joining : goal.starts_of-requires-clause-joining
 starts_of-requires-clause-joining c =
-    joining_in c.args.inst.now c.vertices-vertices.ensures.valid c.vertices-vertices.result c.deref.result.now c.vertices-vertices.ensures.value (c.deref.ensures.value ∙ c.in_ok-edges.ensures)
+    joining_in c.args.inst.now c.vertices-vertices.ensures.valid c.vertices-vertices.result c.edges-edges.result.now c.vertices-vertices.ensures.value c.edges-edges.ensures.value
 
 pub lay_out-requires-clause-joining : goal.lay_out-requires-clause-joining
 lay_out-requires-clause-joining c =
-    joining_in c.args.inst.now c.vertices-vertices.ensures.valid c.vertices-vertices.result c.deref-2.result.now c.vertices-vertices.ensures.value (c.deref-2.ensures.value ∙ c.in_ok-edges.ensures)
+    joining_in c.args.inst.now c.vertices-vertices.ensures.valid c.vertices-vertices.result c.edges-edges.result.now c.vertices-vertices.ensures.value c.edges-edges.ensures.value
 
 pub count_ends-requires-clause-joining : goal.count_ends-requires-clause-joining
 count_ends-requires-clause-joining c =
-    All-take (AreJoining c.vertices-vertices.result) c.required-required.result c.deref-4.result.now
-    (joining_in c.args.inst.now c.vertices-vertices.ensures.valid c.vertices-vertices.result c.deref-4.result.now c.vertices-vertices.ensures.value (c.deref-4.ensures.value ∙ c.in_ok-edges.ensures))
+    All-take (AreJoining c.vertices-vertices.result) c.required.result c.edges-edges.result.now
+    (joining_in c.args.inst.now c.vertices-vertices.ensures.valid c.vertices-vertices.result c.edges-edges.result.now c.vertices-vertices.ensures.value c.edges-edges.ensures.value)
 
 pub invariant_of-result : goal.invariant_of-result
 invariant_of-result c =
     let p = c.args.inst.now in
     let valid = c.vertices-vertices.ensures.valid in
     let vertices = c.vertices-vertices.ensures.value in
+    let starts = c.in_ok-starts.starts.items in
+    let incident = c.in_ok-incident.incident.items in
     let degrees = c.in_ok-required_degrees.required_degrees.items in
-    network_same p _ _ _ _ _ c.in_ok-starts.starts.items c.in_ok-incident.incident.items degrees c.in_ok-reached.reached.items
-    vertices c.depot.ensures.value c.capacity.ensures.value c.required-required.ensures.value c.in_ok-edges.ensures
+    subst (λ q. IsNetwork q starts incident degrees c.in_ok-reached.reached.items) (sym c.in_ok-copy.ensures)
     (record {
       valid = valid;
-      lists = lists_same _ p.vertices _ p.edges _ c.in_ok-starts.starts.items _ vertices (c.deref-2.ensures.value ∙ c.in_ok-edges.ensures) c.deref-3.ensures.value c.in_ok-incident.ensures;
+      lists = lists_same _ p.vertices _ p.edges _ starts incident vertices c.edges-edges.ensures.value c.deref.ensures.value c.in_ok-incident.ensures;
       degrees_long = omega (arith, vertices, c.in_ok-required_degrees.ensures.long);
-      degrees = degrees_are p valid c.required-required.result c.deref-4.result.now degrees c.required-required.ensures.value (c.deref-4.ensures.value ∙ c.in_ok-edges.ensures)
+      degrees = degrees_are p valid c.required.result c.edges-edges.result.now degrees c.required.ensures.value c.edges-edges.ensures.value
           (λ v within. c.in_ok-required_degrees.ensures.counted v (omega (arith, within, vertices)));
       reached_long = c.in_ok-reached.ensures.long;
       reaches = c.in_ok-reached.ensures.reaches;
