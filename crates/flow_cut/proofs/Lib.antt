@@ -1,3 +1,4 @@
+mod Row
 pub mod Chains
 pub mod Cuts
 pub mod Least

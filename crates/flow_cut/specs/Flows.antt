@@ -51,7 +51,7 @@ pub record IsWithinRooms (arcs : List Arc) (flows : List ℕ) : Type 0 where
   pub within : (i : ℕ) → slice_index flows i ≤ (arc_at arcs i).room
 
 -- a flow from s to t of this value: it keeps within the rooms, at each node but s and t as much flows in as out,
--- and the value is what flows out of s less what flows into s. A number that is no node has no arcs
+-- and the value is what flows out of s less what flows into s. In a network a number that is no node has no arcs
 pub record IsFlow (arcs : List Arc) (s t value : ℕ) (flows : List ℕ) : Type 0 where
   pub rooms : IsWithinRooms arcs flows
   pub balanced : (v : ℕ) → v ≢ s → v ≢ t → inflow arcs flows v ≡ outflow arcs flows v

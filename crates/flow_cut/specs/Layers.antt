@@ -1,4 +1,4 @@
--- Levels of nodes by their distance from the source, and a residual arc over which each was reached.
+-- Levels of nodes by their distance from the source, and a residual arc over which each was reached. No public contract speaks of this.
 use Rattle.std.specs.Prelude.{◌≡◌, ◌≢◌, ◌==◌, ◌⊎◌, ℕ, zero, suc, ◌+◌, ◌-◌, ◌*◌, ◌<◌, ◌≤◌, List, length, slice_index, count_by, sum}
 use Rattle.flow_cut.specs.declared.network.Arc.{Arc}
 use Rattle.flow_cut.specs.declared.residual.ResidualArc.{ResidualArc}

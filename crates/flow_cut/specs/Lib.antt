@@ -1,4 +1,5 @@
 pub mod Adjacency
+pub mod Examples
 pub mod Flows
 pub mod Laws
 pub mod Layers

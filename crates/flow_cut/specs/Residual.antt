@@ -1,4 +1,4 @@
--- The residual network of a flow: each arc can be crossed forward, up to the room that is left, and backward, up to its flow.
+-- The residual network of a flow: each arc can be crossed forward, up to the room that is left, and backward, up to its flow. No public contract speaks of this.
 use Rattle.std.specs.Prelude.{◌≡◌, ◌≢◌, ◌==◌, ℕ, ◌+◌, ◌-◌, if◌then◌else◌, List, slice_index}
 use Rattle.std.specs.List.{sum_by}
 use Rattle.flow_cut.specs.declared.network.Arc.{Arc}

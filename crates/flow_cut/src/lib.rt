@@ -9,6 +9,8 @@
 mod adjacency;
 mod blocking;
 mod dinic;
+#[cfg(test)]
+mod examples;
 mod laws;
 mod layers;
 mod network;
