@@ -1,9 +1,8 @@
 -- A table of rows, one row further, and complete.
-use Rattle.std.proofs.Common.{◌≡◌, ℕ, ◌+◌, ◌-◌, ◌*◌, ◌<◌, ◌≤◌, List, ◌++◌, length, refl, sym, ap, ◌∙◌, arith, inl, inr, subst}
+use Rattle.std.proofs.Common.{◌≡◌, ℕ, ◌+◌, ◌-◌, ◌*◌, ◌<◌, ◌≤◌, List, ◌++◌, length, ap, ◌∙◌, arith, inl, inr}
 use Rattle.std.proofs.lemmas.Bool.{cases_lt}
-use Rattle.carp_base.specs.declared.edge.Edge.{Edge}
-use Rattle.carp_base.specs.Problem.{Problem, IsValid, IsVertex}
-use Rattle.deadhead_paths.specs.Prices.{Priced, ArePrices}
+use Rattle.carp_base.specs.Problem.{Problem, IsValid}
+use Rattle.deadhead_paths.specs.Prices.{ArePrices}
 use Rattle.deadhead_paths.specs.Table.{IsTowards, IsTable, row_of}
 use Rattle.deadhead_paths.proofs.Rows.{row_new, row_old}
 
@@ -19,14 +18,13 @@ towards_more p prices labels nexts labels_row nexts_row target from_one labels_l
       rw (same, row_new (p.vertices + 1) labels labels_row target labels_long row.labels_long, row_new (p.vertices + 1) nexts nexts_row target nexts_long row.nexts_long) row
 ]
 
-pub table_whole : (p : Problem) (prices : List ℕ) (vertices depot capacity required : ℕ) (edges : List Edge) (kept labels nexts : List ℕ) (target : ℕ) →
-    IsValid p → ArePrices p prices → vertices ≡ p.vertices → depot ≡ p.depot → capacity ≡ p.capacity → required ≡ p.required → edges ≡ p.edges → kept ≡ prices →
+pub table_whole : (p copy : Problem) (prices kept labels nexts : List ℕ) (target : ℕ) → IsValid p → ArePrices p prices → copy ≡ p → kept ≡ prices →
     target ≡ p.vertices + 1 → length labels ≡ (target - 1) * (p.vertices + 1) → length nexts ≡ (target - 1) * (p.vertices + 1) →
     ((v : ℕ) → 1 ≤ v → v < target → IsTowards p prices v (row_of (p.vertices + 1) labels v) (row_of (p.vertices + 1) nexts v)) →
-    IsTable (record { problem = record { vertices = vertices; depot = depot; capacity = capacity; required = required; edges = edges }; prices = kept }) labels nexts
-table_whole p prices vertices depot capacity required edges kept labels nexts target valid fit v d c r e k end labels_long nexts_long rows =
+    IsTable (record { problem = copy; prices = kept }) labels nexts
+table_whole p copy prices kept labels nexts target valid fit same same_prices end labels_long nexts_long rows =
     let all : target - 1 ≡ p.vertices = omega (arith, end) in
-    rw (v, d, c, r, e, k) (record {
+    rw (same, same_prices) (record {
       valid = valid;
       prices = fit;
       labels_long = labels_long ∙ ap (λ n. n * (p.vertices + 1)) all;

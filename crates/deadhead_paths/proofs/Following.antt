@@ -1,7 +1,7 @@
 -- A path of least labels, one step further.
-use Rattle.std.proofs.Common.{◌≡◌, ◌≢◌, ℕ, zero, suc, ◌+◌, ◌-◌, ◌*◌, ◌/◌, ◌<◌, ◌≤◌, Bool, true, false, cond, eqb, ◌||◌, ◌==◌, List, [], ◌∷◌, ◌++◌, length, get_or, refl, sym, ap, ◌∙◌, arith, inl, inr, subst}
-use Rattle.std.specs.List.{sum_by, AllByRecursion}
-use Rattle.std.proofs.lemmas.Bool.{cases_eq, cases_lt, eq-eqb, ne_eqb}
+use Rattle.std.proofs.Common.{◌≡◌, ◌≢◌, ℕ, ◌+◌, ◌*◌, ◌/◌, ◌<◌, ◌≤◌, Bool, true, false, cond, eqb, List, [], ◌∷◌, ◌++◌, length, get_or, refl, sym, ap, ◌∙◌, arith, inl, inr, subst}
+use Rattle.std.specs.List.{sum_by}
+use Rattle.std.proofs.lemmas.Bool.{cases_lt, eq-eqb, ne_eqb}
 use Rattle.std.proofs.lemmas.List.{append-nil, append_assoc, length_push}
 use Rattle.std.proofs.lemmas.List.Sums.{sum_by_push}
 use Rattle.carp_base.specs.declared.edge.Edge.{Edge}
@@ -9,8 +9,8 @@ use Rattle.carp_base.specs.Problem.{Problem, IsValid, IsVertex, IsEdgeNumber, ed
 use Rattle.road_network.specs.Incidence.{far_end}
 use Rattle.plan_model.specs.Plans.{Leads}
 use Rattle.plan_model.specs.declared.step.Step.{Step}
-use Rattle.deadhead_paths.specs.Prices.{Priced, price_of, edge_price, ArePrices, NoneServed, Deadheads, IsLeastPrice, IsLeastPath, AddsPath, NoneLead}
-use Rattle.deadhead_paths.specs.Table.{unreached, rise_of, IsTowards, IsTable, row_of}
+use Rattle.deadhead_paths.specs.Prices.{price_of, ArePrices, NoneServed, IsLeastPath, NoneLead}
+use Rattle.deadhead_paths.specs.Table.{unreached, rise_of, IsTowards}
 use Rattle.deadhead_paths.proofs.Labels.{labels_below, more_below, descends_by, least_price, none_lead, few_below}
 
 -- lists of steps, one step longer

@@ -1,7 +1,7 @@
 -- Services of a walk that are joined by least paths, one step of the walk further.
-use Rattle.std.proofs.Common.{◌≡◌, ◌≢◌, ℕ, zero, suc, ◌+◌, ◌-◌, ◌*◌, ◌<◌, ◌≤◌, Bool, true, false, cond, List, [], ◌∷◌, ◌++◌, length, get_or, map, take, drop, refl, sym, ap, ◌∙◌, arith, subst}
+use Rattle.std.proofs.Common.{◌≡◌, ℕ, ◌+◌, ◌-◌, ◌*◌, ◌<◌, ◌≤◌, Bool, true, false, cond, List, [], ◌∷◌, ◌++◌, length, get_or, take, drop, refl, sym, ap, ◌∙◌, arith, subst}
 use Rattle.std.specs.Prelude.{if◌then◌else◌}
-use Rattle.std.specs.List.{filter, sum_by, AllByRecursion}
+use Rattle.std.specs.List.{sum_by}
 use Rattle.std.proofs.lemmas.List.{append-nil, length-append, length_push, get_or-map, append_assoc, drop_more, take_more}
 use Rattle.std.proofs.lemmas.List.Elements.{filter-append}
 use Rattle.std.proofs.lemmas.List.Sums.{sum_by-cons, sum_by-append, sum_by_push, length-filter, sum_by-take-le}
@@ -9,8 +9,8 @@ use Rattle.carp_base.specs.declared.edge.Edge.{Edge}
 use Rattle.carp_base.specs.Problem.{Problem, IsValid, IsVertex, IsEdgeNumber, no_edge, edge_at, tail_of, head_of}
 use Rattle.plan_model.specs.Plans.{Leads, IsWalk, no_step, step_cost, walk_cost}
 use Rattle.plan_model.specs.declared.step.Step.{Step}
-use Rattle.deadhead_paths.specs.Prices.{Priced, price_of, costs_of, edge_price, NoneServed, Deadheads, IsLeastPrice, IsLeastPath, AddsPath, NoneLead}
-use Rattle.deadhead_paths.specs.Tidy.{served_steps, IsCheapest}
+use Rattle.deadhead_paths.specs.Prices.{Priced, price_of, costs_of, NoneServed, IsLeastPrice, IsLeastPath, AddsPath, NoneLead}
+use Rattle.deadhead_paths.specs.Tidy.{served_steps, GoByLeastPaths}
 use Rattle.deadhead_paths.specs.Join.{IsJoined, AddsService}
 use Rattle.deadhead_paths.proofs.Following.{Leads-more}
 
@@ -113,6 +113,7 @@ pub record Joining (p : Problem) (done ahead joined : List Step) (at : ℕ) : Ty
   pub gap : List Step
   pub gap_leads : Leads p at gap here
   pub ahead_leads : Leads p here ahead p.depot
+  pub paths : (more : List Step) (b : ℕ) (rest : List Step) → GoByLeastPaths p more at b rest → GoByLeastPaths p (served_steps done ++ more) p.depot b (joined ++ rest)
   pub cheapest : (other : List Step) (b n : ℕ) → Leads p p.depot other b → served_steps other ≡ served_steps done → IsLeastPrice p (price_of (costs_of p)) at b n →
       walk_cost p joined + n ≤ walk_cost p other
   pub short : length joined ≤ 1000 * length (served_steps done)
@@ -131,6 +132,7 @@ joining_none p valid walk leads = record {
   gap = [];
   gap_leads = refl;
   ahead_leads = leads;
+  paths = λ more b rest goes. goes;
   cheapest = λ other b n other_leads same least. omega (arith, least_cost p p.depot b n other least other_leads (unserved_of other same));
   short = omega arith;
 }
@@ -158,6 +160,7 @@ module _ (p : Problem) (done ahead joined : List Step) (at : ℕ) (s : Step) (so
         gap = so_far.gap ++ s ∷ [];
         gap_leads = Leads-more p at so_far.gap s so_far.here so_far.gap_leads so_far.ahead_leads.0 so_far.ahead_leads.1;
         ahead_leads = so_far.ahead_leads.2;
+        paths = λ more b rest goes. subst (λ xs. GoByLeastPaths p (xs ++ more) p.depot b (joined ++ rest)) (sym same) (so_far.paths more b rest goes);
         cheapest = λ other b n leads is least. so_far.cheapest other b n leads (is ∙ same) least;
         short = omega (arith, so_far.short, ap length same);
       }
@@ -208,6 +211,18 @@ module _ (p : Problem) (done ahead joined : List Step) (at : ℕ) (s : Step) (so
           sum_by-cons (step_cost p) s last.after,
         )
 
+    paths_more : (more : List Step) (b : ℕ) (rest : List Step) → GoByLeastPaths p more (head_of (edge_at p s.edge) s.forward) b rest →
+        GoByLeastPaths p (served_steps (done ++ s ∷ []) ++ more) p.depot b (joined' ++ rest)
+    paths_more more b rest goes =
+        let path = adds.path.path in
+        let next : GoByLeastPaths p (s ∷ more) at b (path ++ s ∷ rest) = (path, rest, path_is, refl, goes) in
+        let services_are : served_steps (done ++ s ∷ []) ++ more ≡ served_steps done ++ (s ∷ more) =
+        ap (λ xs. xs ++ more) served_more ∙ append_assoc (served_steps done) (s ∷ []) more in
+        let steps_are : joined' ++ rest ≡ joined ++ (path ++ s ∷ rest) =
+        ap (λ xs. xs ++ rest) joined_is ∙ append_assoc joined (path ++ s ∷ []) rest ∙ ap (λ xs. joined ++ xs) (append_assoc path (s ∷ []) rest) in
+        subst (λ xs. GoByLeastPaths p xs p.depot b (joined' ++ rest)) (sym services_are)
+        (subst (λ xs. GoByLeastPaths p (served_steps done ++ s ∷ more) p.depot b xs) (sym steps_are) (so_far.paths (s ∷ more) b (path ++ s ∷ rest) next))
+
     pub joining_service : Joining p (done ++ s ∷ []) ahead joined' (head_of (edge_at p s.edge) s.forward)
     joining_service = record {
       at_in = head_in;
@@ -223,6 +238,7 @@ module _ (p : Problem) (done ahead joined : List Step) (at : ℕ) (s : Step) (so
       gap = [];
       gap_leads = refl;
       ahead_leads = so_far.ahead_leads.2;
+      paths = paths_more;
       cheapest = cheapest_more;
       short = omega (
         arith,
@@ -251,6 +267,8 @@ module _ (p : Problem) (valid : IsValid p) (walk joined : List Step) (at : ℕ) 
       record {
         leads = subst (λ xs. Leads p p.depot xs p.depot) (sym adds.added) (Leads-append p p.depot joined adds.path at p.depot so_far.leads path.deadheads.leads);
         served = same;
+        paths = subst (λ xs. GoByLeastPaths p xs p.depot p.depot joined') (append-nil (served_steps walk) ∙ sym same)
+            (subst (λ xs. GoByLeastPaths p (served_steps walk ++ []) p.depot p.depot xs) (sym adds.added) (so_far.paths [] p.depot adds.path path));
         cheapest = λ other leads is.
             omega (
               arith,

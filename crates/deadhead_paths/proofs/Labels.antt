@@ -1,14 +1,13 @@
 -- What labels towards a vertex say of the lists of steps that lead there.
-use Rattle.std.proofs.Common.{◌≡◌, ◌≢◌, ℕ, zero, suc, ◌+◌, ◌-◌, ◌*◌, ◌/◌, ◌%◌, ◌<◌, ◌≤◌, Bool, true, false, cond, List, [], ◌∷◌, ◌++◌, length, get_or, refl, sym, ap, ◌∙◌, arith, inl, inr, subst, nat_lt}
+use Rattle.std.proofs.Common.{◌≡◌, ◌≢◌, ℕ, zero, suc, ◌+◌, ◌*◌, ◌/◌, ◌<◌, ◌≤◌, Bool, true, false, cond, List, [], ◌∷◌, length, get_or, refl, ap, ◌∙◌, arith, inl, inr, nat_lt}
 use Rattle.std.specs.List.{sum_by, count_by}
-use Rattle.std.proofs.lemmas.Bool.{cases_eq, cases_lt, lt-ltb, le-ltb, ltb-true}
+use Rattle.std.proofs.lemmas.Bool.{cases_eq, cases_lt, lt-ltb, le-ltb}
 use Rattle.std.proofs.lemmas.List.Sums.{sum_by-cons, sum_by-le-sum_by, count_by-le-length}
-use Rattle.carp_base.specs.declared.edge.Edge.{Edge}
 use Rattle.carp_base.specs.Problem.{Problem, IsValid, IsVertex, IsEdgeNumber, edge_at, tail_of, head_of}
 use Rattle.plan_model.specs.Plans.{Leads}
 use Rattle.plan_model.specs.declared.step.Step.{Step}
-use Rattle.deadhead_paths.specs.Prices.{price_of, ArePrices, NoneServed, Deadheads, IsLeastPrice, NoneLead}
-use Rattle.deadhead_paths.specs.Table.{unreached, rise_of, Descends, IsTowards}
+use Rattle.deadhead_paths.specs.Prices.{price_of, ArePrices, NoneServed, IsLeastPrice, NoneLead}
+use Rattle.deadhead_paths.specs.Table.{unreached, rise_of, IsTowards}
 
 -- how many labels are less than a number
 abbrev pub labels_below : List ℕ → ℕ → ℕ

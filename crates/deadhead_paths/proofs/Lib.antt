@@ -7,3 +7,4 @@ pub mod Walking
 pub mod Filling
 pub mod Joining
 pub mod Plans
+pub mod Small

@@ -1,16 +1,16 @@
 -- Plans by the services of their walks.
-use Rattle.std.proofs.Common.{◌≡◌, ◌≢◌, ℕ, zero, suc, ◌+◌, ◌-◌, ◌*◌, ◌<◌, ◌≤◌, Bool, true, false, cond, not, ◌&&◌, ◌||◌, eqb, ◌==◌, List, [], ◌∷◌, ◌++◌, length, get_or, map, take, refl, sym, ap, ◌∙◌, arith, inl, inr, subst}
+use Rattle.std.proofs.Common.{◌≡◌, ℕ, zero, suc, ◌+◌, ◌*◌, ◌<◌, ◌≤◌, Bool, true, false, cond, not, ◌&&◌, ◌||◌, ◌==◌, List, [], ◌∷◌, ◌++◌, length, get_or, map, take, refl, sym, ap, ◌∙◌, arith, inl, inr, subst}
 use Rattle.std.specs.Prelude.{if◌then◌else◌, IsTrue}
-use Rattle.std.specs.List.{filter, sum_by, count_by, list_any, flat_map, All, AllByRecursion, AllZip}
-use Rattle.std.proofs.lemmas.Bool.{cases_eq, cases_Bool, eq-eqb, ne_eqb, eqb-true, false≢true}
+use Rattle.std.specs.List.{filter, sum_by, count_by, All, AllByRecursion, AllZip}
+use Rattle.std.proofs.lemmas.Bool.{cases_eq, eq-eqb, false≢true}
 use Rattle.std.proofs.lemmas.List.{length-append, append-nil}
-use Rattle.std.proofs.lemmas.List.Elements.{filter-append, filter_passes, All-filter, All-head, All-tail, All-nil, All-cons, All-from_recursion, AllZip-push, length_all_zip, filter_more}
+use Rattle.std.proofs.lemmas.List.Elements.{filter-append, filter_passes, All-filter, All-head, All-from_recursion, AllZip-push, length_all_zip, filter_more}
 use Rattle.std.proofs.lemmas.List.Filters.{length-filter_both, sum_by-filter_both}
 use Rattle.std.proofs.lemmas.List.Sums.{sum_by-cons, sum_by-append, length-filter}
 use Rattle.carp_base.specs.Problem.{Problem, IsValid, IsRequired, edge_at}
-use Rattle.plan_model.specs.Plans.{IsWalk, IsLawfulWalk, IsLawful, step_cost, step_load, walk_cost, walk_load, plan_cost, steps_of, serves, services_of}
+use Rattle.plan_model.specs.Plans.{IsLawfulWalk, IsLawful, step_cost, step_load, walk_load, plan_cost, steps_of, serves}
 use Rattle.plan_model.specs.declared.step.Step.{Step}
-use Rattle.deadhead_paths.specs.Tidy.{served_steps, serves_some, IsCheapest, IsTidied}
+use Rattle.deadhead_paths.specs.Tidy.{served_steps, serves_some, GoByLeastPaths, IsCheapest, IsTidied}
 use Rattle.deadhead_paths.specs.Join.{IsJoined}
 
 -- the services of a plan, walk by walk
@@ -110,6 +110,12 @@ zip_lawful p [] [] lawful all = tt
 zip_lawful p [] (j ∷ joined) lawful all = absurd all
 zip_lawful p (w ∷ walks) [] lawful all = absurd all
 zip_lawful p (w ∷ walks) (j ∷ joined) lawful all = (joined_lawful p w j lawful.0 all.0, zip_lawful p walks joined lawful.1 all.1)
+
+pub zip_paths : (p : Problem) (walks joined : List (List Step)) → AllZip (IsJoined p) walks joined → AllByRecursion (λ walk. GoByLeastPaths p (served_steps walk) p.depot p.depot walk) joined
+zip_paths p [] [] all = tt
+zip_paths p [] (j ∷ joined) all = absurd all
+zip_paths p (w ∷ walks) [] all = absurd all
+zip_paths p (w ∷ walks) (j ∷ joined) all = (all.0.paths, zip_paths p walks joined all.1)
 
 pub zip_cheapest : (p : Problem) (walks joined : List (List Step)) → AllZip (IsJoined p) walks joined → AllByRecursion (IsCheapest p) joined
 zip_cheapest p [] [] all = tt
@@ -220,6 +226,7 @@ all_tidied p valid plan tidied lawful joined =
         once = λ e required. count_served e (steps_of tidied) ∙ ap (count_by (λ s. s.edge == e)) all_same ∙ sym (count_served e (steps_of plan)) ∙ lawful.once e required;
       };
       services = same;
+      by_least_paths = zip_paths p kept tidied joined;
       cheapest = zip_cheapest p kept tidied joined;
       cost = omega (arith, zip_cost p kept tidied kept_lawful joined, some_cost p serves_some plan);
       few_tours = omega (arith, long, kept_few plan, few);

@@ -1,8 +1,6 @@
 -- What is read from a table.
-use Rattle.std.proofs.Common.{◌≡◌, ℕ, ◌+◌, ◌-◌, ◌*◌, ◌/◌, ◌<◌, ◌≤◌, List, length, get_or, refl, sym, ap, ◌∙◌, arith, subst}
-use Rattle.std.proofs.lemmas.List.{get_or_read}
-use Rattle.carp_base.specs.declared.edge.Edge.{Edge}
-use Rattle.carp_base.specs.Problem.{Problem, IsVertex, IsEdgeNumber, no_edge, edge_at}
+use Rattle.std.proofs.Common.{◌≡◌, ℕ, ◌+◌, ◌-◌, ◌*◌, ◌/◌, ◌<◌, List, length, get_or, sym, arith, subst}
+use Rattle.carp_base.specs.Problem.{IsVertex}
 use Rattle.deadhead_paths.specs.Prices.{Priced, NoneLead, IsLeastPrice, edge_price}
 use Rattle.deadhead_paths.specs.Table.{IsTable, row_of, unreached}
 use Rattle.deadhead_paths.proofs.Labels.{least_price, none_lead}
@@ -37,7 +35,3 @@ module _ (x : Priced) (labels nexts : List ℕ) (table : IsTable x labels nexts)
       let is = label_read x labels nexts table to from place to_in from_in place_is l read in
       subst (λ n. IsLeastPrice x.problem (edge_price x) from to (n / 1024)) (sym is)
       (least_price x.problem table.valid x.prices table.prices to (row_of width labels to) (row_of width nexts to) (table.rows to to_in) from from_in (omega (arith, is, reached)))
-
-pub edge_read : (p : Problem) (edges : List Edge) (e : ℕ) (y : Edge) → edges ≡ p.edges → IsEdgeNumber p e → y ≡ get_or edges (e - 1) y → y ≡ edge_at p e
-edge_read p edges e y same number read =
-    get_or_read edges (e - 1) y (omega (arith, number.from_one, number.in_range, ap length same)) read no_edge ∙ ap (λ xs. get_or xs (e - 1) no_edge) same

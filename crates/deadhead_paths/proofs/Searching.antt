@@ -1,6 +1,6 @@
 -- A search, one label or one vertex further.
-use Rattle.std.proofs.Common.{◌≡◌, ◌≢◌, ℕ, zero, suc, ◌+◌, ◌-◌, ◌*◌, ◌^◌, ◌<◌, ◌≤◌, min, Bool, true, false, List, [], ◌∷◌, ◌++◌, length, get_or, set, sum, replicate, refl, sym, ap, ◌∙◌, arith, inl, inr, ◌⊎◌, subst, cond, eqb, ◌||◌}
-use Rattle.std.specs.List.{Contains, All, sum_by}
+use Rattle.std.proofs.Common.{◌≡◌, ◌≢◌, ℕ, zero, suc, ◌+◌, ◌<◌, ◌≤◌, min, Bool, true, false, List, [], ◌∷◌, length, get_or, set, sum, replicate, refl, sym, ap, ◌∙◌, arith, inl, inr, ◌⊎◌, subst, cond, eqb, ◌||◌}
+use Rattle.std.specs.List.{Contains, All}
 use Rattle.std.specs.List.Sorted.{IsPermutation}
 use Rattle.std.proofs.lemmas.Bool.{cases_eq, cases_lt, eq-eqb, ne_eqb, eqb-true}
 use Rattle.std.proofs.lemmas.List.{length-set, get_or-set_same, get_or-set_other, get_or-replicate, length-replicate, get_or_default, get_or_past}

@@ -1,14 +1,14 @@
 -- A path read from a table, one step further.
-use Rattle.std.proofs.Common.{◌≡◌, ◌≢◌, ℕ, ◌+◌, ◌-◌, ◌*◌, ◌<◌, ◌≤◌, ◌^◌, eqb, false, List, [], ◌∷◌, ◌++◌, length, get_or, refl, sym, ap, ◌∙◌, arith, subst}
+use Rattle.std.proofs.Common.{◌≡◌, ◌≢◌, ℕ, ◌+◌, ◌-◌, ◌*◌, ◌<◌, ◌^◌, eqb, false, List, [], ◌∷◌, ◌++◌, length, get_or, sym, ap, arith, subst}
 use Rattle.std.proofs.lemmas.List.{length-append}
 use Rattle.carp_base.specs.declared.edge.Edge.{Edge}
-use Rattle.carp_base.specs.Problem.{Problem, IsVertex, IsEdgeNumber, edge_at}
+use Rattle.carp_base.specs.Problem.{IsVertex, IsEdgeNumber, edge_at}
 use Rattle.road_network.specs.Incidence.{far_end}
 use Rattle.plan_model.specs.declared.step.Step.{Step}
 use Rattle.deadhead_paths.specs.Prices.{Priced, NoneLead, AddsPath}
 use Rattle.deadhead_paths.specs.Table.{IsTable, row_of}
 use Rattle.deadhead_paths.proofs.Following.{Followed, follow_none, next_number, follow_short, follow_as, follow_done}
-use Rattle.deadhead_paths.proofs.Reading.{next_read, edge_read}
+use Rattle.deadhead_paths.proofs.Reading.{next_read}
 
 -- the path so far, by the labels of the table
 abbrev pub Walked : Priced → List ℕ → ℕ → ℕ → ℕ → List Step → List Step → Type 0
@@ -53,9 +53,9 @@ module _ (x : Priced) (labels nexts : List ℕ) (table : IsTable x labels nexts)
           table.valid.few_vertices,
         )
 
-    pub step_more : (edges : List Edge) (y : Edge) (at' : ℕ) (now' : List Step) → edges ≡ x.problem.edges → y ≡ get_or edges (e - 1) y → at' ≡ far_end at y →
+    pub step_more : (y : Edge) (at' : ℕ) (now' : List Step) → y ≡ edge_at x.problem e → at' ≡ far_end at y →
         now' ≡ now ++ record { edge = e; forward = eqb y.u at; served = false } ∷ [] → Walked x labels from to at' before now' × (label_to x labels to at' < label_to x labels to at)
-    step_more edges y at' now' same y_read at_is now_is =
+    step_more y at' now' y_is at_is now_is =
         let width = x.problem.vertices + 1 in
         follow_as x.problem table.valid x.prices table.prices to (row_of width labels to) (row_of width nexts to) (table.rows to to_in) from at before now so_far onward
-        e y at' now' e_is (edge_read x.problem edges e y same step_number y_read) at_is now_is
+        e y at' now' e_is y_is at_is now_is

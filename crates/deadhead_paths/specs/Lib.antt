@@ -4,3 +4,4 @@ pub mod Tidy
 pub mod Table
 pub mod Search
 pub mod Join
+pub mod Examples

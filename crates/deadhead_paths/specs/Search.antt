@@ -1,4 +1,4 @@
--- A search for the labels towards one vertex, before it is done.
+-- A search for the labels towards one vertex, before it is done. No public contract speaks of this.
 use Rattle.std.specs.Prelude.{◌≡◌, ◌≢◌, ℕ, ◌+◌, ◌*◌, ◌<◌, ◌≤◌, Bool, List, ◌∷◌, length, sum, ◌⊎◌, slice_index, slice_set}
 use Rattle.std.specs.List.{Contains, All}
 use Rattle.std.specs.List.Sorted.{IsPermutation}

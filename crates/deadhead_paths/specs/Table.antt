@@ -1,4 +1,4 @@
--- What a table of distances keeps: labels towards each vertex, and the edge on which to go there.
+-- What a table of distances keeps: labels towards each vertex, and the edge on which to go there. No public contract speaks of this.
 use Rattle.std.specs.Prelude.{◌≡◌, ◌≢◌, ℕ, ◌+◌, ◌-◌, ◌*◌, ◌^◌, ◌<◌, ◌≤◌, Bool, List, length, take, drop, slice_index}
 use Rattle.carp_base.specs.Problem.{Problem, IsValid, IsVertex, IsEdgeNumber, edge_at, tail_of, head_of}
 use Rattle.deadhead_paths.specs.Prices.{Priced, price_of, ArePrices}

@@ -1,4 +1,4 @@
--- Relaxed tours: lists of tasks that are joined by deadheads of least price (Baldacci and Maniezzo 2006).
+-- Relaxed tours: lists of tasks that are joined by deadheads of least price (Corberán and Laporte 2014, route relaxation).
 use Rattle.std.specs.Prelude.{◌≡◌, ◌≢◌, ℕ, ◌+◌, ◌≤◌, List, [], ◌∷◌, ◌++◌, map, sum_by}
 use Rattle.std.specs.List.{AllByRecursion}
 use Rattle.carp_base.specs.declared.edge.Task.{Task}

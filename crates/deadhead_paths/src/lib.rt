@@ -5,6 +5,8 @@
 //! such paths.
 #![tactic(auto)]
 
+#[cfg(test)]
+mod examples;
 mod making;
 mod search;
 mod table;

@@ -2,6 +2,7 @@
 ghost use Rattle.std.specs.Prelude.{◌≡◌, IfOk};
 ghost use Rattle.deadhead_paths.specs.Prices.{ArePrices, costs_of};
 
+use crate::search::Search;
 use crate::table::Distances;
 use carp_base::{Instance, Memory};
 use road_network::Network;
@@ -22,17 +23,31 @@ pub fn distances(
     ensures problem { IfOk result (λ dist. dist.problem ≡ inst.now) }
     ensures prices { IfOk result (λ dist. dist.prices ≡ prices.now) }
 {
-    Distances::make(alloc, inst, net, prices)
+    let vertices = inst.vertices();
+    let places = vertices as usize * (vertices as usize + 1);
+    let mut labels = Vec::with_capacity(alloc, places)?;
+    let mut nexts = Vec::with_capacity(alloc, places)?;
+    for target in 1..vertices + 1 {
+        let search = Search::towards(alloc, inst, net, prices, target)?;
+        labels.extend_from_slice(&search.labels)?;
+        nexts.extend_from_slice(&search.nexts)?;
+    }
+    Ok(Distances {
+        inst: inst.copy(alloc)?,
+        prices: Vec::from_slice(alloc, prices)?,
+        labels,
+        nexts,
+    })
 }
 
 /// The cost of each edge, as its price.
 pub fn cost_prices(alloc: Global, inst: &Instance) -> Result<Vec<u64>, Memory>
     ensures { IfOk result (λ prices. prices.items ≡ costs_of inst.now) }
 {
-    let count = inst.edge_count();
-    let mut prices = Vec::with_capacity(alloc, count as usize)?;
-    for i in 0..count {
-        prices.push(inst.edge(i + 1).cost)?;
+    let edges = inst.edges();
+    let mut prices = Vec::with_capacity(alloc, edges.len())?;
+    for edge in edges {
+        prices.push(edge.cost)?;
     }
     Ok(prices)
 }

@@ -1,29 +1,25 @@
 // A table of the least prices between all pairs of vertices.
-ghost use Rattle.std.specs.Prelude.{◌≡◌, ◌+◌, ◌-◌, ◌*◌, ◌^◌, ◌<◌, length, map, IfOk, OnOk, MatchOption};
+ghost use Rattle.std.specs.Prelude.{◌≡◌, ◌+◌, ◌-◌, ◌*◌, ◌^◌, ◌<◌, length, IfOk, OnOk, MatchOption};
 ghost use Rattle.carp_base.specs.Problem.{IsVertex};
-ghost use Rattle.deadhead_paths.specs.Prices.{ArePrices, IsLeastPrice, IsLeastPath, AddsPath, NoneLead, edge_price, costs_of};
+ghost use Rattle.deadhead_paths.specs.Prices.{IsLeastPrice, IsLeastPath, AddsPath, NoneLead, edge_price};
 
-use crate::search::{PRICE_UNIT, Search, UNREACHED};
-use carp_base::{Edge, Instance, Memory};
+use crate::search::{PRICE_UNIT, UNREACHED};
+use carp_base::{Instance, Memory};
 use plan_model::{Step, Walk};
-use road_network::{Network, copy_edges, far_end};
+use road_network::far_end;
 use std::alloc::Global;
 use std::marker::Model;
 
 /// The least prices of deadheads between all pairs of vertices of an instance, and steps that have them.
 ///
-/// Contracts see the instance, of which it keeps the numbers and the edges, and the price of each edge. Its labels are
-/// potentials: no edge leads to a vertex at a lower price than its label.
+/// Contracts see the instance, of which it keeps a copy, and the price of each edge. Its labels are potentials: no edge
+/// leads to a vertex at a lower price than its label.
 #[derive(Drop)]
 pub struct Distances {
-    vertices: u32,
-    depot: u32,
-    capacity: u64,
-    required: u32,
-    edges: Vec<Edge>,
-    prices: Vec<u64>,
-    labels: Vec<u128>,
-    nexts: Vec<u32>,
+    pub(crate) inst: Instance,
+    pub(crate) prices: Vec<u64>,
+    pub(crate) labels: Vec<u128>,
+    pub(crate) nexts: Vec<u32>,
 }
 
 impl Model for Distances {
@@ -32,52 +28,19 @@ impl Model for Distances {
 
     ghost Value = { Priced };
 
-    ghost view = { λ d. record { problem = record { vertices = d.vertices; depot = d.depot; capacity = d.capacity; required = d.required; edges = d.edges.items }; prices = d.prices.items } };
+    ghost view = { λ d. record { problem = d.inst; prices = d.prices.items } };
 
-    ghost invariant = { λ d. IsTable (record { problem = record { vertices = d.vertices; depot = d.depot; capacity = d.capacity; required = d.required; edges = d.edges.items }; prices = d.prices.items }) d.labels.items d.nexts.items };
+    ghost invariant = { λ d. IsTable (record { problem = d.inst; prices = d.prices.items }) d.labels.items d.nexts.items };
 }
 
 impl Distances {
-    // The table of an instance and its prices: a row towards each vertex in turn.
-    pub(crate) fn make(
-        alloc: Global,
-        inst: &Instance,
-        net: &Network,
-        prices: &[u64],
-    ) -> Result<Distances, Memory>
-        requires net { net.now ≡ inst.now }
-        requires prices { ArePrices inst.now prices.now }
-        ensures problem { IfOk result (λ dist. dist.problem ≡ inst.now) }
-        ensures prices { IfOk result (λ dist. dist.prices ≡ prices.now) }
-    {
-        let vertices = inst.vertices();
-        let places = vertices as usize * (vertices as usize + 1);
-        let mut labels = Vec::with_capacity(alloc, places)?;
-        let mut nexts = Vec::with_capacity(alloc, places)?;
-        for target in 1..vertices + 1 {
-            let search = Search::towards(alloc, inst, net, prices, target)?;
-            labels.extend_from_slice(&search.labels)?;
-            nexts.extend_from_slice(&search.nexts)?;
-        }
-        Ok(Distances {
-            vertices,
-            depot: inst.depot(),
-            capacity: inst.capacity(),
-            required: inst.required(),
-            edges: copy_edges(alloc, inst)?,
-            prices: Vec::from_slice(alloc, prices)?,
-            labels,
-            nexts,
-        })
-    }
-
     // The place of a vertex in the row of another.
     fn place(&self, from: u32, to: u32) -> usize
         requires from { IsVertex self.now.problem from }
         requires to { IsVertex self.now.problem to }
         ensures { result ≡ (to - 1) * (self.now.problem.vertices + 1) + from }
     {
-        (to as usize - 1) * (self.vertices as usize + 1) + from as usize
+        (to as usize - 1) * (self.inst.vertices() as usize + 1) + from as usize
     }
 
     /// The least price of a list of steps from one vertex to another; `None` where no steps lead there.
@@ -105,7 +68,7 @@ impl Distances {
         let mut at = from;
         while at != to {
             let next = self.nexts[self.place(at, to)];
-            let edge = self.edges[next as usize - 1];
+            let edge = self.inst.edge(next);
             walk.push(Step {
                 edge: next,
                 forward: edge.u == at,

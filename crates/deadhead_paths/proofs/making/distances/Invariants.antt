@@ -1,6 +1,6 @@
 use Rattle.std.proofs.Common.{◌≡◌, ℕ, ◌+◌, ◌-◌, ◌*◌, ◌<◌, ◌≤◌, length}
 use Rattle.deadhead_paths.specs.Table.{IsTowards, row_of}
-use Rattle.deadhead_paths.proofs.table.Distances.make.Given as goal
+use Rattle.deadhead_paths.proofs.making.distances.Given as goal
 
 -- the rows before the target's are made
 abbrev pub invariant-loop-target : goal.invariant-loop-target

@@ -2,7 +2,7 @@ use Rattle.std.proofs.Common.{◌≡◌, ◌+◌, ◌++◌, length, arith, ap, s
 use Rattle.deadhead_paths.specs.Table.{IsTowards, row_of}
 use Rattle.deadhead_paths.proofs.Rows.{rows_more}
 use Rattle.deadhead_paths.proofs.Filling.{towards_more, table_whole}
-use Rattle.deadhead_paths.proofs.table.Distances.make.Goals as goal
+use Rattle.deadhead_paths.proofs.making.distances.Goals as goal
 
 pub loop-target-preserved : goal.loop-target-preserved
 loop-target-preserved c =
@@ -30,6 +30,5 @@ loop-target-preserved c =
 pub invariant_of-result : goal.invariant_of-result
 invariant_of-result c =
     let loop = c.loop-target.invariant in
-    table_whole c.args.inst.now c.args.prices.now _ _ _ _ _ _ c.loop-target.labels.items c.loop-target.nexts.items c.loop-target.target
-    c.vertices-vertices.ensures.valid c.requires.prices c.vertices-vertices.ensures.value c.depot.ensures.value c.capacity.ensures.value c.required.ensures.value
-    c.in_ok-copy_edges.ensures c.in_ok-from_slice.ensures.items (omega (arith, c.vertices-vertices.ensures.value)) loop.labels_long loop.nexts_long loop.rows
+    table_whole c.args.inst.now _ c.args.prices.now _ c.loop-target.labels.items c.loop-target.nexts.items c.loop-target.target
+    c.vertices-vertices.ensures.valid c.requires.prices c.in_ok-copy.ensures c.in_ok-from_slice.ensures.items (omega (arith, c.vertices-vertices.ensures.value)) loop.labels_long loop.nexts_long loop.rows

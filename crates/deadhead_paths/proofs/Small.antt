@@ -1,0 +1,27 @@
+-- Least prices in a town of one street, whose price is 5, and a list of two.
+use Rattle.std.proofs.Common.{◌≡◌, ℕ, ◌≤◌, List, [], ◌∷◌, ◌++◌, length, ap, refl, arith}
+use Rattle.std.proofs.lemmas.List.Sums.{sum_by-cons}
+use Rattle.std.proofs.lemmas.List.{length-append}
+use Rattle.plan_model.specs.declared.step.Step.{Step}
+use Rattle.deadhead_paths.specs.Prices.{Deadheads, IsLeastPrice}
+use Rattle.deadhead_paths.specs.Examples.{five, town, back}
+
+-- who goes back crosses the street
+pub back_again : Deadheads town five 2 1 5 (back ∷ [])
+back_again = record { unserved = search; leads = (record { from_one = omega arith; in_range = omega arith }, refl, refl); costs = refl }
+
+pub some_price : (n : ℕ) (steps : List Step) → Deadheads town five 2 1 n steps → 5 ≤ n
+some_price n [] d = omega (arith, d.leads)
+some_price n (s ∷ steps) d = omega (arith, d.costs, sum_by-cons (λ t. five t.edge) s steps)
+
+pub way_back : IsLeastPrice town five 2 1 5
+way_back = record { steps = back ∷ []; reached = back_again; least = some_price }
+
+-- who is there need not go
+pub no_way : IsLeastPrice town five 1 1 0
+no_way = record { steps = []; reached = search; least = λ n other d. omega arith }
+
+-- of two edges the first does not follow the second
+pub not_turned : (before after : List ℕ) → (1 ∷ 2 ∷ []) ≡ before ++ (2 ∷ (1 ∷ after)) → ⊥
+not_turned [] after is = cc
+not_turned (a ∷ before) after is = omega (arith, ap length is, length-append before (2 ∷ (1 ∷ after)))

@@ -1,0 +1,62 @@
+// Small data on which a fact that no call decides holds, and on which it does not.
+ghost use Rattle.std.specs.Prelude.{[], ◌∷◌};
+ghost use Rattle.deadhead_paths.specs.Prices.{ArePrices, Deadheads, IsLeastPath, IsLeastPrice};
+ghost use Rattle.deadhead_paths.specs.Tours.{IsFollowed, IsTaskTour, LeastDeadhead};
+ghost use Rattle.deadhead_paths.specs.Tidy.{GoByLeastPaths, IsCheapest, IsTidied};
+ghost use Rattle.deadhead_paths.specs.Examples.{IsAny, IsOther, back, five, forth, serve, task, town};
+
+fn prices_of_a_town()
+    ensures in_range { ArePrices town (5 ∷ []) }
+    ensures none { ¬ (ArePrices town []) }
+    ensures above { ¬ (ArePrices town (4000000000000000001 ∷ [])) }
+{}
+
+fn a_deadhead()
+    ensures back { Deadheads town five 2 1 5 (back ∷ []) }
+    ensures served { ¬ (Deadheads town five 1 2 5 (serve ∷ [])) }
+    ensures elsewhere { ¬ (Deadheads town five 1 1 5 (forth ∷ [])) }
+    ensures cheaper { ¬ (Deadheads town five 2 1 4 (back ∷ [])) }
+{}
+
+fn a_least_price()
+    ensures least { IsLeastPrice town five 2 1 5 }
+    ensures dearer { ¬ (IsLeastPrice town five 2 1 15) }
+    ensures cheaper { ¬ (IsLeastPrice town five 2 1 0) }
+{}
+
+fn a_least_path()
+    ensures least { IsLeastPath town five 2 1 (back ∷ []) }
+    ensures round { ¬ (IsLeastPath town five 2 1 (back ∷ forth ∷ back ∷ [])) }
+{}
+
+fn a_followed_edge()
+    ensures next { IsFollowed (1 ∷ 2 ∷ []) 1 2 }
+    ensures turned { ¬ (IsFollowed (1 ∷ 2 ∷ []) 2 1) }
+{}
+
+fn a_task_tour()
+    ensures twice { IsTaskTour town IsAny (task ∷ task ∷ []) }
+    ensures empty { ¬ (IsTaskTour town IsAny []) }
+    ensures heavy { ¬ (IsTaskTour town IsAny (task ∷ task ∷ task ∷ [])) }
+    ensures not_allowed { ¬ (IsTaskTour town IsOther (task ∷ task ∷ [])) }
+{}
+
+fn a_least_deadhead()
+    ensures way_back { LeastDeadhead town five 1 (task ∷ []) 1 5 }
+    ensures free { ¬ (LeastDeadhead town five 1 (task ∷ []) 1 0) }
+{}
+
+fn a_cheapest_walk()
+    ensures empty { IsCheapest town [] }
+    ensures detour { ¬ (IsCheapest town (forth ∷ back ∷ [])) }
+{}
+
+fn a_way_by_least_paths()
+    ensures stays { GoByLeastPaths town [] 1 1 [] }
+    ensures round { ¬ (GoByLeastPaths town [] 1 1 (forth ∷ back ∷ [])) }
+{}
+
+fn a_plan_not_tidied()
+    ensures tour_dropped { ¬ (IsTidied town ((serve ∷ back ∷ []) ∷ []) []) }
+    ensures detour { ¬ (IsTidied town ((serve ∷ back ∷ []) ∷ []) ((forth ∷ back ∷ serve ∷ back ∷ []) ∷ [])) }
+{}
