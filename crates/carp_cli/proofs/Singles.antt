@@ -1,16 +1,17 @@
 -- A way out, a service and a way home serve one edge alone; such tours, one for each required edge, are a lawful plan.
-use Rattle.std.proofs.Common.{◌≡◌, ℕ, ◌+◌, ◌<◌, ◌≤◌, ◌==◌, Bool, true, false, List, [], ◌∷◌, ◌++◌, refl, sym, ◌∙◌, ap, arith, length, cond, inl, inr, append-nil, length-append}
+use Rattle.std.proofs.Common.{◌≡◌, ℕ, ◌+◌, ◌-◌, ◌<◌, ◌≤◌, ◌==◌, Bool, true, false, List, [], ◌∷◌, ◌++◌, refl, sym, ◌∙◌, ap, subst, arith, length, cond, inl, inr, append-nil, length-append}
 use Rattle.std.specs.Prelude.{IsTrue, if◌then◌else◌}
 use Rattle.std.specs.List.{sum_by, count_by, AllByRecursion}
 use Rattle.std.proofs.lemmas.List.Sums.{sum_by-cons, sum_by-append}
 use Rattle.std.proofs.lemmas.Grind.{flat_map-append}
 use Rattle.std.proofs.lemmas.List.Concat.{flat_map-cons}
-use Rattle.std.proofs.lemmas.Bool.{cases_eq, eq-eqb, ne_eqb}
+use Rattle.std.proofs.lemmas.Bool.{cases_eq, cases_lt, eq-eqb, ne_eqb}
+use Rattle.std.proofs.lemmas.List.{get_or_append_left, get_or-append_right}
 use Rattle.carp_base.specs.Problem.{Problem, IsValid, IsRequired, IsEdgeNumber, edge_at}
-use Rattle.plan_model.specs.Plans.{IsLawful, IsLawfulWalk, serves, services_of, steps_of, step_load}
+use Rattle.plan_model.specs.Plans.{Leads, IsWalk, IsLawful, IsLawfulWalk, serves, services_of, steps_of, step_load, walk_load, walk_at}
 use Rattle.plan_model.specs.declared.step.Step.{Step}
-use Rattle.deadhead_paths.specs.Prices.{NoneServed}
-use Rattle.carp_cli.specs.Singles.{IsWay, ServesAlone}
+use Rattle.deadhead_paths.specs.Prices.{NoneServed, IsLeastPath, price_of}
+use Rattle.carp_cli.specs.Singles.{service_of, IsLeastTour, AreLeastTours}
 use Rattle.carp_cli.proofs.Ways.{leads-append}
 
 AllByRecursion-append : {X : Type 0} (P : X → Type 0) (xs ys : List X) → AllByRecursion P xs → AllByRecursion P ys → AllByRecursion P (xs ++ ys)
@@ -39,39 +40,55 @@ none_serves : (p : Problem) (steps : List Step) → NoneServed steps → AllByRe
 none_serves p [] none = tt
 none_serves p (s ∷ steps) none = ((λ served. absurd (let both : true ≡ false = sym served ∙ none.0 in cc)), none_serves p steps none.1)
 
--- the step that serves the edge forward
-abbrev pub service_of : ℕ → Step
-service_of e = record { edge = e; forward = true; served = true }
+-- a walk that serves the edge once, and nothing else
+pub record ServesAlone (p : Problem) (e : ℕ) (walk : List Step) : Type 0 where
+  pub leads : IsWalk p walk
+  pub serves_required : AllByRecursion (λ s. IsTrue s.served → IsRequired p s.edge) walk
+  pub services : (f : ℕ) → count_by (serves f) walk ≡ (if e == f then 1 else 0)
+  pub load : walk_load p walk ≡ (edge_at p e).demand
 
-pub serves_alone : (p : Problem) (e : ℕ) (out home : List Step) → IsRequired p e → IsEdgeNumber p e →
-    IsWay p p.depot (edge_at p e).u out → IsWay p (edge_at p e).v p.depot home → ServesAlone p e ((out ++ service_of e ∷ []) ++ home)
-serves_alone p e out home required number way_out way_home = record {
+serves_alone : (p : Problem) (e : ℕ) (out home : List Step) → IsRequired p e → IsEdgeNumber p e →
+    Leads p p.depot out (edge_at p e).u → NoneServed out → Leads p (edge_at p e).v home p.depot → NoneServed home → ServesAlone p e ((out ++ service_of e ∷ []) ++ home)
+serves_alone p e out home required number out_leads none_out home_leads none_home = record {
   leads =
       leads-append p (out ++ service_of e ∷ []) home p.depot (edge_at p e).v p.depot
-      (leads-append p out (service_of e ∷ []) p.depot (edge_at p e).u (edge_at p e).v way_out.leads (number, refl, refl)) way_home.leads;
+      (leads-append p out (service_of e ∷ []) p.depot (edge_at p e).u (edge_at p e).v out_leads (number, refl, refl)) home_leads;
   serves_required =
       AllByRecursion-append _ (out ++ service_of e ∷ []) home
-      (AllByRecursion-append _ out (service_of e ∷ []) (none_serves p out way_out.unserved) ((λ _. required), tt)) (none_serves p home way_home.unserved);
-  services = λ f. one_served (λ s. cond (serves f s) 1 0) (λ s idle. rw idle refl) out home (service_of e) way_out.unserved way_home.unserved;
-  load = one_served (step_load p) (λ s idle. rw idle refl) out home (service_of e) way_out.unserved way_home.unserved;
+      (AllByRecursion-append _ out (service_of e ∷ []) (none_serves p out none_out) ((λ _. required), tt)) (none_serves p home none_home);
+  services = λ f. one_served (λ s. cond (serves f s) 1 0) (λ s idle. rw idle refl) out home (service_of e) none_out none_home;
+  load = one_served (step_load p) (λ s idle. rw idle refl) out home (service_of e) none_out none_home;
 }
 
-pub lawful_walk : (p : Problem) (e : ℕ) (walk : List Step) → IsValid p → IsRequired p e → ServesAlone p e walk → IsLawfulWalk p walk
+least_alone : (p : Problem) (e : ℕ) (walk : List Step) → IsValid p → IsRequired p e → IsLeastTour p e walk → ServesAlone p e walk
+least_alone p e walk valid required tour =
+    let number : IsEdgeNumber p e = record { from_one = required.from_one; in_range = omega (arith, required.in_range, valid.required_in) } in
+    let out = tour.goes_out.deadheads in
+    let home = tour.goes_home.deadheads in
+    subst (ServesAlone p e) (sym tour.joined) (serves_alone p e tour.out tour.home required number out.leads out.unserved home.leads home.unserved)
+
+lawful_walk : (p : Problem) (e : ℕ) (walk : List Step) → IsValid p → IsRequired p e → ServesAlone p e walk → IsLawfulWalk p walk
 lawful_walk p e walk valid required alone = record {
   leads = alone.leads;
   serves_required = alone.serves_required;
   load = let fits = (valid.tasks e required).demand_fits in omega (arith, alone.load, fits);
 }
 
+-- least paths by other names of the same
+pub least_as : (p q : Problem) (costs prices : List ℕ) (a b from to : ℕ) (steps : List Step) → q ≡ p → prices ≡ costs → from ≡ a → to ≡ b →
+    IsLeastPath q (price_of prices) from to steps → IsLeastPath p (price_of costs) a b steps
+least_as p q costs prices a b from to steps same_problem same_prices same_from same_to least = rw (← same_problem, ← same_prices, ← same_from, ← same_to) least
+
 -- the tours of the required edges below e
 pub record AreSingles (p : Problem) (e : ℕ) (plan : List (List Step)) : Type 0 where
   pub walks : AllByRecursion (IsLawfulWalk p) plan
   pub done : (f : ℕ) → 1 ≤ f → f < e → services_of f plan ≡ 1
   pub open_yet : (f : ℕ) → e ≤ f → services_of f plan ≡ 0
+  pub tours : (f : ℕ) → 1 ≤ f → f < e → IsLeastTour p f (walk_at plan (f - 1))
   pub long : length plan + 1 ≡ e
 
 pub no_singles : (p : Problem) → AreSingles p 1 []
-no_singles p = record { walks = tt; done = λ f one below. absurd (omega arith); open_yet = λ f above. refl; long = refl }
+no_singles p = record { walks = tt; done = λ f one below. absurd (omega arith); open_yet = λ f above. refl; tours = λ f one below. absurd (omega arith); long = refl }
 
 abbrev bit : Bool → ℕ
 bit b = if b then 1 else 0
@@ -88,17 +105,34 @@ services_push f plan walk =
     ap (sum_by (one f)) (flat_map-append (λ w. w) plan (walk ∷ []) ∙ ap (λ steps. steps_of plan ++ steps) (flat_map-cons (λ w. w) walk [] ∙ append-nil walk))
     ∙ sum_by-append (one f) (steps_of plan) walk
 
-pub more_singles : (p : Problem) (e : ℕ) (plan : List (List Step)) (walk : List Step) → IsValid p → IsRequired p e → AreSingles p e plan → ServesAlone p e walk →
+pub more_singles : (p : Problem) (e : ℕ) (plan : List (List Step)) (walk : List Step) → IsValid p → IsRequired p e → AreSingles p e plan → IsLeastTour p e walk →
     AreSingles p (e + 1) (plan ++ walk ∷ [])
-more_singles p e plan walk valid required singles alone = record {
-  walks = AllByRecursion-append _ plan (walk ∷ []) singles.walks (lawful_walk p e walk valid required alone, tt);
-  done = λ f one below. elim (cases_eq e f) [
-    | inl same ↦ omega (arith, services_push f plan walk, alone.services f, singles.open_yet f (omega arith), test_true e f same)
-    | inr other ↦ omega (arith, services_push f plan walk, alone.services f, singles.done f one (omega arith), test_false e f other)
-  ];
-  open_yet = λ f above.
-      omega (arith, services_push f plan walk, alone.services f, singles.open_yet f (omega arith), test_false e f (λ same. omega arith));
-  long = omega (arith, length-append plan (walk ∷ []), singles.long);
+more_singles p e plan walk valid required singles tour =
+    let alone = least_alone p e walk valid required tour in
+    record {
+      walks = AllByRecursion-append _ plan (walk ∷ []) singles.walks (lawful_walk p e walk valid required alone, tt);
+      done = λ f one below. elim (cases_eq e f) [
+        | inl same ↦ omega (arith, services_push f plan walk, alone.services f, singles.open_yet f (omega arith), test_true e f same)
+        | inr other ↦ omega (arith, services_push f plan walk, alone.services f, singles.done f one (omega arith), test_false e f other)
+      ];
+      open_yet = λ f above.
+          omega (arith, services_push f plan walk, alone.services f, singles.open_yet f (omega arith), test_false e f (λ same. omega arith));
+      tours = λ f one below. elim (cases_lt f e) [
+        | inl earlier ↦ subst (IsLeastTour p f) (sym (get_or_append_left plan (walk ∷ []) [] (f - 1) (omega (arith, singles.long, one)))) (singles.tours f one earlier)
+        | inr last ↦
+            let same : f ≡ e = omega arith in
+            let there : walk_at (plan ++ walk ∷ []) (f - 1) ≡ walk =
+            get_or-append_right plan (walk ∷ []) (length plan) (f - 1) [] refl (omega (arith, singles.long, same))
+            ∙ ap (λ k. walk_at (walk ∷ []) k) (let zero : (f - 1) - length plan ≡ 0 = omega (arith, singles.long, same) in zero) in
+            subst (IsLeastTour p f) (sym there) (subst (λ n. IsLeastTour p n walk) (sym same) tour)
+      ];
+      long = omega (arith, length-append plan (walk ∷ []), singles.long);
+    }
+
+pub least_tours : (p : Problem) (e : ℕ) (plan : List (List Step)) → e ≡ p.required + 1 → AreSingles p e plan → AreLeastTours p plan
+least_tours p e plan last singles = record {
+  one_each = omega (arith, singles.long, last);
+  tours = λ f required. singles.tours f required.from_one (let below = required.in_range in omega (arith, below, last));
 }
 
 pub lawful_singles : (p : Problem) (e : ℕ) (plan : List (List Step)) → e ≡ p.required + 1 → AreSingles p e plan → IsLawful p plan

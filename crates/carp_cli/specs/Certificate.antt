@@ -2,7 +2,7 @@
 use Rattle.std.specs.Prelude.{ℕ, ◌++◌, ◌∷◌, List, length, codes, decimal, if◌then◌else◌, ◌==◌}
 use Rattle.std.specs.List.{flat_map}
 use Rattle.plan_model.specs.declared.step.Step.{Step}
-use Rattle.carp_cli.specs.declared.certificate.Draft.{Draft}
+use Rattle.carp_cli.specs.declared.certificate.Solution.{Solution}
 
 -- a plan with its cost, and a bound with one price for each required edge
 pub record Certificate : Type 0 where
@@ -12,8 +12,8 @@ pub record Certificate : Type 0 where
   pub prices : List ℕ
 
 -- the certificate that the code holds
-abbrev pub certificate_of : Draft → Certificate
-certificate_of d = record { cost = d.cost; bound = d.bound; plan = d.plan; prices = d.prices.items }
+abbrev pub certificate_of : Solution → Certificate
+certificate_of s = record { cost = s.cost; bound = s.bound; plan = s.plan; prices = s.prices.items }
 
 -- the turns of the tree of one leaf: 1 where the leaf shows the plan's cost, else 0
 abbrev pub turns_of : Certificate → ℕ

@@ -4,6 +4,10 @@ use Rattle.carp_base.specs.Problem.{Problem}
 use Rattle.dat_text.specs.Text.{IsTextOf}
 use Rattle.carp_cli.specs.Words.{FileNames}
 
+-- the most bytes of an instance file
+abbrev pub file_limit : ℕ
+file_limit = 4194304
+
 -- the bytes are the text of a valid instance
 pub record IsAccepted (bytes : List ℕ) : Type 0 where
   pub instance : Problem

@@ -8,3 +8,4 @@ pub mod Refusals
 pub mod Codes
 pub mod Stops
 pub mod Outcome
+pub mod Examples

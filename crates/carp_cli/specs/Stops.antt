@@ -1,4 +1,4 @@
--- Why there are no texts to keep and write.
+-- Why there are no texts to keep and write. No public contract speaks of this.
 use Rattle.carp_base.specs.declared.fail.Fail.{Fail}
 use Rattle.carp_base.specs.declared.fail.Fail.TheVariants.{Refused, Memory}
 use Rattle.carp_outside.specs.declared.reading.ReadFault.{ReadFault}

@@ -11,7 +11,7 @@ use std::alloc::Global;
 /// A plan with its cost, and a lower bound on the cost of every lawful plan with the prices that show it, one for
 /// each required edge.
 #[derive(Drop)]
-pub(crate) struct Draft {
+pub(crate) struct Solution {
     pub(crate) cost: u128,
     pub(crate) bound: u128,
     pub(crate) plan: Plan,
@@ -80,24 +80,24 @@ fn push_set(text: &mut Vec<u8>, prices: &[u64]) -> Result<(), Memory>
     Ok(())
 }
 
-fn push_head(text: &mut Vec<u8>, draft: &Draft) -> Result<(), Memory>
-    ensures { OnOk result (text.new.items ≡ text.old.items ++ head_text (certificate_of draft.now)) }
+fn push_head(text: &mut Vec<u8>, solution: &Solution) -> Result<(), Memory>
+    ensures { OnOk result (text.new.items ≡ text.old.items ++ head_text (certificate_of solution.now)) }
 {
-    push_line(text, b"carp-certificate 1\ncost ", draft.cost)?;
-    push_line(text, b"bound ", draft.bound)?;
-    push_line(text, b"tours ", draft.plan.len() as u128)?;
+    push_line(text, b"carp-certificate 1\ncost ", solution.cost)?;
+    push_line(text, b"bound ", solution.bound)?;
+    push_line(text, b"tours ", solution.plan.len() as u128)?;
     Ok(())
 }
 
 /// The text that is kept.
-pub(crate) fn write_certificate(alloc: Global, draft: &Draft) -> Result<Vec<u8>, Memory>
-    ensures { IfOk result (λ text. text.items ≡ certificate_text (certificate_of draft.now)) }
+pub(crate) fn write_certificate(alloc: Global, solution: &Solution) -> Result<Vec<u8>, Memory>
+    ensures { IfOk result (λ text. text.items ≡ certificate_text (certificate_of solution.now)) }
 {
     let mut text = Vec::new(alloc);
-    push_head(&mut text, draft)?;
-    push_tours(&mut text, &draft.plan)?;
+    push_head(&mut text, solution)?;
+    push_tours(&mut text, &solution.plan)?;
     text.extend_from_slice(b"shores 0\nsets 1\n")?;
-    push_set(&mut text, &draft.prices)?;
+    push_set(&mut text, &solution.prices)?;
     text.extend_from_slice(b"nodes 1\nprice 1\nend\n")?;
     Ok(text)
 }

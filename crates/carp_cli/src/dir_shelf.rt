@@ -1,5 +1,5 @@
 // The files of the system as a shelf.
-ghost use Rattle.std.specs.Prelude.{◌≤◌, false, None, length, IfOk};
+ghost use Rattle.std.specs.Prelude.{◌≡◌, ◌≤◌, false, None, length, IfOk};
 
 use carp_outside::{Shelf, ShelfFault};
 use std::alloc::Global;
@@ -15,8 +15,8 @@ const NAMES_TRIED: u32 = 1000;
 /// system.
 ///
 /// A file is replaced whole: the new bytes are written beside it, synced and renamed, so that a failure leaves the old
-/// file as it was. A file that is write-protected is left alone. Where the path stands for something other than a regular file, as a link or a device, it is written
-/// in place.
+/// file as it was. A file that is write-protected is left alone. Where the path stands for something other than a
+/// regular file, as a link or a device, it is written in place.
 #[derive(Drop)]
 pub struct DirShelf<R: Files> {
     rt: R,
@@ -28,7 +28,11 @@ pub struct DirShelf<R: Files> {
 
 impl<R: Files> DirShelf<R> {
     /// The files that the runtime reaches, with all counts 0.
-    pub fn new(rt: R, alloc: Global) -> DirShelf<R> {
+    pub fn new(rt: R, alloc: Global) -> DirShelf<R>
+        ensures failed_looks { result.failed_looks ≡ 0 }
+        ensures failed_keeps { result.failed_keeps ≡ 0 }
+        ensures given { result.given ≡ 0 }
+    {
         DirShelf {
             rt,
             alloc,

@@ -3,8 +3,8 @@ ghost use Rattle.std.specs.Prelude.{◌≡◌, ◌≢◌, ℕ, ◌+◌, ◌<◌,
 ghost use Rattle.carp_outside.specs.Causes.{Rose, RoseBy};
 ghost use Rattle.carp_outside.specs.Told.{SameContents};
 ghost use Rattle.dat_text.specs.Text.{IsTextOf, IsFaultOf};
-ghost use Rattle.carp_cli.specs.Files.{IsAccepted};
-ghost use Rattle.carp_cli.specs.Outcome.{AreTextsOf};
+ghost use Rattle.carp_cli.specs.Files.{file_limit, IsAccepted};
+ghost use Rattle.carp_cli.specs.Outcome.{IsAnswer};
 ghost use Rattle.carp_cli.specs.Stops.{stop_of_reading};
 ghost use Rattle.carp_cli.specs.declared.gathering.Stop.TheVariants.{NoMemory, NotRead, Longer, NoInstance};
 
@@ -62,18 +62,18 @@ pub(crate) fn read_instance<H: Shelf>(
 
     // Each stop has its cause.
     ensures not_read { result ≡ Err NotRead → Rose (H.failed_looks shelf.old file.now) (H.failed_looks shelf.new file.now) }
-    ensures longer { result ≡ Err Longer → RoseBy (FILE_LIMIT + 1) (H.given shelf.old) (H.given shelf.new) }
-    ensures longer_told { IsTrue H.tells → result ≡ Err Longer → IsSomeAnd (H.contents shelf.old file.now) (λ bytes. FILE_LIMIT < length bytes) }
+    ensures longer { result ≡ Err Longer → RoseBy (file_limit + 1) (H.given shelf.old) (H.given shelf.new) }
+    ensures longer_told { IsTrue H.tells → result ≡ Err Longer → IsSomeAnd (H.contents shelf.old file.now) (λ bytes. file_limit < length bytes) }
     ensures faulty { IsTrue H.tells → (fault : DatFault) → result ≡ Err (NoInstance fault) →
         IsSomeAnd (H.contents shelf.old file.now) (λ bytes. IsFaultOf bytes fault) }
 
     // Where no look at the file failed, its bytes decide, and memory.
-    ensures accepted { IsTrue H.tells → IsSomeAnd (H.contents shelf.old file.now) (λ bytes. (length bytes ≤ FILE_LIMIT) × IsAccepted bytes)
+    ensures accepted { IsTrue H.tells → IsSomeAnd (H.contents shelf.old file.now) (λ bytes. (length bytes ≤ file_limit) × IsAccepted bytes)
         → (Rose (H.failed_looks shelf.old file.now) (H.failed_looks shelf.new file.now) → ⊥) → IsOk result ⊎ (result ≡ Err NoMemory) }
     ensures refused { IsTrue H.tells → (fault : DatFault) →
-        IsSomeAnd (H.contents shelf.old file.now) (λ bytes. (length bytes ≤ FILE_LIMIT) × IsFaultOf bytes fault)
+        IsSomeAnd (H.contents shelf.old file.now) (λ bytes. (length bytes ≤ file_limit) × IsFaultOf bytes fault)
         → (Rose (H.failed_looks shelf.old file.now) (H.failed_looks shelf.new file.now) → ⊥) → (result ≡ Err (NoInstance fault)) ⊎ (result ≡ Err NoMemory) }
-    ensures too_long { IsTrue H.tells → IsSomeAnd (H.contents shelf.old file.now) (λ bytes. FILE_LIMIT < length bytes)
+    ensures too_long { IsTrue H.tells → IsSomeAnd (H.contents shelf.old file.now) (λ bytes. file_limit < length bytes)
         → (Rose (H.failed_looks shelf.old file.now) (H.failed_looks shelf.new file.now) → ⊥) → (result ≡ Err Longer) ⊎ (result ≡ Err NoMemory) }
 
     // What stays, whatever is answered.
@@ -102,13 +102,13 @@ fn parse(alloc: Global, bytes: &[u8]) -> Result<Instance, Stop>
 
 /// Solves an instance, and builds the texts of its certificate and its report.
 pub(crate) fn build_texts(alloc: Global, inst: &Instance) -> Result<Texts, Memory>
-    ensures texts { IfOk result (λ texts. AreTextsOf inst.now texts.kept.items texts.report.items texts.status) }
+    ensures answer { IfOk result (λ texts. IsAnswer inst.now texts.kept.items texts.report.items texts.status) }
     ensures status { IfOk result (λ texts. (texts.status ≡ Status.Proven) ⊎ (texts.status ≡ Status.Gap)) }
 {
-    let draft = solve(alloc, inst)?;
-    let proven = draft.bound == draft.cost;
-    let kept = write_certificate(alloc, &draft)?;
-    let report = write_report(alloc, inst, &draft, u64::from(proven))?;
+    let solution = solve(alloc, inst)?;
+    let proven = solution.bound == solution.cost;
+    let kept = write_certificate(alloc, &solution)?;
+    let report = write_report(alloc, inst, &solution, u64::from(proven))?;
     Ok(Texts {
         kept,
         report,

@@ -10,6 +10,10 @@
 
 mod certificate;
 mod dir_shelf;
+#[cfg(test)]
+mod examples;
+#[cfg(test)]
+mod file_tests;
 mod gathering;
 mod refusals;
 mod report;

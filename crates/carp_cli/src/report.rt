@@ -6,7 +6,7 @@ ghost use Rattle.plan_model.specs.Plans.{IsLawful, IsOnEdges};
 ghost use Rattle.carp_cli.specs.Certificate.{certificate_of, turns_of, number_line};
 ghost use Rattle.carp_cli.specs.Report.{report_text, instance_line, result_lines, gap_line, tour_lines, tour_line, route_text, crossing_text};
 
-use crate::certificate::Draft;
+use crate::certificate::Solution;
 use crate::text::{push_line, push_number, push_words};
 use carp_base::{Instance, Memory};
 use plan_model::{Plan, Step, Walk, cost_of, load_of};
@@ -94,31 +94,31 @@ fn push_gap_line(text: &mut Vec<u8>, cost: u128, bound: u128) -> Result<(), Memo
 }
 
 #[tactic(auto, unfolding(crate::specs::Report::result_lines))]
-fn push_result_lines(text: &mut Vec<u8>, draft: &Draft, turns: u64) -> Result<(), Memory>
-    requires { draft.now.bound ≤ draft.now.cost }
-    ensures { OnOk result (text.new.items ≡ text.old.items ++ result_lines (certificate_of draft.now) turns) }
+fn push_result_lines(text: &mut Vec<u8>, solution: &Solution, turns: u64) -> Result<(), Memory>
+    requires { solution.now.bound ≤ solution.now.cost }
+    ensures { OnOk result (text.new.items ≡ text.old.items ++ result_lines (certificate_of solution.now) turns) }
 {
-    push_line(text, b"cost ", draft.cost)?;
-    push_line(text, b"bound ", draft.bound)?;
+    push_line(text, b"cost ", solution.cost)?;
+    push_line(text, b"bound ", solution.bound)?;
     push_line(text, b"turns ", u128::from(turns))?;
-    push_gap_line(text, draft.cost, draft.bound)
+    push_gap_line(text, solution.cost, solution.bound)
 }
 
 /// The report of an instance, the certificate found for it and the turns of the certificate's tree.
 pub(crate) fn write_report(
     alloc: Global,
     inst: &Instance,
-    draft: &Draft,
+    solution: &Solution,
     turns: u64,
 ) -> Result<Vec<u8>, Memory>
-    requires lawful { IsLawful inst.now draft.now.plan }
-    requires bounded { draft.now.bound ≤ draft.now.cost }
-    ensures { IfOk result (λ text. text.items ≡ report_text inst.now (certificate_of draft.now) turns) }
+    requires lawful { IsLawful inst.now solution.now.plan }
+    requires bounded { solution.now.bound ≤ solution.now.cost }
+    ensures { IfOk result (λ text. text.items ≡ report_text inst.now (certificate_of solution.now) turns) }
 {
     let mut text = Vec::new(alloc);
     push_instance_line(&mut text, inst)?;
-    push_result_lines(&mut text, draft, turns)?;
-    push_line(&mut text, b"tours ", draft.plan.len() as u128)?;
-    push_tour_lines(&mut text, inst, &draft.plan)?;
+    push_result_lines(&mut text, solution, turns)?;
+    push_line(&mut text, b"tours ", solution.plan.len() as u128)?;
+    push_tour_lines(&mut text, inst, &solution.plan)?;
     Ok(text)
 }

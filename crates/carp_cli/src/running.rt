@@ -5,7 +5,7 @@ ghost use Rattle.carp_outside.specs.Told.{HoldsExactly, HoldsFront, SameContents
 ghost use Rattle.carp_base.specs.Problem.{Problem};
 ghost use Rattle.dat_text.specs.Text.{IsTextOf, IsFaultOf};
 ghost use Rattle.carp_cli.specs.Words.{names_of};
-ghost use Rattle.carp_cli.specs.Files.{IsAccepted, OfFile};
+ghost use Rattle.carp_cli.specs.Files.{file_limit, IsAccepted, OfFile};
 ghost use Rattle.carp_cli.specs.Refusals.{refusal_text};
 ghost use Rattle.carp_cli.specs.Outcome.{IsDelivered, IsCutDelivery, IsSolved, IsCutShort, SameElsewhere, RoseAtFile};
 
@@ -31,7 +31,7 @@ pub fn run<H: Shelf, O: Sink>(
     // The headline: where a solution is answered, the certificate is kept, the report is written, and both are true.
     ensures solved { IsTrue H.tells → IsTrue O.tells → (result ≡ Status.Proven) ⊎ (result ≡ Status.Gap) → IsSomeAnd (names_of words.now) (λ names.
         IsSolved names result (H.contents shelf.old) (H.contents shelf.new) (O.written out.old) (O.written out.new)) }
-    ensures complete { IsTrue H.tells → OfFile (λ bytes. (length bytes ≤ FILE_LIMIT) × IsAccepted bytes) (names_of words.now) (H.contents shelf.old)
+    ensures complete { IsTrue H.tells → OfFile (λ bytes. (length bytes ≤ file_limit) × IsAccepted bytes) (names_of words.now) (H.contents shelf.old)
         → (RoseAtFile (names_of words.now) (H.failed_looks shelf.old) (H.failed_looks shelf.new) → ⊥)
         → (Rose (H.failed_keeps shelf.old) (H.failed_keeps shelf.new) → ⊥) → (Rose (O.faults out.old) (O.faults out.new) → ⊥)
         → (result ≡ Status.Proven) ⊎ ((result ≡ Status.Gap) ⊎ (result ≡ Status.Memory)) }
@@ -42,17 +42,17 @@ pub fn run<H: Shelf, O: Sink>(
     ensures instance { IsTrue H.tells → (fault : DatFault) → result ≡ Status.BadInstance fault →
         OfFile (λ bytes. IsFaultOf bytes fault) (names_of words.now) (H.contents shelf.old) }
     ensures instance_only { IsTrue H.tells → (fault : DatFault) →
-        OfFile (λ bytes. (length bytes ≤ FILE_LIMIT) × IsFaultOf bytes fault) (names_of words.now) (H.contents shelf.old)
+        OfFile (λ bytes. (length bytes ≤ file_limit) × IsFaultOf bytes fault) (names_of words.now) (H.contents shelf.old)
         → (RoseAtFile (names_of words.now) (H.failed_looks shelf.old) (H.failed_looks shelf.new) → ⊥)
         → (result ≡ Status.BadInstance fault) ⊎ ((result ≡ Status.WriteFault) ⊎ (result ≡ Status.Memory)) }
     ensures read { result ≡ Status.ReadFault → RoseAtFile (names_of words.now) (H.failed_looks shelf.old) (H.failed_looks shelf.new) }
     ensures write { result ≡ Status.WriteFault → Rose (H.failed_keeps shelf.old) (H.failed_keeps shelf.new) ⊎ Rose (O.faults out.old) (O.faults out.new) }
-    ensures too_long { (limit : ℕ) → result ≡ Status.TooLong limit → (limit ≡ FILE_LIMIT) × RoseBy (limit + 1) (H.given shelf.old) (H.given shelf.new) }
+    ensures too_long { (limit : ℕ) → result ≡ Status.TooLong limit → (limit ≡ file_limit) × RoseBy (limit + 1) (H.given shelf.old) (H.given shelf.new) }
     ensures too_long_told { IsTrue H.tells → (limit : ℕ) → result ≡ Status.TooLong limit
         → OfFile (λ bytes. limit < length bytes) (names_of words.now) (H.contents shelf.old) }
-    ensures too_long_only { IsTrue H.tells → OfFile (λ bytes. FILE_LIMIT < length bytes) (names_of words.now) (H.contents shelf.old)
+    ensures too_long_only { IsTrue H.tells → OfFile (λ bytes. file_limit < length bytes) (names_of words.now) (H.contents shelf.old)
         → (RoseAtFile (names_of words.now) (H.failed_looks shelf.old) (H.failed_looks shelf.new) → ⊥)
-        → (result ≡ Status.TooLong FILE_LIMIT) ⊎ ((result ≡ Status.WriteFault) ⊎ (result ≡ Status.Memory)) }
+        → (result ≡ Status.TooLong file_limit) ⊎ ((result ≡ Status.WriteFault) ⊎ (result ≡ Status.Memory)) }
 
     // What stands after each answer.
     ensures elsewhere { IsTrue H.tells → SameElsewhere (names_of words.now) (H.contents shelf.old) (H.contents shelf.new) }
@@ -61,10 +61,10 @@ pub fn run<H: Shelf, O: Sink>(
     ensures refused { IsTrue O.tells → result ≢ Status.Proven → result ≢ Status.Gap → result ≢ Status.WriteFault
         → O.written out.new ≡ O.written out.old ++ refusal_text result }
     ensures cut { IsTrue H.tells → IsTrue O.tells → result ≡ Status.WriteFault
-        → IsCutShort (names_of words.now) (H.contents shelf.old) (H.contents shelf.new) (H.failed_looks shelf.old) (H.failed_looks shelf.new) (O.written out.old) (O.written out.new) }
+        → IsCutShort (names_of words.now) (H.contents shelf.old) (H.contents shelf.new) (H.failed_looks shelf.old) (H.failed_looks shelf.new)
+        (H.failed_keeps shelf.old) (H.failed_keeps shelf.new) (O.written out.old) (O.written out.new) (O.faults out.old) (O.faults out.new) }
     ensures helpers { helpers.new.items ≡ helpers.old.items }
 {
-    let _untouched = helpers.len();
     match read_words(words) {
         None => refuse(alloc, out, Status::BadUsage),
         Some(names) => solve_file(alloc, &names, shelf, out),
@@ -80,7 +80,7 @@ fn solve_file<H: Shelf, O: Sink>(
 ) -> Status
     ensures solved { IsTrue H.tells → IsTrue O.tells → (result ≡ Status.Proven) ⊎ (result ≡ Status.Gap) →
         IsSolved (record { file = names.now.file.now; cert = names.now.cert.now }) result (H.contents shelf.old) (H.contents shelf.new) (O.written out.old) (O.written out.new) }
-    ensures complete { IsTrue H.tells → IsSomeAnd (H.contents shelf.old names.now.file.now) (λ bytes. (length bytes ≤ FILE_LIMIT) × IsAccepted bytes)
+    ensures complete { IsTrue H.tells → IsSomeAnd (H.contents shelf.old names.now.file.now) (λ bytes. (length bytes ≤ file_limit) × IsAccepted bytes)
         → (Rose (H.failed_looks shelf.old names.now.file.now) (H.failed_looks shelf.new names.now.file.now) → ⊥)
         → (Rose (H.failed_keeps shelf.old) (H.failed_keeps shelf.new) → ⊥) → (Rose (O.faults out.old) (O.faults out.new) → ⊥)
         → (result ≡ Status.Proven) ⊎ ((result ≡ Status.Gap) ⊎ (result ≡ Status.Memory)) }
@@ -88,17 +88,17 @@ fn solve_file<H: Shelf, O: Sink>(
     ensures instance { IsTrue H.tells → (fault : DatFault) → result ≡ Status.BadInstance fault →
         IsSomeAnd (H.contents shelf.old names.now.file.now) (λ bytes. IsFaultOf bytes fault) }
     ensures instance_only { IsTrue H.tells → (fault : DatFault) →
-        IsSomeAnd (H.contents shelf.old names.now.file.now) (λ bytes. (length bytes ≤ FILE_LIMIT) × IsFaultOf bytes fault)
+        IsSomeAnd (H.contents shelf.old names.now.file.now) (λ bytes. (length bytes ≤ file_limit) × IsFaultOf bytes fault)
         → (Rose (H.failed_looks shelf.old names.now.file.now) (H.failed_looks shelf.new names.now.file.now) → ⊥)
         → (result ≡ Status.BadInstance fault) ⊎ ((result ≡ Status.WriteFault) ⊎ (result ≡ Status.Memory)) }
     ensures read { result ≡ Status.ReadFault → Rose (H.failed_looks shelf.old names.now.file.now) (H.failed_looks shelf.new names.now.file.now) }
     ensures write { result ≡ Status.WriteFault → Rose (H.failed_keeps shelf.old) (H.failed_keeps shelf.new) ⊎ Rose (O.faults out.old) (O.faults out.new) }
-    ensures too_long { (limit : ℕ) → result ≡ Status.TooLong limit → (limit ≡ FILE_LIMIT) × RoseBy (limit + 1) (H.given shelf.old) (H.given shelf.new) }
+    ensures too_long { (limit : ℕ) → result ≡ Status.TooLong limit → (limit ≡ file_limit) × RoseBy (limit + 1) (H.given shelf.old) (H.given shelf.new) }
     ensures too_long_told { IsTrue H.tells → (limit : ℕ) → result ≡ Status.TooLong limit
         → IsSomeAnd (H.contents shelf.old names.now.file.now) (λ bytes. limit < length bytes) }
-    ensures too_long_only { IsTrue H.tells → IsSomeAnd (H.contents shelf.old names.now.file.now) (λ bytes. FILE_LIMIT < length bytes)
+    ensures too_long_only { IsTrue H.tells → IsSomeAnd (H.contents shelf.old names.now.file.now) (λ bytes. file_limit < length bytes)
         → (Rose (H.failed_looks shelf.old names.now.file.now) (H.failed_looks shelf.new names.now.file.now) → ⊥)
-        → (result ≡ Status.TooLong FILE_LIMIT) ⊎ ((result ≡ Status.WriteFault) ⊎ (result ≡ Status.Memory)) }
+        → (result ≡ Status.TooLong file_limit) ⊎ ((result ≡ Status.WriteFault) ⊎ (result ≡ Status.Memory)) }
     ensures elsewhere { IsTrue H.tells → (other : List ℕ) → other ≢ names.now.cert.now → H.contents shelf.new other ≡ H.contents shelf.old other }
     ensures kept_only { IsTrue H.tells → result ≢ Status.Proven → result ≢ Status.Gap → result ≢ Status.WriteFault
         → SameContents (H.contents shelf.old) (H.contents shelf.new) }
@@ -106,7 +106,8 @@ fn solve_file<H: Shelf, O: Sink>(
         → O.written out.new ≡ O.written out.old ++ refusal_text result }
     ensures cut { IsTrue H.tells → IsTrue O.tells → result ≡ Status.WriteFault
         → IsCutShort (Some (record { file = names.now.file.now; cert = names.now.cert.now })) (H.contents shelf.old) (H.contents shelf.new)
-        (H.failed_looks shelf.old) (H.failed_looks shelf.new) (O.written out.old) (O.written out.new) }
+        (H.failed_looks shelf.old) (H.failed_looks shelf.new) (H.failed_keeps shelf.old) (H.failed_keeps shelf.new)
+        (O.written out.old) (O.written out.new) (O.faults out.old) (O.faults out.new) }
 {
     match read_instance(alloc, shelf, names.file) {
         Ok(inst) => solve_instance(alloc, &inst, names.cert, shelf, out),
@@ -130,7 +131,8 @@ fn solve_instance<H: Shelf, O: Sink>(
         IsDelivered inst.now cert.now result (H.contents shelf.old) (H.contents shelf.new) (O.written out.old) (O.written out.new) }
     ensures cause { result ≡ Status.WriteFault → Rose (H.failed_keeps shelf.old) (H.failed_keeps shelf.new) ⊎ Rose (O.faults out.old) (O.faults out.new) }
     ensures cut { IsTrue H.tells → IsTrue O.tells → result ≡ Status.WriteFault →
-        IsCutDelivery inst.now cert.now (H.contents shelf.old) (H.contents shelf.new) (O.written out.old) (O.written out.new) }
+        IsCutDelivery inst.now cert.now (H.contents shelf.old) (H.contents shelf.new) (H.failed_keeps shelf.old) (H.failed_keeps shelf.new)
+        (O.written out.old) (O.written out.new) (O.faults out.old) (O.faults out.new) }
     ensures elsewhere { IsTrue H.tells → (other : List ℕ) → other ≢ cert.now → H.contents shelf.new other ≡ H.contents shelf.old other }
     ensures kept_not { IsTrue H.tells → result ≡ Status.Memory → SameContents (H.contents shelf.old) (H.contents shelf.new) }
     ensures wrote_not { IsTrue O.tells → result ≡ Status.Memory → O.written out.new ≡ O.written out.old }
@@ -151,8 +153,9 @@ fn deliver<H: Shelf, O: Sink>(texts: &Texts, cert: &str, shelf: &mut H, out: &mu
     ensures wrote { IsTrue O.tells → result ≢ Status.WriteFault → O.written out.new ≡ O.written out.old ++ texts.now.report.items }
     ensures cause { result ≡ Status.WriteFault → Rose (H.failed_keeps shelf.old) (H.failed_keeps shelf.new) ⊎ Rose (O.faults out.old) (O.faults out.new) }
     ensures cut { IsTrue H.tells → IsTrue O.tells → result ≡ Status.WriteFault
-        → (HoldsFront cert.now texts.now.kept.items (H.contents shelf.old) (H.contents shelf.new) × (O.written out.new ≡ O.written out.old))
-        ⊎ (HoldsExactly cert.now texts.now.kept.items (H.contents shelf.old) (H.contents shelf.new)
+        → (Rose (H.failed_keeps shelf.old) (H.failed_keeps shelf.new)
+        × HoldsFront cert.now texts.now.kept.items (H.contents shelf.old) (H.contents shelf.new) × (O.written out.new ≡ O.written out.old))
+        ⊎ (Rose (O.faults out.old) (O.faults out.new) × HoldsExactly cert.now texts.now.kept.items (H.contents shelf.old) (H.contents shelf.new)
         × WroteFront texts.now.report.items (O.written out.old) (O.written out.new)) }
     ensures elsewhere { IsTrue H.tells → (other : List ℕ) → other ≢ cert.now → H.contents shelf.new other ≡ H.contents shelf.old other }
     ensures looks { (name : List ℕ) → H.failed_looks shelf.new name ≡ H.failed_looks shelf.old name }

@@ -2,7 +2,8 @@
 ghost use Rattle.std.specs.Prelude.{◌≡◌, ◌+◌, ◌-◌, ◌^◌, ◌<◌, ◌≤◌, ◌++◌, length, IfOk, OnOk};
 ghost use Rattle.carp_base.specs.Problem.{IsVertex, IsRequired};
 ghost use Rattle.plan_model.specs.Plans.{IsLawful};
-ghost use Rattle.carp_cli.specs.Singles.{IsWay, HasWay, ServesAlone};
+ghost use Rattle.deadhead_paths.specs.Prices.{IsLeastPath, costs_of, edge_price};
+ghost use Rattle.carp_cli.specs.Singles.{HasWay, IsLeastTour, AreLeastTours};
 
 use carp_base::{Instance, Memory};
 use deadhead_paths::Distances;
@@ -11,8 +12,10 @@ use std::alloc::Global;
 
 /// One tour for each required edge, in rising number: out by a least path, over the edge forward, and home by a least path.
 pub(crate) fn single_tours(alloc: Global, inst: &Instance, dist: &Distances) -> Result<Plan, Memory>
-    requires { dist.now.problem ≡ inst.now }
-    ensures { IfOk result (λ plan. IsLawful inst.now plan) }
+    requires made { dist.now.problem ≡ inst.now }
+    requires prices { dist.now.prices ≡ costs_of inst.now }
+    ensures lawful { IfOk result (λ plan. IsLawful inst.now plan) }
+    ensures tours { IfOk result (λ plan. AreLeastTours inst.now plan) }
 {
     let mut plan = Plan::new(alloc);
     for e in 1..inst.required() + 1 {
@@ -24,8 +27,9 @@ pub(crate) fn single_tours(alloc: Global, inst: &Instance, dist: &Distances) -> 
 // The tour that serves one edge alone.
 fn single_tour(alloc: Global, inst: &Instance, dist: &Distances, e: u32) -> Result<Walk, Memory>
     requires made { dist.now.problem ≡ inst.now }
+    requires prices { dist.now.prices ≡ costs_of inst.now }
     requires required { IsRequired inst.now e }
-    ensures { IfOk result (λ walk. ServesAlone inst.now e walk) }
+    ensures { IfOk result (λ walk. IsLeastTour inst.now e walk) }
 {
     let depot = inst.depot();
     let edge = inst.edge(e);
@@ -42,11 +46,10 @@ fn single_tour(alloc: Global, inst: &Instance, dist: &Distances, e: u32) -> Resu
 
 // Least deadheads from one vertex to another.
 fn least_way(alloc: Global, dist: &Distances, from: u32, to: u32) -> Result<Walk, Memory>
-    requires few { dist.now.problem.vertices ≤ 1000 }
     requires from_in { IsVertex dist.now.problem from }
     requires to_in { IsVertex dist.now.problem to }
     requires reached { HasWay dist.now.problem from to }
-    ensures { IfOk result (λ walk. IsWay dist.now.problem from to walk) }
+    ensures { IfOk result (λ walk. IsLeastPath dist.now.problem (edge_price dist.now) from to walk) }
 {
     match dist.path(alloc, from, to)? {
         Some(walk) => Ok(walk),

@@ -3,9 +3,11 @@ ghost use Rattle.std.specs.Prelude.{◌≡◌, IfOk, map};
 ghost use Rattle.carp_base.specs.Problem.{IsValid, required_edges};
 ghost use Rattle.plan_model.specs.Plans.{IsLawful, plan_cost};
 ghost use Rattle.carp_cli.specs.Certificate.{certificate_of};
+ghost use Rattle.deadhead_paths.specs.Prices.{costs_of};
+ghost use Rattle.carp_cli.specs.Singles.{AreLeastTours};
 ghost use Rattle.carp_cli.specs.Sound.{IsSound};
 
-use crate::certificate::Draft;
+use crate::certificate::Solution;
 use crate::single_tours::single_tours;
 use carp_base::{Instance, Memory};
 use deadhead_paths::{Distances, cost_prices, distances};
@@ -18,16 +20,18 @@ fn service_prices(alloc: Global, inst: &Instance) -> Result<Vec<u64>, Memory>
     ensures prices { IfOk result (λ prices. prices.items ≡ map (λ x. x.service) (required_edges inst.now)) }
     ensures valid { IsValid inst.now }
 {
-    let mut prices = Vec::new(alloc);
-    for e in 1..inst.required() + 1 {
-        prices.push(inst.edge(e).service)?;
+    let required = &inst.edges()[..inst.required() as usize];
+    let mut prices = Vec::with_capacity(alloc, required.len())?;
+    for edge in required {
+        prices.push(edge.service)?;
     }
     Ok(prices)
 }
 
 // Distances by the costs of the edges.
 fn cost_distances(alloc: Global, inst: &Instance) -> Result<Distances, Memory>
-    ensures { IfOk result (λ dist. dist.problem ≡ inst.now) }
+    ensures problem { IfOk result (λ dist. dist.problem ≡ inst.now) }
+    ensures prices { IfOk result (λ dist. dist.prices ≡ costs_of inst.now) }
 {
     let net = Network::new(alloc, inst)?;
     let prices = cost_prices(alloc, inst)?;
@@ -47,12 +51,13 @@ fn judged_cost(alloc: Global, inst: &Instance, plan: &Plan) -> Result<u128, Memo
 }
 
 /// A plan of one tour for each required edge, and the bound that their services show.
-pub(crate) fn solve(alloc: Global, inst: &Instance) -> Result<Draft, Memory>
-    ensures { IfOk result (λ draft. IsSound inst.now (certificate_of draft)) }
+pub(crate) fn solve(alloc: Global, inst: &Instance) -> Result<Solution, Memory>
+    ensures sound { IfOk result (λ solution. IsSound inst.now (certificate_of solution)) }
+    ensures tours { IfOk result (λ solution. AreLeastTours inst.now solution.plan) }
 {
     let dist = cost_distances(alloc, inst)?;
     let plan = single_tours(alloc, inst, &dist)?;
-    Ok(Draft {
+    Ok(Solution {
         cost: judged_cost(alloc, inst, &plan)?,
         bound: u128::from(inst.required_cost()),
         plan,

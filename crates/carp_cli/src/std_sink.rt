@@ -1,5 +1,5 @@
 // The standard output as a sink.
-ghost use Rattle.std.specs.Prelude.{false, []};
+ghost use Rattle.std.specs.Prelude.{◌≡◌, false, []};
 
 use carp_outside::{Sink, SinkFault};
 use std::io::Write;
@@ -13,7 +13,9 @@ pub struct StdSink<W> {
 
 impl<W: Write> StdSink<W> {
     /// A sink that writes to `inner`, with no fault counted.
-    pub fn new(inner: W) -> StdSink<W> {
+    pub fn new(inner: W) -> StdSink<W>
+        ensures { result.faults ≡ 0 }
+    {
         StdSink { inner, faults: 0 }
     }
 }

@@ -1,6 +1,7 @@
-use Rattle.std.proofs.Common.{◌≡◌, ◌++◌, ◌∷◌, [], rules, arith}
+use Rattle.std.proofs.Common.{rules, arith, ap}
 use Rattle.carp_base.specs.Problem.{IsEdgeNumber}
-use Rattle.carp_cli.proofs.Singles.{serves_alone, service_of}
+use Rattle.deadhead_paths.specs.Prices.{costs_of}
+use Rattle.carp_cli.proofs.Singles.{least_as}
 use Rattle.carp_cli.proofs.Ways.{way_out, way_home}
 use Rattle.carp_cli.proofs.single_tours.single_tour.Goals as goal
 
@@ -15,8 +16,11 @@ least_way-requires-2-clause-reached c =
 
 pub returns : goal.returns
 returns c =
-    let number : IsEdgeNumber c.args.inst.now c.args.e = record { from_one = c.requires.required.from_one; in_range = omega (arith, c.requires.required.in_range, c.depot-depot.ensures.valid.required_in) } in
-    let out = rw (c.requires.made, c.depot-depot.ensures.value, c.edge-edge.ensures) at c.in_ok-walk.ensures in
-    let home = rw (c.requires.made, c.depot-depot.ensures.value, c.edge-edge.ensures) at c.in_ok-back.ensures in
-    let whole : c.append.new.walk ≡ (c.in_ok-walk.walk ++ service_of c.args.e ∷ []) ++ c.in_ok-back.back = search rules in
-    rw whole (serves_alone c.args.inst.now c.args.e c.in_ok-walk.walk c.in_ok-back.back c.requires.required number out home)
+    let p = c.args.inst.now in
+    record {
+      out = c.in_ok-walk.walk;
+      home = c.in_ok-back.back;
+      goes_out = least_as p _ (costs_of p) _ _ _ _ _ c.in_ok-walk.walk c.requires.made c.requires.prices c.depot-depot.ensures.value (ap (λ x. x.u) c.edge-edge.ensures) c.in_ok-walk.ensures;
+      goes_home = least_as p _ (costs_of p) _ _ _ _ _ c.in_ok-back.back c.requires.made c.requires.prices (ap (λ x. x.v) c.edge-edge.ensures) c.depot-depot.ensures.value c.in_ok-back.ensures;
+      joined = search rules;
+    }

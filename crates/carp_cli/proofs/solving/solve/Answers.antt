@@ -2,7 +2,7 @@ use Rattle.std.proofs.Common.{◌∙◌, rules}
 use Rattle.carp_cli.proofs.Judged.{sound}
 use Rattle.carp_cli.proofs.solving.solve.Goals as goal
 
-pub returns : goal.returns
-returns c =
-    sound c.args.inst.now c.in_ok-plan.plan _ _ _ _ c.service_prices.ensures.valid c.in_ok-plan.ensures (search rules) (search rules)
+pub returns-clause-sound : goal.returns-clause-sound
+returns-clause-sound c =
+    sound c.args.inst.now c.in_ok-plan.plan _ _ _ _ c.service_prices.ensures.valid c.in_ok-plan.ensures.lawful (search rules) (search rules)
     (c.from.ensures ∙ c.required_cost.ensures) c.in_ok-service_prices.ensures.prices
