@@ -6,7 +6,7 @@ use Rattle.std.proofs.lemmas.List.Sums.{sum_by-cons, sum_by-append}
 use Rattle.std.proofs.lemmas.Grind.{flat_map-append}
 use Rattle.std.proofs.lemmas.List.Concat.{flat_map-cons}
 use Rattle.std.proofs.lemmas.Bool.{cases_eq, cases_lt, eq-eqb, ne_eqb}
-use Rattle.std.proofs.lemmas.List.{get_or_append_left, get_or-append_right}
+use Rattle.std.proofs.lemmas.List.{get_or_append_left, get_or-append_right, append_assoc}
 use Rattle.carp_base.specs.Problem.{Problem, IsValid, IsRequired, IsEdgeNumber, edge_at}
 use Rattle.plan_model.specs.Plans.{Leads, IsWalk, IsLawful, IsLawfulWalk, serves, services_of, steps_of, step_load, walk_load, walk_at}
 use Rattle.plan_model.specs.declared.step.Step.{Step}
@@ -48,24 +48,25 @@ pub record ServesAlone (p : Problem) (e : ℕ) (walk : List Step) : Type 0 where
   pub load : walk_load p walk ≡ (edge_at p e).demand
 
 serves_alone : (p : Problem) (e : ℕ) (out home : List Step) → IsRequired p e → IsEdgeNumber p e →
-    Leads p p.depot out (edge_at p e).u → NoneServed out → Leads p (edge_at p e).v home p.depot → NoneServed home → ServesAlone p e ((out ++ service_of e ∷ []) ++ home)
-serves_alone p e out home required number out_leads none_out home_leads none_home = record {
-  leads =
-      leads-append p (out ++ service_of e ∷ []) home p.depot (edge_at p e).v p.depot
-      (leads-append p out (service_of e ∷ []) p.depot (edge_at p e).u (edge_at p e).v out_leads (number, refl, refl)) home_leads;
-  serves_required =
-      AllByRecursion-append _ (out ++ service_of e ∷ []) home
-      (AllByRecursion-append _ out (service_of e ∷ []) (none_serves p out none_out) ((λ _. required), tt)) (none_serves p home none_home);
-  services = λ f. one_served (λ s. cond (serves f s) 1 0) (λ s idle. rw idle refl) out home (service_of e) none_out none_home;
-  load = one_served (step_load p) (λ s idle. rw idle refl) out home (service_of e) none_out none_home;
-}
+    Leads p p.depot out (edge_at p e).u → NoneServed out → Leads p (edge_at p e).v home p.depot → NoneServed home → ServesAlone p e (out ++ service_of e ∷ home)
+serves_alone p e out home required number out_leads none_out home_leads none_home =
+    subst (ServesAlone p e) (append_assoc out (service_of e ∷ []) home) record {
+      leads =
+          leads-append p (out ++ service_of e ∷ []) home p.depot (edge_at p e).v p.depot
+          (leads-append p out (service_of e ∷ []) p.depot (edge_at p e).u (edge_at p e).v out_leads (number, refl, refl)) home_leads;
+      serves_required =
+          AllByRecursion-append _ (out ++ service_of e ∷ []) home
+          (AllByRecursion-append _ out (service_of e ∷ []) (none_serves p out none_out) ((λ _. required), tt)) (none_serves p home none_home);
+      services = λ f. one_served (λ s. cond (serves f s) 1 0) (λ s idle. rw idle refl) out home (service_of e) none_out none_home;
+      load = one_served (step_load p) (λ s idle. rw idle refl) out home (service_of e) none_out none_home;
+    }
 
 least_alone : (p : Problem) (e : ℕ) (walk : List Step) → IsValid p → IsRequired p e → IsLeastTour p e walk → ServesAlone p e walk
 least_alone p e walk valid required tour =
     let number : IsEdgeNumber p e = record { from_one = required.from_one; in_range = omega (arith, required.in_range, valid.required_in) } in
-    let out = tour.goes_out.deadheads in
-    let home = tour.goes_home.deadheads in
-    subst (ServesAlone p e) (sym tour.joined) (serves_alone p e tour.out tour.home required number out.leads out.unserved home.leads home.unserved)
+    let out = tour.2.deadheads in
+    let home = tour.4.deadheads in
+    subst (ServesAlone p e) (sym tour.3) (serves_alone p e tour.0 tour.1 required number out.leads out.unserved home.leads home.unserved)
 
 lawful_walk : (p : Problem) (e : ℕ) (walk : List Step) → IsValid p → IsRequired p e → ServesAlone p e walk → IsLawfulWalk p walk
 lawful_walk p e walk valid required alone = record {
