@@ -4,11 +4,11 @@ use Rattle.std.proofs.lemmas.Bool.{cases_lt}
 use Rattle.carp_base.specs.declared.fault.InstanceFault.{InstanceFault}
 use Rattle.carp_base.specs.declared.fault.InstanceFault.TheVariants.{TooManyVertices, TooManyEdges, TooManyRequired, CapacityOutOfRange, DepotOutOfRange}
 use Rattle.carp_base.specs.Problem.{Problem}
-use Rattle.carp_base.specs.Faults.{Applies, rank_of}
+use Rattle.carp_base.specs.Faults.{FaultApplies, fault_rank}
 use Rattle.carp_base.specs.Checks.{IsClear}
 
 -- a number is within its limit, where being above it is a fault of a clear rank
-pub within : (n limit rank : ℕ) (p : Problem) (fault : InstanceFault) → IsClear p rank → rank_of fault ≤ rank → (limit < n → Applies p fault) → n ≤ limit
+pub within : (n limit rank : ℕ) (p : Problem) (fault : InstanceFault) → IsClear p rank → fault_rank fault ≤ rank → (limit < n → FaultApplies p fault) → n ≤ limit
 within n limit rank p fault clear low fails =
     elim (cases_lt limit n) [
       | inl above ↦ absurd (omega (arith, clear.above fault (fails above), low))

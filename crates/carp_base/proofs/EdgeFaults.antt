@@ -8,23 +8,24 @@ use Rattle.std.proofs.lemmas.Bool.Decides.{nat_tests}
 use Rattle.carp_base.specs.declared.edge.Edge.{Edge}
 use Rattle.carp_base.specs.declared.fault.InstanceFault.{InstanceFault}
 use Rattle.carp_base.specs.Problem.{Problem, edge_at, no_edge}
-use Rattle.carp_base.specs.Faults.{Applies, rank_of, named_by, IsFirstFault}
+use Rattle.carp_base.specs.Faults.{FaultApplies, fault_rank, fault_number, IsFirstFault}
 use Rattle.carp_base.specs.Checks.{IsClear}
 use Rattle.carp_base.proofs.Ranks.{first_at, clear_more}
+use Rattle.carp_base.proofs.Numbers.{edge_after, edge_before}
 
 -- the faults of the rank after `rank` are those of the edges up to n where the test holds
 pub record EdgeFault (p : Problem) (fault : ℕ → InstanceFault) (rank n : ℕ) (bad : ℕ → Bool) : Type 0 where
-  pub only : (g : InstanceFault) → rank_of g ≡ rank + 1 → (e : ℕ) × (g ≡ fault e)
-  pub ranked : (e : ℕ) → rank_of (fault e) ≡ rank + 1
-  pub named : (e : ℕ) → named_by (fault e) ≡ e
-  pub shown : (e : ℕ) → Applies p (fault e) → (1 ≤ e) × (e ≤ n) × (bad e ≡ true)
-  pub holds : (e : ℕ) → 1 ≤ e → e ≤ n → bad e ≡ true → Applies p (fault e)
+  pub only : (g : InstanceFault) → fault_rank g ≡ rank + 1 → (e : ℕ) × (g ≡ fault e)
+  pub ranked : (e : ℕ) → fault_rank (fault e) ≡ rank + 1
+  pub named : (e : ℕ) → fault_number (fault e) ≡ e
+  pub shown : (e : ℕ) → FaultApplies p (fault e) → (1 ≤ e) × (e ≤ n) × (bad e ≡ true)
+  pub holds : (e : ℕ) → 1 ≤ e → e ≤ n → bad e ≡ true → FaultApplies p (fault e)
 
 module _ (p : Problem) (fault : ℕ → InstanceFault) (rank n : ℕ) (bad : ℕ → Bool) (is : EdgeFault p fault rank n bad) where
-  fault_of : (g : InstanceFault) → rank_of g ≡ rank + 1 → Applies p g → (e : ℕ) × (g ≡ fault e) × (1 ≤ e) × (e ≤ n) × (bad e ≡ true)
+  fault_of : (g : InstanceFault) → fault_rank g ≡ rank + 1 → FaultApplies p g → (e : ℕ) × (g ≡ fault e) × (1 ≤ e) × (e ≤ n) × (bad e ≡ true)
   fault_of g here applies =
       let found = is.only g here in
-      let P : InstanceFault → Type 0 = Applies p in
+      let P : InstanceFault → Type 0 = FaultApplies p in
       let there = is.shown found.0 (subst P found.1 applies) in
       (found.0, found.1, there.0, there.1, there.2)
 
@@ -40,7 +41,7 @@ module _ (p : Problem) (fault : ℕ → InstanceFault) (rank n : ℕ) (bad : ℕ
   edge_first e clear from_one below here none =
       first_at p (fault e) rank clear (is.ranked e) (is.holds e from_one below here) (λ g rank_is applies.
       let found = fault_of g rank_is applies in
-      let number : named_by g ≡ found.0 = ap named_by found.1 ∙ is.named found.0 in
+      let number : fault_number g ≡ found.0 = ap fault_number found.1 ∙ is.named found.0 in
       elim (cases_lt found.0 e) [
         | inl less ↦ absurd (false≢true (sym (none found.0 found.2 less) ∙ found.4))
         | inr most ↦ omega (arith, is.named e, number, most)
@@ -62,13 +63,12 @@ module _ (p : Problem) (fault : ℕ → InstanceFault) (rank : ℕ) (test : Edge
   list_clear clear none =
       edge_clear p fault rank (length xs) (λ e. test (edge_at p e)) is clear (λ e from_one below.
       let in_list : e - 1 < length xs = omega (arith, from_one, below) in
-      ap test (sym (same (e - 1) in_list)) ∙ position-None test xs (e - 1) no_edge none in_list)
+      ap test (edge_before p e from_one ∙ sym (same (e - 1) in_list)) ∙ position-None test xs (e - 1) no_edge none in_list)
 
   pub list_first : (i : ℕ) → IsClear p rank → Some i ≡ position test xs → IsFirstFault p (fault (i + 1))
   list_first i clear found =
       let at = position-Some test xs i no_edge (sym found) in
-      let back : i + 1 - 1 ≡ i = omega arith in
-      let here : test (edge_at p (i + 1)) ≡ true = ap (λ k. test (get_or p.edges k no_edge)) back ∙ ap test (sym (same i at.0)) ∙ at.1 in
+      let here : test (edge_at p (i + 1)) ≡ true = ap test (edge_after p i ∙ sym (same i at.0)) ∙ at.1 in
       edge_first p fault rank (length xs) (λ e. test (edge_at p e)) is (i + 1) clear (omega arith) (omega (arith, at.0)) here (λ e from_one below.
       let earlier : e - 1 < i = omega (arith, from_one, below) in
-      ap test (sym (same (e - 1) (omega (arith, earlier, at.0)))) ∙ at.2 (e - 1) earlier)
+      ap test (edge_before p e from_one ∙ sym (same (e - 1) (omega (arith, earlier, at.0)))) ∙ at.2 (e - 1) earlier)

@@ -13,6 +13,7 @@ use Rattle.carp_base.specs.Checks.{IsClear, is_outside, has_end_outside}
 use Rattle.carp_base.proofs.Ranks.{only_ends}
 use Rattle.carp_base.proofs.EdgeFaults.{EdgeFault, edge_clear, edge_first, position-None}
 use Rattle.carp_base.proofs.Bounds.{few_vertices}
+use Rattle.carp_base.proofs.Numbers.{edge_after, edge_before}
 use Rattle.carp_base.proofs.Disjunctions.{or_left, or_right, or_either}
 
 abbrev no_raw : RawEdge
@@ -80,10 +81,10 @@ module _ (n d q : ℕ) (rs os : List RawEdge) where
       ∙ get_or-map other_edge os (k - length rs) no_raw no_edge (omega (arith, long, past, below))
 
   required_astray : (e : ℕ) → 1 ≤ e → e ≤ length rs → is_astray n (edge_at p e) ≡ has_end_outside n (get_or rs (e - 1) no_raw)
-  required_astray e from_one below = ap (is_astray n) (at_required (e - 1) (omega (arith, from_one, below)))
+  required_astray e from_one below = ap (is_astray n) (edge_before p e from_one ∙ at_required (e - 1) (omega (arith, from_one, below)))
 
   others_astray : (e : ℕ) → length rs < e → e ≤ length p.edges → is_astray n (edge_at p e) ≡ has_end_outside n (get_or os (e - 1 - length rs) no_raw)
-  others_astray e past below = ap (is_astray n) (at_others (e - 1) (omega (arith, past)) (omega (arith, past, below)))
+  others_astray e past below = ap (is_astray n) (edge_before p e (omega (arith, past)) ∙ at_others (e - 1) (omega (arith, past)) (omega (arith, past, below)))
 
   required_fine : None ≡ position (has_end_outside n) rs → (e : ℕ) → 1 ≤ e → e ≤ length rs → is_astray n (edge_at p e) ≡ false
   required_fine none e from_one below =
@@ -137,19 +138,17 @@ module _ (n d q : ℕ) (rs os : List RawEdge) (clear : IsClear (described n d q 
 
   pub required_fit : (k : ℕ) (x : RawEdge) → k < length rs → ((get_or rs k x).u < 2 ^ 32) × ((get_or rs k x).v < 2 ^ 32)
   required_fit k x below =
-      let back : k + 1 - 1 ≡ k = omega arith in
       let number : IsEdgeNumber (described n d q rs os) (k + 1) = record { from_one = omega arith; in_range = omega (arith, long n d q rs os, below) } in
-      let small = rw back at (small_ends (described n d q rs os) (k + 1) clear number) in
-      let is = at_required n d q rs os k below in
+      let small = small_ends (described n d q rs os) (k + 1) clear number in
+      let is = edge_after (described n d q rs os) k ∙ at_required n d q rs os k below in
       let same = get_or_default rs k x no_raw below in
       rw same (omega (arith, few, ap (λ y. y.u) is, small.0), omega (arith, few, ap (λ y. y.v) is, small.1))
 
   pub others_fit : (k : ℕ) (x : RawEdge) → k < length os → ((get_or os k x).u < 2 ^ 32) × ((get_or os k x).v < 2 ^ 32)
   others_fit k x below =
-      let back : length rs + k + 1 - 1 ≡ length rs + k = omega arith in
       let number : IsEdgeNumber (described n d q rs os) (length rs + k + 1) = record { from_one = omega arith; in_range = omega (arith, long n d q rs os, below) } in
-      let small = rw back at (small_ends (described n d q rs os) (length rs + k + 1) clear number) in
-      let is = at_others n d q rs os (length rs + k) (omega arith) (omega (arith, long n d q rs os, below)) in
+      let small = small_ends (described n d q rs os) (length rs + k + 1) clear number in
+      let is = edge_after (described n d q rs os) (length rs + k) ∙ at_others n d q rs os (length rs + k) (omega arith) (omega (arith, long n d q rs os, below)) in
       let index : length rs + k - length rs ≡ k = omega arith in
       let same = get_or_default os k x no_raw below in
       rw (same, ← index) (omega (arith, few, ap (λ y. y.u) is, small.0), omega (arith, few, ap (λ y. y.v) is, small.1))

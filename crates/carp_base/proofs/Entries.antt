@@ -4,7 +4,9 @@ use Rattle.std.proofs.lemmas.Bool.{cases_lt, cases_eq}
 use Rattle.std.proofs.lemmas.Bool.Decides.{nat_tests}
 use Rattle.std.proofs.lemmas.List.{length-set, get_or_past}
 use Rattle.std.proofs.lemmas.Nat.{same_from_place}
-use Rattle.carp_base.specs.Allowed.{Relation, IsOf, IsRelation, IsSamePair, TakesOut, place_of}
+use Rattle.carp_base.specs.Allowed.{Relation, IsOf, IsRelation, IsSamePair, TakesOut, allows}
+use Rattle.carp_base.specs.Drafts.{entry_place}
+use Rattle.carp_base.proofs.Numbers.{entry_is}
 
 same_or_not : (a b c d : ℕ) → IsSamePair a b c d ⊎ ¬ (IsSamePair a b c d)
 same_or_not a b c d =
@@ -46,42 +48,55 @@ false_still t i k is =
     ]
 
 -- different pairs have different places
-pub places_differ : (size a b c d : ℕ) → 1 ≤ a → 1 ≤ b → b ≤ size → 1 ≤ c → 1 ≤ d → d ≤ size → place_of size c d ≡ place_of size a b → (c ≡ a) × (d ≡ b)
+pub places_differ : (size a b c d : ℕ) → 1 ≤ a → 1 ≤ b → b ≤ size → 1 ≤ c → 1 ≤ d → d ≤ size → entry_place size c d ≡ entry_place size a b → (c ≡ a) × (d ≡ b)
 places_differ size a b c d a_one b_one b_in c_one d_one d_in same =
     let both = same_from_place (c - 1) (d - 1) (a - 1) (b - 1) size (omega (arith, d_one, d_in)) (omega (arith, b_one, b_in)) same in
     (omega (arith, both.0, a_one, c_one), omega (arith, both.1, b_one, d_one))
 
 -- the relation without the pair
 abbrev pub without : Relation → ℕ → ℕ → Relation
-without r a b = record { size = r.size; table = set (set r.table (place_of r.size a b) false) (place_of r.size b a) false }
+without r a b = record { size = r.size; table = set (set r.table (entry_place r.size a b) false) (entry_place r.size b a) false }
 
 pub without-at : (size : ℕ) (table : List Bool) (r : Relation) (a b there back : ℕ) → record { size = size; table = table } ≡ r →
-    there ≡ place_of r.size a b → back ≡ place_of r.size b a → record { size = size; table = set (set table there false) back false } ≡ without r a b
+    there ≡ entry_place r.size a b → back ≡ entry_place r.size b a → record { size = size; table = set (set table there false) back false } ≡ without r a b
 without-at size table r a b there back same there_is back_is =
-    let f : Relation → Relation = λ q. record { size = q.size; table = set (set q.table (place_of r.size a b) false) (place_of r.size b a) false } in
+    let f : Relation → Relation = λ q. record { size = q.size; table = set (set q.table (entry_place r.size a b) false) (entry_place r.size b a) false } in
     rw (there_is, back_is) (ap f same)
 
 module _ (r : Relation) (a b : ℕ) (a_is : IsOf r a) (b_is : IsOf r b) where
+  of_same : (c : ℕ) → IsOf r c → IsOf (without r a b) c
+  of_same c is = record { from_one = is.from_one; in_range = is.in_range }
+
+  there_out : allows (without r a b) a b ≡ false
+  there_out =
+      entry_is (without r a b) a b (of_same a a_is) (of_same b b_is)
+      ∙ false_still (set r.table (entry_place r.size a b) false) (entry_place r.size b a) (entry_place r.size a b) (false_here r.table (entry_place r.size a b))
+
+  back_out : allows (without r a b) b a ≡ false
+  back_out =
+      entry_is (without r a b) b a (of_same b b_is) (of_same a a_is)
+      ∙ false_here (set r.table (entry_place r.size a b) false) (entry_place r.size b a)
+
   pub takes_out : TakesOut r (without r a b) a b
   takes_out = record {
     on = refl;
     out = λ c d same. elim same [
-      | inl first ↦
-          rw (first.0, first.1)
-          (false_still (set r.table (place_of r.size a b) false) (place_of r.size b a) (place_of r.size a b) (false_here r.table (place_of r.size a b)))
-      | inr second ↦ rw (second.0, second.1) (false_here (set r.table (place_of r.size a b) false) (place_of r.size b a))
+      | inl first ↦ rw (first.0, first.1) there_out
+      | inr second ↦ rw (second.0, second.1) back_out
     ];
     others = λ c d c_is d_is different.
-        get_or-set_other (set r.table (place_of r.size a b) false) (place_of r.size b a) (place_of r.size c d) false false
+        entry_is (without r a b) c d (of_same c c_is) (of_same d d_is)
+        ∙ get_or-set_other (set r.table (entry_place r.size a b) false) (entry_place r.size b a) (entry_place r.size c d) false false
         (λ same. different (inr (places_differ r.size b a c d b_is.from_one a_is.from_one a_is.in_range c_is.from_one d_is.from_one d_is.in_range same)))
-        ∙ get_or-set_other r.table (place_of r.size a b) (place_of r.size c d) false false
-        (λ same. different (inl (places_differ r.size a b c d a_is.from_one b_is.from_one b_is.in_range c_is.from_one d_is.from_one d_is.in_range same)));
+        ∙ get_or-set_other r.table (entry_place r.size a b) (entry_place r.size c d) false false
+        (λ same. different (inl (places_differ r.size a b c d a_is.from_one b_is.from_one b_is.in_range c_is.from_one d_is.from_one d_is.in_range same)))
+        ∙ sym (entry_is r c d c_is d_is);
   }
 
   pub still_relation : IsRelation r → IsRelation (without r a b)
   still_relation is = record {
     square =
-        length-set (set r.table (place_of r.size a b) false) (place_of r.size b a) false ∙ length-set r.table (place_of r.size a b) false ∙ is.square;
+        length-set (set r.table (entry_place r.size a b) false) (entry_place r.size b a) false ∙ length-set r.table (entry_place r.size a b) false ∙ is.square;
     symmetric = λ c d c_in d_in.
         let c_is : IsOf r c = record { from_one = c_in.from_one; in_range = c_in.in_range } in
         let d_is : IsOf r d = record { from_one = d_in.from_one; in_range = d_in.in_range } in

@@ -1,3 +1,4 @@
+pub mod Numbers
 pub mod Ranks
 pub mod EdgeFaults
 pub mod DraftFaults

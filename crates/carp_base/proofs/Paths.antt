@@ -1,5 +1,5 @@
 -- Paths from the depot, and the arcs of edges.
-use Rattle.std.proofs.Common.{◌≡◌, ℕ, ◌+◌, ◌-◌, ◌*◌, ◌/◌, ◌%◌, ◌<◌, ◌≤◌, ◌==◌, Bool, true, false, List, [], ◌∷◌, ◌++◌, length, get_or, refl, arith, sym, subst, ◌∙◌}
+use Rattle.std.proofs.Common.{◌≡◌, ℕ, ◌+◌, ◌-◌, ◌*◌, ◌/◌, ◌%◌, ◌<◌, ◌≤◌, ◌==◌, Bool, true, false, List, [], ◌∷◌, ◌++◌, length, get_or, refl, arith, sym, subst, ◌∙◌, ap}
 use Rattle.std.proofs.lemmas.Bool.Decides.{nat_tests}
 use Rattle.carp_base.specs.declared.edge.Edge.{Edge}
 use Rattle.carp_base.specs.declared.edge.Task.{Task}
@@ -7,6 +7,7 @@ use Rattle.carp_base.specs.Problem.{Problem, IsEdgeNumber, IsReached, TasksLead,
 use Rattle.carp_base.specs.Checks.{IsClear}
 use Rattle.carp_base.specs.Search.{arc_tail, arc_head, EndsWithin, IsMarked, IsSearch, LeadsToMarks, MarksReached}
 use Rattle.carp_base.proofs.Ends.{small_ends}
+use Rattle.carp_base.proofs.Numbers.{edge_after, edge_before}
 
 tasks_more : (p : Problem) (a b : ℕ) (ts : List Task) (t : Task) → TasksLead p a ts b → IsEdgeNumber p t.edge → tail_of (edge_at p t.edge) t.forward ≡ b →
     TasksLead p a (ts ++ t ∷ []) (head_of (edge_at p t.edge) t.forward)
@@ -17,10 +18,10 @@ tasks_more p a b (s ∷ ts) t leads number tail =
 -- who crosses an arc from a vertex that is reached, reaches the other end
 pub reached_more : (p : Problem) (v arc : ℕ) → IsReached p v → arc < 2 * length p.edges → arc_tail p.edges arc ≡ v → IsReached p (arc_head p.edges arc)
 reached_more p v arc reached below leaves =
-    let back : arc / 2 + 1 - 1 ≡ arc / 2 = omega arith in
+    let there = edge_after p (arc / 2) in
     let t : Task = record { edge = arc / 2 + 1; forward = arc % 2 == 0 } in
-    let tail : tail_of (edge_at p t.edge) t.forward ≡ v = rw back leaves in
-    let head : head_of (edge_at p t.edge) t.forward ≡ arc_head p.edges arc = rw back refl in
+    let tail : tail_of (edge_at p t.edge) t.forward ≡ v = rw there leaves in
+    let head : head_of (edge_at p t.edge) t.forward ≡ arc_head p.edges arc = rw there refl in
     let P : ℕ → Type 0 = IsReached p in
     subst P head (record {
       path = reached.path ++ t ∷ [];
@@ -65,10 +66,13 @@ pub path_marked : (p : Problem) (marks : List Bool) → ((v : ℕ) → IsMarked 
 path_marked p marks closed a [] v marked leads = let P : ℕ → Type 0 = IsMarked marks in subst P leads marked
 path_marked p marks closed a (t ∷ ts) v marked leads =
     let arc = arc_of t.edge t.forward in
+    let there = edge_before p t.edge leads.0.from_one in
     let P : ℕ → Type 0 = IsMarked marks in
     let next =
-    closed a marked arc (arc_of-below t.edge (length p.edges) t.forward leads.0.from_one leads.0.in_range) (arc_tail-arc_of p.edges t.edge t.forward ∙ leads.1) in
-    path_marked p marks closed (head_of (edge_at p t.edge) t.forward) ts v (subst P (arc_head-arc_of p.edges t.edge t.forward) next) leads.2
+    closed a marked arc (arc_of-below t.edge (length p.edges) t.forward leads.0.from_one leads.0.in_range)
+    (arc_tail-arc_of p.edges t.edge t.forward ∙ ap (λ x. tail_of x t.forward) (sym there) ∙ leads.1) in
+    path_marked p marks closed (head_of (edge_at p t.edge) t.forward) ts v
+    (subst P (arc_head-arc_of p.edges t.edge t.forward ∙ ap (λ x. head_of x t.forward) (sym there)) next) leads.2
 
 end_within : (x : Edge) (forward : Bool) (n : ℕ) → x.u ≤ n → x.v ≤ n → (tail_of x forward ≤ n) × (head_of x forward ≤ n)
 end_within x true n u v = (u, v)
@@ -77,8 +81,7 @@ end_within x false n u v = (v, u)
 -- where no end is out of range, the ends of the arcs are vertices
 pub ends_within : (p : Problem) → IsClear p 4 → EndsWithin p.edges p.vertices
 ends_within p clear arc below =
-    let back : arc / 2 + 1 - 1 ≡ arc / 2 = omega arith in
-    let small = rw back at (small_ends p (arc / 2 + 1) clear (record { from_one = omega arith; in_range = omega (arith, below) })) in
+    let small = rw (edge_after p (arc / 2)) at (small_ends p (arc / 2 + 1) clear (record { from_one = omega arith; in_range = omega (arith, below) })) in
     end_within (get_or p.edges (arc / 2) no_edge) (arc % 2 == 0) p.vertices small.0 small.1
 
 -- where each vertex that is found leads to marked vertices alone, the search is at its end

@@ -12,6 +12,7 @@ use Rattle.carp_base.proofs.Ranks.{only_reach, clear_below}
 use Rattle.carp_base.proofs.EdgeFaults.{EdgeFault, list_clear, list_first, position-None}
 use Rattle.carp_base.proofs.DraftFaults.{long, required_edges}
 use Rattle.carp_base.proofs.Ends.{small_ends}
+use Rattle.carp_base.proofs.Numbers.{edge_after, edge_before}
 
 not_from : (b : Bool) → (b ≡ true → ⊥) → not b ≡ true
 not_from true never = absurd (never refl)
@@ -26,9 +27,8 @@ module _ (p : Problem) (xs : List Edge) (is : xs ≡ take p.required p.edges) (w
   pub ends_marked : (marks : List Bool) → IsClear p 11 → length marks ≡ p.vertices + 1 → (k : ℕ) (x : Edge) → k < length xs → (get_or xs k x).u < length marks
   ends_marked marks clear many k x below =
       let few : k < p.required = omega (arith, long p xs is within, below) in
-      let back : k + 1 - 1 ≡ k = omega arith in
-      let small = rw back at (small_ends p (k + 1) (clear_below p 11 4 (omega arith) clear) (record { from_one = omega arith; in_range = omega arith })) in
-      let same : get_or xs k x ≡ get_or p.edges k no_edge = get_or_default xs k x no_edge below ∙ required_edges p xs is within k below in
+      let small = small_ends p (k + 1) (clear_below p 11 4 (omega arith) clear) (record { from_one = omega arith; in_range = omega arith }) in
+      let same : get_or xs k x ≡ edge_at p (k + 1) = get_or_default xs k x no_edge below ∙ required_edges p xs is within k below ∙ sym (edge_after p k) in
       omega (arith, ap (λ y. y.u) same, small.0)
 
   module _ (marks : List Bool) (reached : MarksReached p marks) where
@@ -56,5 +56,5 @@ module _ (p : Problem) (xs : List Edge) (is : xs ≡ take p.required p.edges) (w
     all_reached none e required =
         let below : e - 1 < length xs = omega (arith, long p xs is within, required.from_one, required.in_range) in
         let open_way = position-None (is_cut_off marks) xs (e - 1) no_edge none below in
-        let same = required_edges p xs is within (e - 1) below in
+        let same = required_edges p xs is within (e - 1) below ∙ sym (edge_before p e required.from_one) in
         reached.reached (edge_at p e).u (marked_from (get_or marks (edge_at p e).u false) (ap (is_cut_off marks) (sym same) ∙ open_way))

@@ -5,12 +5,13 @@ use Rattle.carp_base.specs.declared.edge.RawEdge.{RawEdge}
 use Rattle.carp_base.specs.declared.fault.InstanceFault.{InstanceFault}
 use Rattle.carp_base.specs.declared.fault.InstanceFault.TheVariants.{TooManyVertices, TooManyEdges, TooManyRequired, EndOutOfRange, Loop, CostTooLarge, CapacityOutOfRange, ZeroDemand, Overweight, DepotOutOfRange, TooManyStates, Unreachable, ServiceTooLarge}
 use Rattle.carp_base.specs.Problem.{Problem, described, edge_at, IsValid, IsVertex, IsEdgeNumber, IsRequired, IsFineEdge, IsFineTask, IsIdle}
-use Rattle.carp_base.specs.Faults.{Applies, rank_of}
+use Rattle.carp_base.specs.Faults.{FaultApplies, fault_rank}
 use Rattle.carp_base.specs.Checks.{IsClear}
 use Rattle.carp_base.specs.Search.{AreReached}
 use Rattle.carp_base.proofs.Bounds.{within, few_vertices, few_edges, few_required, capacity_in, depot_within}
 use Rattle.carp_base.proofs.Ends.{long, at_others}
 use Rattle.carp_base.proofs.Paths.{ends_within}
+use Rattle.carp_base.proofs.Numbers.{edge_before}
 use Rattle.carp_base.proofs.Ranks.{clear_below}
 use Rattle.carp_base.proofs.Reachable.{marks_of, true_or_false}
 
@@ -28,7 +29,7 @@ vertex_from p v never = record {
 }
 
 module _ (p : Problem) (clear : IsClear p 13) where
-  never : (f : InstanceFault) → rank_of f ≤ 13 → Applies p f → ⊥
+  never : (f : InstanceFault) → fault_rank f ≤ 13 → FaultApplies p f → ⊥
   never f low applies = absurd (omega (arith, clear.above f applies, low))
 
   fine_edge : (e : ℕ) → IsEdgeNumber p e → IsFineEdge p (edge_at p e)
@@ -72,11 +73,11 @@ module _ (p : Problem) (clear : IsClear p 13) where
 pub described_valid : (n d q : ℕ) (rs os : List RawEdge) → IsClear (described n d q rs os) 13 → AreReached (described n d q rs os) → IsValid (described n d q rs os)
 described_valid n d q rs os clear reached =
     valid_from (described n d q rs os) clear reached (omega (arith, long n d q rs os)) (λ e number past.
-    let is = at_others n d q rs os (e - 1) (omega (arith, past)) (omega (arith, number.in_range, past)) in
+    let is = edge_before (described n d q rs os) e number.from_one ∙ at_others n d q rs os (e - 1) (omega (arith, past)) (omega (arith, number.in_range, past)) in
     record { no_demand = ap (λ x. x.demand) is; no_service = ap (λ x. x.service) is })
 
 -- no fault applies to what is valid
-pub no_fault : (p : Problem) → IsValid p → (f : InstanceFault) → Applies p f → ⊥
+pub no_fault : (p : Problem) → IsValid p → (f : InstanceFault) → FaultApplies p f → ⊥
 no_fault p valid (TooManyVertices n) applies = omega (arith, valid.few_vertices, applies.0, applies.1)
 no_fault p valid (TooManyEdges n) applies = omega (arith, valid.few_edges, applies.0, applies.1)
 no_fault p valid (TooManyRequired n) applies = omega (arith, valid.few_required, applies.0, applies.1)
@@ -97,7 +98,7 @@ no_fault p valid (Unreachable e) applies = applies.1 (valid.tasks e applies.0).r
 no_fault p valid (ServiceTooLarge e) applies = omega (arith, (valid.tasks e applies.0).service_in, applies.1)
 
 -- where no fault applies, all ranks are clear and each required edge is reached
-pub valid_where_no_fault : (n d q : ℕ) (rs os : List RawEdge) → ((f : InstanceFault) → Applies (described n d q rs os) f → ⊥) → IsValid (described n d q rs os)
+pub valid_where_no_fault : (n d q : ℕ) (rs os : List RawEdge) → ((f : InstanceFault) → FaultApplies (described n d q rs os) f → ⊥) → IsValid (described n d q rs os)
 valid_where_no_fault n d q rs os none =
     let p = described n d q rs os in
     let clear : IsClear p 13 = record { above = λ f applies. absurd (none f applies) } in

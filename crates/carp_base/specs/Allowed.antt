@@ -1,18 +1,16 @@
 -- A symmetric relation on the required edges: which of them may be neighbours.
-use Rattle.std.specs.Prelude.{◌≡◌, ℕ, ◌+◌, ◌-◌, ◌*◌, ◌≤◌, ◌==◌, Bool, not, false, ◌⊎◌, List, length, slice_index_or}
+use Rattle.std.specs.Prelude.{◌≡◌, ℕ, zero, suc, ◌+◌, ◌*◌, ◌≤◌, ◌==◌, nat_lt, Bool, ◌&&◌, not, false, ◌⊎◌, List, length, slice_index_or}
 
 -- the entry of a pair stands in the row of its first edge, at the place of its second
 pub record Relation : Type 0 where
   pub size : ℕ
   pub table : List Bool
 
--- the place of a pair's entry
-abbrev pub place_of : ℕ → ℕ → ℕ → ℕ
-place_of size a b = (a - 1) * size + (b - 1)
-
--- the relation holds of two edges
+-- the relation holds of two edges, whose numbers are from 1 to the size; of other numbers it holds of none
 abbrev pub allows : Relation → ℕ → ℕ → Bool
-allows r a b = slice_index_or r.table (place_of r.size a b) false
+allows r zero b = false
+allows r (suc i) zero = false
+allows r (suc i) (suc j) = nat_lt j r.size && slice_index_or r.table (i * r.size + j) false
 
 -- one of the edges that the relation is on
 pub record IsOf (r : Relation) (a : ℕ) : Type 0 where

@@ -4,11 +4,11 @@ use Rattle.carp_base.specs.declared.edge.Edge.{Edge}
 use Rattle.carp_base.specs.declared.edge.RawEdge.{RawEdge}
 use Rattle.carp_base.specs.declared.fault.InstanceFault.{InstanceFault}
 use Rattle.carp_base.specs.Problem.{Problem}
-use Rattle.carp_base.specs.Faults.{Applies, rank_of}
+use Rattle.carp_base.specs.Faults.{FaultApplies, fault_rank}
 
 -- no fault of this rank or a lower one applies
 pub record IsClear (p : Problem) (rank : ℕ) : Type 0 where
-  pub above : (f : InstanceFault) → Applies p f → rank < rank_of f
+  pub above : (f : InstanceFault) → FaultApplies p f → rank < fault_rank f
 
 -- the number is that of no vertex
 abbrev pub is_outside : ℕ → ℕ → Bool

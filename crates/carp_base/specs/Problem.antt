@@ -1,5 +1,5 @@
 -- What an instance is: its numbers, its edges, and when it is valid (Golden and Wong 1981).
-use Rattle.std.specs.Prelude.{◌≡◌, ◌≢◌, ℕ, ◌+◌, ◌-◌, ◌*◌, ◌<◌, ◌≤◌, Bool, List, [], ◌∷◌, ◌++◌, map, length, take, drop, sum_by, slice_index_or, if◌then◌else◌}
+use Rattle.std.specs.Prelude.{◌≡◌, ◌≢◌, ℕ, zero, suc, ◌+◌, ◌*◌, ◌<◌, ◌≤◌, Bool, List, [], ◌∷◌, ◌++◌, map, length, take, drop, sum_by, slice_index_or, if◌then◌else◌}
 use Rattle.carp_base.specs.declared.edge.Edge.{Edge}
 use Rattle.carp_base.specs.declared.edge.RawEdge.{RawEdge}
 use Rattle.carp_base.specs.declared.edge.Task.{Task}
@@ -30,12 +30,14 @@ described vertices depot capacity required others = record {
   edges = map required_edge required ++ map other_edge others;
 }
 
+-- what stands where there is no edge: its ends are no vertices
 abbrev pub no_edge : Edge
 no_edge = record { u = 0; v = 0; cost = 0; demand = 0; service = 0 }
 
--- the edge of a number from 1; past the last number an edge of zeros, and 0 is read as 1, so `IsEdgeNumber` stands beside it
+-- the edge of a number from 1; 0 and the numbers past the last one are of no edge
 abbrev pub edge_at : Problem → ℕ → Edge
-edge_at p e = slice_index_or p.edges (e - 1) no_edge
+edge_at p zero = no_edge
+edge_at p (suc k) = slice_index_or p.edges k no_edge
 
 -- the number of an edge
 pub record IsEdgeNumber (p : Problem) (e : ℕ) : Type 0 where

@@ -1,6 +1,7 @@
 // Which required edges may be neighbours.
 ghost use Rattle.std.specs.Prelude.{◌≡◌, ◌<◌, ◌≤◌, IfOk, length};
-ghost use Rattle.carp_base.specs.Allowed.{IsOf, IsRelation, AllowsAll, TakesOut, allows, place_of};
+ghost use Rattle.carp_base.specs.Allowed.{IsOf, IsRelation, AllowsAll, TakesOut, allows};
+ghost use Rattle.carp_base.specs.Drafts.{entry_place};
 
 use crate::{Instance, Memory};
 use std::alloc::Global;
@@ -62,7 +63,7 @@ impl Allowed {
     fn place(&self, a: u32, b: u32) -> usize
         requires a_is_edge { IsOf self.now a }
         requires b_is_edge { IsOf self.now b }
-        ensures value { result ≡ place_of self.now.size a b }
+        ensures value { result ≡ entry_place self.now.size a b }
         ensures in_table { result < length self.now.table }
     {
         (a as usize - 1) * self.size + (b as usize - 1)

@@ -10,12 +10,12 @@ use std::alloc::Global;
 
 /// The numbers and lists of a description.
 #[derive(Clone, Copy)]
-pub struct Description<'a> {
-    pub vertices: u64,
-    pub depot: u64,
-    pub capacity: u64,
-    pub required: &'a [RawEdge],
-    pub others: &'a [RawEdge],
+pub(crate) struct Description<'a> {
+    pub(crate) vertices: u64,
+    pub(crate) depot: u64,
+    pub(crate) capacity: u64,
+    pub(crate) required: &'a [RawEdge],
+    pub(crate) others: &'a [RawEdge],
     ghost few_required: { length required.now < 2 ^ 32 },
     ghost few_others: { length others.now < 2 ^ 32 },
 }
@@ -71,7 +71,7 @@ impl Description<'_> {
     ghost use Rattle.carp_base.specs.Drafts.{drafted, stated};
 
     /// Looks for too many vertices or edges.
-    pub fn check_counts(&self) -> Result<(), InstanceFault>
+    pub(crate) fn check_counts(&self) -> Result<(), InstanceFault>
         ensures { MatchResult result (λ _. IsClear (stated self.now) 3) (λ fault. IsFirstFault (stated self.now) fault) }
     {
         let edges = self.required.len() as u64 + self.others.len() as u64;
@@ -87,7 +87,7 @@ impl Description<'_> {
     }
 
     /// Looks for an edge with an end that is no vertex.
-    pub fn check_ends(&self) -> Result<(), InstanceFault>
+    pub(crate) fn check_ends(&self) -> Result<(), InstanceFault>
         requires { IsClear (stated self.now) 3 }
         ensures { MatchResult result (λ _. IsClear (stated self.now) 4) (λ fault. IsFirstFault (stated self.now) fault) }
     {
@@ -101,7 +101,7 @@ impl Description<'_> {
     }
 
     /// The same with the edges in one list.
-    pub fn draft(&self, alloc: Global) -> Result<Draft, Memory>
+    pub(crate) fn draft(&self, alloc: Global) -> Result<Draft, Memory>
         requires { IsClear (stated self.now) 4 }
         ensures { IfOk result (λ draft. drafted draft ≡ stated self.now) }
     {

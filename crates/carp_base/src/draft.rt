@@ -11,12 +11,12 @@ use std::alloc::Global;
 
 /// The numbers and edges of a description, the required edges first.
 #[derive(Drop)]
-pub struct Draft {
-    pub vertices: u64,
-    pub depot: u64,
-    pub capacity: u64,
-    pub required: usize,
-    pub edges: Vec<Edge>,
+pub(crate) struct Draft {
+    pub(crate) vertices: u64,
+    pub(crate) depot: u64,
+    pub(crate) capacity: u64,
+    pub(crate) required: usize,
+    pub(crate) edges: Vec<Edge>,
     ghost required_in: { required ≤ vec_len edges },
 }
 
@@ -141,7 +141,7 @@ impl Draft {
     }
 
     /// Looks for the faults that need no search of the streets, from the loops to the number of states.
-    pub fn check_numbers(&self) -> Result<(), InstanceFault>
+    pub(crate) fn check_numbers(&self) -> Result<(), InstanceFault>
         requires { IsClear (drafted self.now) 4 }
         ensures { MatchResult result (λ _. IsClear (drafted self.now) 11) (λ fault. IsFirstFault (drafted self.now) fault) }
     {
@@ -155,7 +155,7 @@ impl Draft {
     }
 
     /// Looks for a service that costs too much.
-    pub fn check_services(&self) -> Result<(), InstanceFault>
+    pub(crate) fn check_services(&self) -> Result<(), InstanceFault>
         requires { IsClear (drafted self.now) 12 }
         ensures { MatchResult result (λ _. IsClear (drafted self.now) 13) (λ fault. IsFirstFault (drafted self.now) fault) }
     {
@@ -166,7 +166,7 @@ impl Draft {
     }
 
     /// Looks for a required edge that no path leads to.
-    pub fn check_reach(&self, alloc: Global) -> Result<(), Fail<InstanceFault>>
+    pub(crate) fn check_reach(&self, alloc: Global) -> Result<(), Fail<InstanceFault>>
         requires { IsClear (drafted self.now) 11 }
         ensures reached { OnOk result (AreReached (drafted self.now)) }
         ensures clear { OnOk result (IsClear (drafted self.now) 12) }

@@ -1,9 +1,9 @@
 // Small data on which a fact that no call decides holds, and on which it does not.
-ghost use Rattle.std.specs.Prelude.{[], ◌∷◌};
+ghost use Rattle.std.specs.Prelude.{◌≡◌, true, false, [], ◌∷◌};
 ghost use Rattle.carp_base.specs.declared.fault.InstanceFault.TheVariants.{CapacityOutOfRange, DepotOutOfRange, Loop};
-ghost use Rattle.carp_base.specs.Problem.{IsEdgeNumber, IsIdle, IsRequired, TasksLead, no_edge};
-ghost use Rattle.carp_base.specs.Faults.{IsBefore, IsFirstFault};
-ghost use Rattle.carp_base.specs.Allowed.{IsOf, IsRelation, IsSamePair, TakesOut};
+ghost use Rattle.carp_base.specs.Problem.{IsEdgeNumber, IsIdle, IsRequired, TasksLead, edge_at, no_edge};
+ghost use Rattle.carp_base.specs.Faults.{FaultNoLater, IsFirstFault};
+ghost use Rattle.carp_base.specs.Allowed.{IsOf, IsRelation, IsSamePair, TakesOut, allows};
 ghost use Rattle.carp_base.specs.Examples.{busy_edge, first_forward, nothing, one_order, pair_in, pair_out, second_backward, second_forward, two_streets};
 
 fn an_idle_edge()
@@ -18,6 +18,13 @@ fn a_number()
     ensures other { ¬ (IsRequired two_streets 2) }
 {}
 
+fn an_edge_of_a_number()
+    ensures first { (edge_at two_streets 1).v ≡ 2 }
+    ensures last { (edge_at two_streets 2).v ≡ 3 }
+    ensures zero { edge_at two_streets 0 ≡ no_edge }
+    ensures past { edge_at two_streets 3 ≡ no_edge }
+{}
+
 fn a_path_leads_there()
     ensures there { TasksLead two_streets 1 (first_forward ∷ second_forward ∷ []) 3 }
     ensures back { TasksLead two_streets 3 (second_backward ∷ []) 2 }
@@ -26,8 +33,8 @@ fn a_path_leads_there()
 {}
 
 fn a_fault_before_another()
-    ensures before { IsBefore (Loop 1) (Loop 2) }
-    ensures after { ¬ (IsBefore (Loop 2) (Loop 1)) }
+    ensures before { FaultNoLater (Loop 1) (Loop 2) }
+    ensures after { ¬ (FaultNoLater (Loop 2) (Loop 1)) }
 {}
 
 fn a_first_fault()
@@ -40,6 +47,14 @@ fn a_relation()
     ensures not_on { ¬ (IsOf pair_in 3) }
     ensures both_orders { IsRelation pair_in }
     ensures one_order { ¬ (IsRelation one_order) }
+{}
+
+fn an_allowed_pair()
+    ensures pair { allows pair_in 1 2 ≡ true }
+    ensures itself { allows pair_in 2 2 ≡ false }
+    ensures zero_first { allows pair_in 0 2 ≡ false }
+    ensures zero_second { allows pair_in 2 0 ≡ false }
+    ensures past { allows pair_in 1 3 ≡ false }
 {}
 
 fn a_same_pair()

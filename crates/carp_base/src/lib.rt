@@ -31,4 +31,6 @@ pub use laws::valid_where_no_fault;
 #[cfg(test)]
 mod examples;
 #[cfg(test)]
+mod fault_tests;
+#[cfg(test)]
 mod tests;

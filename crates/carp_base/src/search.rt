@@ -112,7 +112,7 @@ impl Finds {
 }
 
 /// Marks the vertices that a path leads to from the depot, by one look at each arc.
-pub fn marks_reached(alloc: Global, draft: &Draft) -> Result<Vec<bool>, Memory>
+pub(crate) fn marks_reached(alloc: Global, draft: &Draft) -> Result<Vec<bool>, Memory>
     requires few { draft.now.vertices < 2 ^ 32 }
     requires few_edges { vec_len draft.now.edges < 2 ^ 32 }
     requires ends { EndsWithin draft.now.edges.items draft.now.vertices }
