@@ -8,12 +8,12 @@ abbrev pub written_of : MemSink → List ℕ
 written_of sink = sink.taken.items
 
 -- how many bytes it takes in all
-abbrev pub room_of : MemSink → ℕ
-room_of sink = sink.room
+abbrev pub sink_room_of : MemSink → ℕ
+sink_room_of sink = sink.room
 
 -- how many bytes a put takes at most
-abbrev pub piece_of : MemSink → ℕ
-piece_of sink = sink.piece
+abbrev pub sink_piece_of : MemSink → ℕ
+sink_piece_of sink = sink.piece
 
 -- the puts so far
 abbrev pub puts_of : MemSink → CallLog

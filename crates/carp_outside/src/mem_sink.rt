@@ -22,7 +22,7 @@ pub struct MemSink {
 
 impl MemSink {
     ghost use Rattle.carp_outside.specs.Calls.{empty_log};
-    ghost use Rattle.carp_outside.specs.MemSink.{written_of, room_of, piece_of, puts_of};
+    ghost use Rattle.carp_outside.specs.MemSink.{written_of, sink_room_of, sink_piece_of, puts_of};
 
     /// A sink to which nothing was written. It takes at most `room` bytes in all, and at most `piece` at a call. The
     /// puts of the listed numbers fail.
@@ -34,8 +34,8 @@ impl MemSink {
     ) -> Result<MemSink, Memory>
         requires { 0 < piece }
         ensures nothing { IfOk result (λ sink. written_of sink ≡ []) }
-        ensures room { IfOk result (λ sink. room_of sink ≡ room) }
-        ensures piece { IfOk result (λ sink. piece_of sink ≡ piece) }
+        ensures room { IfOk result (λ sink. sink_room_of sink ≡ room) }
+        ensures piece { IfOk result (λ sink. sink_piece_of sink ≡ piece) }
         ensures puts { IfOk result (λ sink. puts_of sink ≡ empty_log failing.items) }
     {
         Ok(MemSink {
@@ -56,7 +56,7 @@ impl MemSink {
 
 impl Sink for MemSink {
     ghost use Rattle.carp_outside.specs.Calls.{IsListed, AddsCall};
-    ghost use Rattle.carp_outside.specs.MemSink.{written_of, room_of, piece_of, puts_of};
+    ghost use Rattle.carp_outside.specs.MemSink.{written_of, sink_room_of, sink_piece_of, puts_of};
 
     ghost tells = { true };
 
@@ -74,11 +74,11 @@ impl Sink for MemSink {
         ensures cause { HasCause (puts_of self.old).faults (puts_of self.new).faults result }
 
         // When it fails, how many bytes it takes otherwise, and what it counts.
-        ensures fails { IsErr result ↔ (IsListed (puts_of self.old) ⊎ (room_of self.old ≤ length (written_of self.old))) }
-        ensures as_many { IfOk result (λ n. n ≡ min (min (length piece.now) (piece_of self.old)) (room_of self.old - length (written_of self.old))) }
+        ensures fails { IsErr result ↔ (IsListed (puts_of self.old) ⊎ (sink_room_of self.old ≤ length (written_of self.old))) }
+        ensures as_many { IfOk result (λ n. n ≡ min (min (length piece.now) (sink_piece_of self.old)) (sink_room_of self.old - length (written_of self.old))) }
         ensures puts { AddsCall (puts_of self.old) (puts_of self.new) result }
-        ensures room { room_of self.new ≡ room_of self.old }
-        ensures piece { piece_of self.new ≡ piece_of self.old }
+        ensures room { sink_room_of self.new ≡ sink_room_of self.old }
+        ensures piece { sink_piece_of self.new ≡ sink_piece_of self.old }
     {
         if self.puts.next_fails() || self.taken.len() >= self.room {
             self.puts.add_fault();

@@ -50,6 +50,7 @@ pub fn read_whole<H: Shelf>(
     // What stays, whatever is answered.
     ensures contents { IsTrue H.tells → SameContents (H.contents shelf.old) (H.contents shelf.new) }
     ensures keeps { H.failed_keeps shelf.new ≡ H.failed_keeps shelf.old }
+    ensures given { H.given shelf.old ≤ H.given shelf.new }
     ensures looks { (other : List ℕ) → H.failed_looks shelf.old other ≤ H.failed_looks shelf.new other }
 {
     let mut bytes = Vec::new(alloc);

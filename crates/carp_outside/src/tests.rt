@@ -75,6 +75,23 @@ fn listed_looks_fail(rt: HostRuntime) -> Result<(), Failure> {
     Ok(())
 }
 
+// What the looks of a reading were is told by the number of the next look.
+#[test]
+fn no_look_comes_after_the_end(rt: HostRuntime) -> Result<(), Failure> {
+    let alloc = rt.alloc();
+    for (name, read, next) in [("file", true, 5), ("none", false, 2)] {
+        let mut shelf = MemShelf::new(alloc, 4, [next].to_vec(alloc)?, Vec::new(alloc));
+        shelf.place("file", b"0123456789")?;
+        assert_eq!(rt;
+            read_whole(alloc, &mut shelf, name, 100).is_ok(),
+            read,
+            "of {name}"
+        );
+        assert!(rt; shelf.look("file", 0, &mut [0; 4]).is_err(), "after {name}");
+    }
+    Ok(())
+}
+
 #[test]
 fn keeps_fail_where_listed_and_where_room_is_short(rt: HostRuntime) -> Result<(), Failure> {
     let alloc = rt.alloc();

@@ -10,6 +10,7 @@ loop-piece-preserved g c =
       there = λ told some. is_some_from_and _ _ _ (c.loop-piece.invariant.contents told c.args.name.now) (c.in-Ok.ensures.bytes told);
       contents = λ told name. c.look.ensures.contents told name ∙ c.loop-piece.invariant.contents told name;
       given = given_more _ _ _ _ _ _ c.loop-piece.invariant.given c.in-Ok.ensures.given more;
+      later = search rules;
       keeps = search rules;
       looks = search rules;
     }

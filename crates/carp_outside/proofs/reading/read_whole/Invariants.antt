@@ -10,6 +10,7 @@ invariant-loop-piece g l =
       there : IsTrue shelf.tells → 0 < length l.bytes.items → IsSome (shelf.contents l.fn.shelf l.name);
       contents : IsTrue shelf.tells → SameContents (shelf.contents l.fn.shelf) (shelf.contents l.shelf);
       given : RoseBy (length l.bytes.items) (shelf.given l.fn.shelf) (shelf.given l.shelf);
+      later : shelf.given l.fn.shelf ≤ shelf.given l.shelf;
       keeps : shelf.failed_keeps l.shelf ≡ shelf.failed_keeps l.fn.shelf;
       looks : (other : List ℕ) → shelf.failed_looks l.fn.shelf other ≤ shelf.failed_looks l.shelf other;
     }
