@@ -10,7 +10,7 @@ use Rattle.dat_text.specs.declared.key.Key.{Key}
 use Rattle.dat_text.specs.declared.key.Key.TheVariants.{Vertices, RequiredCount, OtherCount, Capacity, Depot, RequiredList, OtherList}
 use Rattle.dat_text.specs.Lines.{is_blank, Each, StartsWith, Part, Consists, IsBlank, EdgeNumbers, labelled, edge_parts, FitsList, IsEdgeLine, IsNumber, numbers_of}
 use Rattle.dat_text.specs.Lines.Part.{byte, word, number}
-use Rattle.dat_text.specs.Reading.{◌>>=◌, run_at, after_run, after_byte, after_letters, after_word, number_at, is_blank_line, labelled_at, optional_at, ends_at, edge_at}
+use Rattle.dat_text.specs.Reading.{◌>>=◌, run_at, after_run, after_byte, after_letters, after_word, number_at, is_blank_line, labelled_at, optional_at, ends_at, edge_line_at}
 use Rattle.dat_text.proofs.Runs.{run_whole, run_passes, run_is}
 use Rattle.dat_text.proofs.LineParts.{Apart, byte_begins, byte_found, word_begins, word_found, number_begins, number_found, part_stops, blank_stops}
 
@@ -137,8 +137,8 @@ ends_found u v text parts consists =
 
 -- the whole line
 
-pub edge_consists : (text : List ℕ) (x : EdgeNumbers) → edge_at text ≡ Some x → Consists (edge_parts x) IsBlank text
-unfolding edge_at
+pub edge_consists : (text : List ℕ) (x : EdgeNumbers) → edge_line_at text ≡ Some x → Consists (edge_parts x) IsBlank text
+unfolding edge_line_at
 edge_consists text x e =
     let a = bind_some (ends_at text)
     (λ ends. labelled_at (codes "coste") ends.2 >>= λ cost. optional_at (codes "demanda") cost.1 >>= λ demand. optional_at (codes "servicio") demand.1 >>= λ service.
@@ -173,23 +173,23 @@ cost_found u v cost text parts stops consists =
     (a.0, b.0, a.1, b.1, b.2)
 
 plain_found : (u v cost text : List ℕ) → Consists (edge_parts (record { u = u; v = v; cost = cost; demand = None; service = None })) IsBlank text →
-    edge_at text ≡ Some (record { u = u; v = v; cost = cost; demand = None; service = None })
-unfolding edge_at
+    edge_line_at text ≡ Some (record { u = u; v = v; cost = cost; demand = None; service = None })
+unfolding edge_line_at
 plain_found u v cost text consists =
     let a = cost_found u v cost text [] blank_stops consists in
     rw (a.2, a.3, optional_none (codes "demanda") a.1 a.4, optional_none (codes "servicio") a.1 a.4, blank_is_tested a.1 a.4) refl
 
 demand_found : (u v cost demand text : List ℕ) → Consists (edge_parts (record { u = u; v = v; cost = cost; demand = Some demand; service = None })) IsBlank text →
-    edge_at text ≡ Some (record { u = u; v = v; cost = cost; demand = Some demand; service = None })
-unfolding edge_at
+    edge_line_at text ≡ Some (record { u = u; v = v; cost = cost; demand = Some demand; service = None })
+unfolding edge_line_at
 demand_found u v cost demand text consists =
     let a = cost_found u v cost text (word (codes "demanda") ∷ number demand ∷ []) (word_stops (codes "demanda") (number demand ∷ []) refl) consists in
     let b = labelled_found (codes "demanda") demand a.1 [] refl blank_stops a.4 in
     rw (a.2, a.3, optional_some (codes "demanda") demand a.1 b.0 refl b.1, optional_none (codes "servicio") b.0 b.2, blank_is_tested b.0 b.2) refl
 
 service_found : (u v cost demand service text : List ℕ) → Consists (edge_parts (record { u = u; v = v; cost = cost; demand = Some demand; service = Some service })) IsBlank text →
-    edge_at text ≡ Some (record { u = u; v = v; cost = cost; demand = Some demand; service = Some service })
-unfolding edge_at
+    edge_line_at text ≡ Some (record { u = u; v = v; cost = cost; demand = Some demand; service = Some service })
+unfolding edge_line_at
 service_found u v cost demand service text consists =
     let a = cost_found u v cost text (word (codes "demanda") ∷ number demand ∷ word (codes "servicio") ∷ number service ∷ []) (word_stops (codes "demanda") (number demand ∷ word (codes "servicio") ∷ number service ∷ []) refl) consists in
     let b = labelled_found (codes "demanda") demand a.1 (word (codes "servicio") ∷ number service ∷ []) refl (word_stops (codes "servicio") (number service ∷ []) refl) a.4 in
@@ -199,7 +199,7 @@ service_found u v cost demand service text consists =
 -- a line with the shape of a list is read
 fitting_found : (list : Key) (u v cost : List ℕ) (demand service : Option (List ℕ)) (text : List ℕ) → FitsList list (record { u = u; v = v; cost = cost; demand = demand; service = service }) →
     Consists (edge_parts (record { u = u; v = v; cost = cost; demand = demand; service = service })) IsBlank text →
-    edge_at text ≡ Some (record { u = u; v = v; cost = cost; demand = demand; service = service })
+    edge_line_at text ≡ Some (record { u = u; v = v; cost = cost; demand = demand; service = service })
 fitting_found list u v cost None None text fits consists = plain_found u v cost text consists
 fitting_found list u v cost (Some demand) None text fits consists = demand_found u v cost demand text consists
 fitting_found list u v cost (Some demand) (Some service) text fits consists = service_found u v cost demand service text consists
@@ -211,7 +211,7 @@ fitting_found Depot u v cost None (Some service) text fits consists = absurd fit
 fitting_found RequiredList u v cost None (Some service) text fits consists = absurd (false≢true fits)
 fitting_found OtherList u v cost None (Some service) text fits consists = absurd (none-some service (sym fits.1))
 
-pub edge_found : (list : Key) (x : EdgeNumbers) (text : List ℕ) → IsEdgeLine list x text → edge_at text ≡ Some x
+pub edge_found : (list : Key) (x : EdgeNumbers) (text : List ℕ) → IsEdgeLine list x text → edge_line_at text ≡ Some x
 edge_found list x text h = fitting_found list x.u x.v x.cost x.demand x.service text h.fits h.consists
 
 -- the parts of a line that are numbers are numbers

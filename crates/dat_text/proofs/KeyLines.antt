@@ -6,7 +6,7 @@ use Rattle.std.proofs.lemmas.Option.{none-some}
 use Rattle.dat_text.specs.declared.key.Key.{Key}
 use Rattle.dat_text.specs.declared.key.Key.TheVariants.{Vertices, RequiredCount, OtherCount, Capacity, Depot, RequiredList, OtherList}
 use Rattle.dat_text.specs.Lines.{is_blank, is_key_byte, StartsWith, SameLetters, key_name, HasKey, IsOpened, IsSkipped}
-use Rattle.dat_text.specs.Text.{place_of}
+use Rattle.dat_text.specs.Text.{key_place}
 use Rattle.dat_text.specs.Kinds.{NamesNone}
 use Rattle.dat_text.specs.Reading.{run_at, after_run, after_byte}
 use Rattle.dat_text.proofs.Runs.{run_whole, run_passes, rest_stops, run_is}
@@ -15,7 +15,7 @@ use Rattle.dat_text.proofs.LineParts.{Apart, behind_blanks, byte_begins, byte_fo
 all_keys : List Key
 all_keys = Vertices ∷ RequiredCount ∷ OtherCount ∷ Capacity ∷ Depot ∷ RequiredList ∷ OtherList ∷ []
 
-key_at_place : (key : Key) → get_or all_keys (place_of key) Vertices ≡ key
+key_at_place : (key : Key) → get_or all_keys (key_place key) Vertices ≡ key
 unfolding all_keys
 key_at_place Vertices = refl
 key_at_place RequiredCount = refl
@@ -28,18 +28,18 @@ key_at_place OtherList = refl
 -- one more key of the list does not have the name
 pub none_more : (name : List ℕ) (i : ℕ) (other : List ℕ) →
     other ≡ key_name (get_or (Vertices ∷ RequiredCount ∷ OtherCount ∷ Capacity ∷ Depot ∷ RequiredList ∷ OtherList ∷ []) i Vertices) →
-    ¬ (SameLetters name other) → ((key : Key) → place_of key < i → ¬ (SameLetters name (key_name key))) →
-    (key : Key) → place_of key < i + 1 → ¬ (SameLetters name (key_name key))
+    ¬ (SameLetters name other) → ((key : Key) → key_place key < i → ¬ (SameLetters name (key_name key))) →
+    (key : Key) → key_place key < i + 1 → ¬ (SameLetters name (key_name key))
 unfolding all_keys
-none_more name i other is differs before key below same = elim (cases_lt (place_of key) i) [
+none_more name i other is differs before key below same = elim (cases_lt (key_place key) i) [
   | inl less ↦ before key less same
   | inr more ↦
-      let at : place_of key ≡ i = omega (arith, below, more) in
+      let at : key_place key ≡ i = omega (arith, below, more) in
       let named : key_name key ≡ other = ap key_name (sym (key_at_place key) ∙ ap (λ (k : ℕ). get_or all_keys k Vertices) at) ∙ sym is in
       differs (same ∙ ap (map to_ascii_lowercase) named)
 ]
 
-place_small : (key : Key) → place_of key < 7
+place_small : (key : Key) → key_place key < 7
 place_small Vertices = lit< tt
 place_small RequiredCount = lit< tt
 place_small OtherCount = lit< tt
@@ -49,7 +49,7 @@ place_small RequiredList = lit< tt
 place_small OtherList = lit< tt
 
 -- where none of the list has the name, no key has
-pub none_of_all : (name : List ℕ) (i : ℕ) → 7 ≤ i → ((key : Key) → place_of key < i → ¬ (SameLetters name (key_name key))) → NamesNone name
+pub none_of_all : (name : List ℕ) (i : ℕ) → 7 ≤ i → ((key : Key) → key_place key < i → ¬ (SameLetters name (key_name key))) → NamesNone name
 none_of_all name i all none key = none key (omega (arith, place_small key))
 
 pub is_opened : (line rest : List ℕ) → after_byte 40 line ≡ Some rest → IsOpened line

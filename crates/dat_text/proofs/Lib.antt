@@ -1,4 +1,3 @@
-pub mod FlatMaps
 pub mod Runs
 pub mod LineParts
 pub mod KeyLines

@@ -11,8 +11,8 @@ use Rattle.dat_text.specs.declared.fault.DatFault.{DatFault}
 use Rattle.dat_text.specs.declared.fault.DatFault.TheVariants.{Syntax, MissingKey, DoubleKey, CountDiffers, NumberTooLong, Refused}
 use Rattle.dat_text.specs.Lines.{is_blank, is_key_byte, SameLetters, key_name, HasKey, HasKeyShape, IsKeyLine, IsOpened, EdgeNumbers, IsEdgeLine, IsShort, AreShort, numbers_of, edge_of}
 use Rattle.dat_text.specs.Reading.{run_at, after_run, after_byte}
-use Rattle.dat_text.specs.Text.{Entry, stands, Says, IsBadEdge, IsBadKey, IsLongEdge, IsLongKey, IsDouble, IsBad}
-use Rattle.dat_text.specs.Text.Entry.{nothing, states, lists}
+use Rattle.dat_text.specs.Text.{Statement, stands, Says, IsBadEdge, IsBadKey, IsLongEdge, IsLongKey, IsDouble, IsBad, LatestFirst}
+use Rattle.dat_text.specs.Text.Statement.{nothing, states, lists}
 use Rattle.dat_text.proofs.LineParts.{byte_found, first_found}
 use Rattle.dat_text.proofs.KeyLines.{key_found}
 use Rattle.dat_text.proofs.KeyShapes.{stated_found}
@@ -94,7 +94,7 @@ no_key_edge key list line rest x a b = no_key_opened key line rest a (opens list
 
 -- A line says one thing at most.
 
-pub one_entry : (before : List Entry) (line : List ℕ) (e f : Entry) → Says before line e → Says before line f → e ≡ f
+pub one_entry : (before : LatestFirst) (line : List ℕ) (e f : Statement) → Says before line e → Says before line f → e ≡ f
 one_entry before line nothing nothing a b = refl
 one_entry before line nothing (states k n) a b = absurd (a.no_key k b.is_line.rest b.is_line.has_key)
 one_entry before line nothing (lists list x) a b = absurd (a.no_edge (opens list b.numbers line b.is_line))
@@ -114,17 +114,17 @@ one_entry before line (lists list x) (lists other y) a b =
 
 -- A good line has no fault.
 
-no_bad_edge : (before : List Entry) (line : List ℕ) (e : Entry) → Says before line e → IsBadEdge before line → ⊥
+no_bad_edge : (before : LatestFirst) (line : List ℕ) (e : Statement) → Says before line e → IsBadEdge before line → ⊥
 no_bad_edge before line nothing a bad = a.no_edge bad.opened
 no_bad_edge before line (states k n) a bad = no_key_opened k line a.is_line.rest a.is_line.has_key bad.opened
 no_bad_edge before line (lists list x) a bad = bad.no_shape list a.numbers a.under a.is_line
 
-no_bad_key : (before : List Entry) (line : List ℕ) (e : Entry) → Says before line e → IsBadKey line → ⊥
+no_bad_key : (before : LatestFirst) (line : List ℕ) (e : Statement) → Says before line e → IsBadKey line → ⊥
 no_bad_key before line nothing a bad = a.no_key bad.k bad.rest bad.has_key
 no_bad_key before line (states k n) a bad = bad.no_shape a.digits (shape_there k bad.k line a.is_line.rest bad.rest a.digits a.is_line.has_key bad.has_key a.is_line.has_shape)
 no_bad_key before line (lists list x) a bad = no_key_edge bad.k list line bad.rest a.numbers bad.has_key a.is_line
 
-no_long_edge : (before : List Entry) (line : List ℕ) (e : Entry) → Says before line e → IsLongEdge before line → ⊥
+no_long_edge : (before : LatestFirst) (line : List ℕ) (e : Statement) → Says before line e → IsLongEdge before line → ⊥
 no_long_edge before line nothing a bad = a.no_edge (opens bad.list bad.numbers line bad.is_line)
 no_long_edge before line (states k n) a bad = no_key_edge k bad.list line a.is_line.rest bad.numbers a.is_line.has_key bad.is_line
 no_long_edge before line (lists list x) a bad =
@@ -135,18 +135,18 @@ long_and_short d digits same short long =
     let within : length digits ≤ 18 = subst (λ (o : Option (List ℕ)). IfSome o IsShort) same short in
     omega arith
 
-no_long_key : (before : List Entry) (line : List ℕ) (e : Entry) → Says before line e → IsLongKey line → ⊥
+no_long_key : (before : LatestFirst) (line : List ℕ) (e : Statement) → Says before line e → IsLongKey line → ⊥
 no_long_key before line nothing a bad = a.no_key bad.k bad.is_line.rest bad.is_line.has_key
 no_long_key before line (states k n) a bad = long_and_short a.digits bad.digits (one_key_line k bad.k a.digits (Some bad.digits) line a.is_line bad.is_line).1 a.short bad.long
 no_long_key before line (lists list x) a bad = no_key_edge bad.k list line bad.is_line.rest a.numbers bad.is_line.has_key a.is_line
 
-no_double : (before : List Entry) (line : List ℕ) (e : Entry) (l : Key) → Says before line e → IsDouble before line l → ⊥
+no_double : (before : LatestFirst) (line : List ℕ) (e : Statement) (l : Key) → Says before line e → IsDouble before line l → ⊥
 no_double before line nothing l a bad = a.no_key l bad.is_line.rest bad.is_line.has_key
 no_double before line (states k n) l a bad =
     true≢false (sym bad.again ∙ ap (λ (key : Key). stands key before) (sym (one_key_line k l a.digits bad.digits line a.is_line bad.is_line).0) ∙ a.once)
 no_double before line (lists list x) l a bad = no_key_edge l list line bad.is_line.rest a.numbers bad.is_line.has_key a.is_line
 
-pub no_bad : (before : List Entry) (at : ℕ) (line : List ℕ) (e : Entry) (fault : DatFault) → Says before line e → IsBad before at line fault → ⊥
+pub no_bad : (before : LatestFirst) (at : ℕ) (line : List ℕ) (e : Statement) (fault : DatFault) → Says before line e → IsBad before at line fault → ⊥
 no_bad before at line e (Syntax n) a bad = elim bad.1 [ inl edge ↦ no_bad_edge before line e a edge | inr key ↦ no_bad_key before line e a key ]
 no_bad before at line e (MissingKey k) a bad = bad
 no_bad before at line e (DoubleKey k) a bad = no_double before line e k a bad
@@ -156,21 +156,21 @@ no_bad before at line e (Refused fault) a bad = bad
 
 -- A line has one fault at most.
 
-syntax_or_long : (before : List Entry) (line : List ℕ) → IsBadEdge before line ⊎ IsBadKey line → IsLongEdge before line ⊎ IsLongKey line → ⊥
+syntax_or_long : (before : LatestFirst) (line : List ℕ) → IsBadEdge before line ⊎ IsBadKey line → IsLongEdge before line ⊎ IsLongKey line → ⊥
 syntax_or_long before line (inl a) (inl b) = a.no_shape b.list b.numbers b.under b.is_line
 syntax_or_long before line (inl a) (inr b) = no_key_opened b.k line b.is_line.rest b.is_line.has_key a.opened
 syntax_or_long before line (inr a) (inl b) = no_key_edge a.k b.list line a.rest b.numbers a.has_key b.is_line
 syntax_or_long before line (inr a) (inr b) = a.no_shape (Some b.digits) (shape_there b.k a.k line b.is_line.rest a.rest (Some b.digits) b.is_line.has_key a.has_key b.is_line.has_shape)
 
-syntax_or_double : (before : List Entry) (line : List ℕ) (k : Key) → IsBadEdge before line ⊎ IsBadKey line → IsDouble before line k → ⊥
+syntax_or_double : (before : LatestFirst) (line : List ℕ) (k : Key) → IsBadEdge before line ⊎ IsBadKey line → IsDouble before line k → ⊥
 syntax_or_double before line k (inl a) b = no_key_opened k line b.is_line.rest b.is_line.has_key a.opened
 syntax_or_double before line k (inr a) b = a.no_shape b.digits (shape_there k a.k line b.is_line.rest a.rest b.digits b.is_line.has_key a.has_key b.is_line.has_shape)
 
-long_or_double : (before : List Entry) (line : List ℕ) (k : Key) → IsLongEdge before line ⊎ IsLongKey line → IsDouble before line k → ⊥
+long_or_double : (before : LatestFirst) (line : List ℕ) (k : Key) → IsLongEdge before line ⊎ IsLongKey line → IsDouble before line k → ⊥
 long_or_double before line k (inl a) b = no_key_edge k a.list line b.is_line.rest a.numbers b.is_line.has_key a.is_line
 long_or_double before line k (inr a) b = long_and_short b.digits a.digits (one_key_line k a.k b.digits (Some a.digits) line b.is_line a.is_line).1 b.short a.long
 
-pub one_bad : (before : List Entry) (at : ℕ) (line : List ℕ) (f g : DatFault) → IsBad before at line f → IsBad before at line g → f ≡ g
+pub one_bad : (before : LatestFirst) (at : ℕ) (line : List ℕ) (f g : DatFault) → IsBad before at line f → IsBad before at line g → f ≡ g
 one_bad before at line (MissingKey k) g a b = absurd a
 one_bad before at line (CountDiffers k stated found) g a b = absurd a
 one_bad before at line (Refused fault) g a b = absurd a

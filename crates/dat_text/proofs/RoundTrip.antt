@@ -1,5 +1,5 @@
 -- The text that is written of an instance is a text of this instance.
-use Rattle.std.proofs.Common.{◌≡◌, ℕ, ◌+◌, ◌-◌, ◌*◌, ◌^◌, ◌<◌, ◌≤◌, Bool, true, false, cond, List, [], ◌∷◌, ◌++◌, length, map, get_or, Option, Some, None, refl, sym, ap, subst, ◌∙◌, append_assoc, arith, length-drop}
+use Rattle.std.proofs.Common.{add-one, ◌≡◌, ℕ, ◌+◌, ◌-◌, ◌*◌, ◌^◌, ◌<◌, ◌≤◌, Bool, true, false, cond, List, [], ◌∷◌, ◌++◌, length, map, get_or, Option, Some, None, refl, sym, ap, subst, ◌∙◌, append_assoc, arith, length-drop}
 use Rattle.std.specs.List.{AllByRecursion, All}
 use Rattle.std.specs.Int.{div_ceil}
 use Rattle.std.proofs.Math.Nat.{div-le_self}
@@ -8,57 +8,57 @@ use Rattle.std.proofs.lemmas.List.Elements.{recursion_from_All}
 use Rattle.std.proofs.lemmas.List.Sums.{sum_by-le}
 use Rattle.carp_base.specs.declared.edge.Edge.{Edge}
 use Rattle.carp_base.specs.declared.edge.RawEdge.{RawEdge}
-use Rattle.carp_base.specs.Problem.{Problem, IsValid, IsFineEdge, IsIdle, required_edges, other_edges, total_demand, required_cost, required_edge, other_edge, no_edge}
+use Rattle.carp_base.specs.Problem.{Problem, IsValid, IsFineEdge, IsIdle, required_edges, other_edges, total_demand, required_cost, required_edge, other_edge, no_edge, edge_at}
 use Rattle.dat_text.specs.declared.key.Key.{Key}
 use Rattle.dat_text.specs.declared.key.Key.TheVariants.{Vertices, RequiredCount, OtherCount, Capacity, Depot, RequiredList, OtherList}
 use Rattle.dat_text.specs.DatText.{dat_of, counts_text, totals_text}
-use Rattle.dat_text.specs.Text.{Entry, lines_of, same_key, stands, number_of, edges_of, AllSay, Description, problem_of, IsComplete, IsTextOf}
-use Rattle.dat_text.specs.Text.Entry.{nothing, states, lists}
+use Rattle.dat_text.specs.Text.{Statement, lines_of, same_key, stands, number_of, edges_of, AreGood, Description, problem_of, IsComplete, IsTextOf, LatestFirst}
+use Rattle.dat_text.specs.Text.Statement.{nothing, states, lists}
 use Rattle.dat_text.proofs.WrittenLines.{Adds, Adds-append, number_adds, list_adds, name_skipped, comment_skipped, costs_skipped, vehicles_skipped, total_skipped, empty_skipped}
 use Rattle.dat_text.proofs.WrittenEdges.{IsSmall, required_raw, other_raw, listed, all_required_add, all_others_add}
 
 -- What is said after the edges of a list.
 
-stands_listed : (k list : Key) (xs : List RawEdge) (said : List Entry) → stands k (listed list xs said) ≡ stands k said
+stands_listed : (k list : Key) (xs : List RawEdge) (said : LatestFirst) → stands k (listed list xs said) ≡ stands k said
 stands_listed k list [] said = refl
 stands_listed k list (x ∷ xs) said = stands_listed k list xs (lists list x ∷ said)
 
-number_listed : (k list : Key) (xs : List RawEdge) (said : List Entry) → number_of k (listed list xs said) ≡ number_of k said
+number_listed : (k list : Key) (xs : List RawEdge) (said : LatestFirst) → number_of k (listed list xs said) ≡ number_of k said
 number_listed k list [] said = refl
 number_listed k list (x ∷ xs) said = number_listed k list xs (lists list x ∷ said)
 
-edges_listed : (list : Key) (xs : List RawEdge) (said : List Entry) → same_key list list ≡ true → edges_of list (listed list xs said) ≡ edges_of list said ++ xs
+edges_listed : (list : Key) (xs : List RawEdge) (said : LatestFirst) → same_key list list ≡ true → edges_of list (listed list xs said) ≡ edges_of list said ++ xs
 edges_listed list [] said same = sym (append-nil (edges_of list said))
 edges_listed list (x ∷ xs) said same =
     edges_listed list xs (lists list x ∷ said) same
     ∙ ap (λ (t : Bool). cond t (edges_of list said ++ x ∷ []) (edges_of list said) ++ xs) same ∙ append_assoc (edges_of list said) (x ∷ []) xs
 
-edges_beside : (k list : Key) (xs : List RawEdge) (said : List Entry) → same_key list k ≡ false → edges_of k (listed list xs said) ≡ edges_of k said
+edges_beside : (k list : Key) (xs : List RawEdge) (said : LatestFirst) → same_key list k ≡ false → edges_of k (listed list xs said) ≡ edges_of k said
 edges_beside k list [] said other = refl
 edges_beside k list (x ∷ xs) said other =
     edges_beside k list xs (lists list x ∷ said) other ∙ ap (λ (t : Bool). cond t (edges_of k said ++ x ∷ []) (edges_of k said)) other
 
 -- The numbers of a valid instance are small.
 
+edge_after : (p : Problem) (i : ℕ) → edge_at p (i + 1) ≡ get_or p.edges i no_edge
+edge_after p i = rw add-one refl
+
 at_fine : (p : Problem) (i : ℕ) (d : Edge) → IsValid p → i < length p.edges → IsFineEdge p (get_or p.edges i d)
 at_fine p i d valid below =
     let fine = valid.edges (i + 1) (record { from_one = omega arith; in_range = omega arith }) in
-    let here : i + 1 - 1 ≡ i = omega arith in
-    subst (λ (x : Edge). IsFineEdge p x) (ap (λ (k : ℕ). get_or p.edges k no_edge) here ∙ get_or_default p.edges i no_edge d below) fine
+    subst (λ (x : Edge). IsFineEdge p x) (edge_after p i ∙ get_or_default p.edges i no_edge d below) fine
 
 at_task : (p : Problem) (i : ℕ) (d : Edge) → IsValid p → i < p.required → (get_or p.edges i d).demand ≤ 30000 × (get_or p.edges i d).service ≤ 1000000
 at_task p i d valid below =
     let task = valid.tasks (i + 1) (record { from_one = omega arith; in_range = omega arith }) in
-    let here : i + 1 - 1 ≡ i = omega arith in
     let within : i < length p.edges = omega (arith, valid.required_in) in
-    subst (λ (x : Edge). (x.demand ≤ 30000) × (x.service ≤ 1000000)) (ap (λ (k : ℕ). get_or p.edges k no_edge) here ∙ get_or_default p.edges i no_edge d within)
+    subst (λ (x : Edge). (x.demand ≤ 30000) × (x.service ≤ 1000000)) (edge_after p i ∙ get_or_default p.edges i no_edge d within)
     (omega (arith, task.demand_fits, valid.capacity_in), task.service_in)
 
 at_idle : (p : Problem) (i : ℕ) (d : Edge) → IsValid p → p.required ≤ i → i < length p.edges → IsIdle (get_or p.edges i d)
 at_idle p i d valid from below =
     let idle = valid.idle (i + 1) (record { from_one = omega arith; in_range = omega arith }) (omega arith) in
-    let here : i + 1 - 1 ≡ i = omega arith in
-    subst (λ (x : Edge). IsIdle x) (ap (λ (k : ℕ). get_or p.edges k no_edge) here ∙ get_or_default p.edges i no_edge d below) idle
+    subst (λ (x : Edge). IsIdle x) (edge_after p i ∙ get_or_default p.edges i no_edge d below) idle
 
 small_required : (p : Problem) → IsValid p → All (λ (x : Edge). IsSmall x × (x.demand ≤ 30000) × (x.service ≤ 1000000)) (required_edges p)
 small_required p valid i d below =
@@ -107,19 +107,19 @@ small_vehicles demand capacity small = omega (arith, div-le_self demand capacity
 
 -- What the text says.
 
-abbrev counts_said : Problem → List Entry
+abbrev counts_said : Problem → LatestFirst
 counts_said p = states OtherCount (Some (length (other_edges p))) ∷ states RequiredCount (Some p.required) ∷ states Vertices (Some p.vertices) ∷ nothing ∷ nothing ∷ []
 
-abbrev totals_said : Problem → List Entry
+abbrev totals_said : Problem → LatestFirst
 totals_said p = nothing ∷ nothing ∷ states Capacity (Some p.capacity) ∷ nothing ∷ counts_said p
 
-abbrev required_said : Problem → List Entry
+abbrev required_said : Problem → LatestFirst
 required_said p = listed RequiredList (map required_raw (required_edges p)) (states RequiredList None ∷ totals_said p)
 
-abbrev others_said : Problem → List Entry
+abbrev others_said : Problem → LatestFirst
 others_said p = listed OtherList (map other_raw (other_edges p)) (states OtherList None ∷ required_said p)
 
-abbrev dat_said : Problem → List Entry
+abbrev dat_said : Problem → LatestFirst
 dat_said p = states Depot (Some p.depot) ∷ others_said p
 
 counts_add : (p : Problem) → IsValid p → Adds (counts_text p) [] (counts_said p)
@@ -225,8 +225,8 @@ problem_back p valid =
 pub written_text : (p : Problem) → IsValid p → IsTextOf (dat_of p) p
 written_text p valid =
     let said = nothing ∷ dat_said p in
-    let lines : AllSay [] (lines_of (dat_of p)) said =
-    subst (λ (text : List ℕ). AllSay [] (lines_of text) said) (append-nil (dat_of p)) ((dat_adds p valid).adds [] said (nothing, empty_skipped, refl)) in
+    let lines : AreGood [] (lines_of (dat_of p)) said =
+    subst (λ (text : List ℕ). AreGood [] (lines_of text) said) (append-nil (dat_of p)) ((dat_adds p valid).adds [] said (nothing, empty_skipped, refl)) in
     record {
       description = description_for p;
       describes = record { said = said; lines = lines; complete = dat_complete p valid };

@@ -12,17 +12,17 @@ use Rattle.dat_text.specs.declared.key.Key.{Key}
 use Rattle.dat_text.specs.declared.key.Key.TheVariants.{Vertices, RequiredList, OtherList}
 use Rattle.dat_text.specs.declared.fault.DatFault.{DatFault}
 use Rattle.dat_text.specs.declared.fault.DatFault.TheVariants.{Syntax, MissingKey, DoubleKey, CountDiffers, NumberTooLong, Refused}
-use Rattle.dat_text.specs.Text.{Entry, lines_of, same_key, number_of, edges_of, AllSay, FirstBad, Description, Describes, IsFaultOf}
-use Rattle.dat_text.specs.Text.Entry.{nothing, states, lists}
+use Rattle.dat_text.specs.Text.{Statement, lines_of, same_key, number_of, edges_of, AreGood, HasFirstBad, Description, Describes, IsFaultOf, LatestFirst}
+use Rattle.dat_text.specs.Text.Statement.{nothing, states, lists}
 use Rattle.dat_text.specs.Drafts.{ReadsLines, ReadsText}
 
 -- a bad line's fault is none of the instance
-no_bad_refusal : (before : List Entry) (at : ℕ) (lines : List (List ℕ)) (fault : InstanceFault) → FirstBad before at lines (Refused fault) → ⊥
+no_bad_refusal : (before : LatestFirst) (at : ℕ) (lines : List (List ℕ)) (fault : InstanceFault) → HasFirstBad before at lines (Refused fault) → ⊥
 no_bad_refusal before at [] fault bad = bad
 no_bad_refusal before at (line ∷ lines) fault (inl bad) = bad
 no_bad_refusal before at (line ∷ lines) fault (inr more) = no_bad_refusal (more.0 ∷ before) (at + 1) lines fault more.2
 
-pub bad_is_fault : (bytes : List ℕ) (fault : DatFault) → FirstBad [] 1 (lines_of bytes) fault → IsFaultOf bytes fault
+pub bad_is_fault : (bytes : List ℕ) (fault : DatFault) → HasFirstBad [] 1 (lines_of bytes) fault → IsFaultOf bytes fault
 bad_is_fault bytes (Syntax n) bad = inl bad
 bad_is_fault bytes (MissingKey k) bad = inl bad
 bad_is_fault bytes (DoubleKey k) bad = inl bad
@@ -36,7 +36,7 @@ refused_text bytes (fails.Refused fault) reads = bad_is_fault bytes fault reads
 
 -- How many edges there are.
 
-said_length : (before : List Entry) (lines : List (List ℕ)) (said : List Entry) → AllSay before lines said → length said ≡ length before + length lines
+said_length : (before : LatestFirst) (lines : List (List ℕ)) (said : LatestFirst) → AreGood before lines said → length said ≡ length before + length lines
 said_length before [] said says = ap length says ∙ omega arith
 said_length before (line ∷ lines) said says = said_length (says.0 ∷ before) lines said says.2 ∙ omega arith
 
@@ -44,20 +44,20 @@ edge_step : (t : Bool) (xs : List RawEdge) (x : RawEdge) → length (cond t (xs 
 edge_step true xs x = omega (arith, length_push xs x)
 edge_step false xs x = omega arith
 
-edges_within : (list : Key) (said : List Entry) → length (edges_of list said) ≤ length said
+edges_within : (list : Key) (said : LatestFirst) → length (edges_of list said) ≤ length said
 edges_within list [] = omega arith
 edges_within list (nothing ∷ said) = omega (arith, edges_within list said)
 edges_within list (states k n ∷ said) = omega (arith, edges_within list said)
 edges_within list (lists other x ∷ said) = omega (arith, edges_within list said, edge_step (same_key other list) (edges_of list said) x)
 
 -- where a number stands, not all entries are edges
-edges_below : (list k : Key) (n : ℕ) (said : List Entry) → number_of k said ≡ Some n → length (edges_of list said) < length said
+edges_below : (list k : Key) (n : ℕ) (said : LatestFirst) → number_of k said ≡ Some n → length (edges_of list said) < length said
 edges_below list k n [] there = absurd (none-some n there)
 edges_below list k n (nothing ∷ said) there = omega (arith, edges_within list said)
 edges_below list k n (states other m ∷ said) there = omega (arith, edges_within list said)
 edges_below list k n (lists other x ∷ said) there = omega (arith, edges_below list k n said there, edge_step (same_key other list) (edges_of list said) x)
 
-list_within : (bytes : List ℕ) (said : List Entry) (list : Key) (n : ℕ) → AllSay [] (lines_of bytes) said → number_of Vertices said ≡ Some n →
+list_within : (bytes : List ℕ) (said : LatestFirst) (list : Key) (n : ℕ) → AreGood [] (lines_of bytes) said → number_of Vertices said ≡ Some n →
     length (edges_of list said) ≤ length bytes
 list_within bytes said list n says there =
     omega (arith, edges_below list Vertices n said there, said_length [] (lines_of bytes) said says, length-slice_split (λ b. eqb b 10) bytes, count_by-le-length (λ b. eqb b 10) bytes)

@@ -11,8 +11,8 @@ use Rattle.dat_text.specs.declared.key.Key.TheVariants.{RequiredList, OtherList}
 use Rattle.dat_text.specs.DatText.{ends_and_cost, service_cost, required_line, other_line}
 use Rattle.dat_text.specs.Lines.{Part, Consists, IsBlank, EdgeNumbers, edge_parts, IsEdgeLine, edge_of}
 use Rattle.dat_text.specs.Lines.Part.{byte, word, number}
-use Rattle.dat_text.specs.Text.{Entry, list_of, SaysEdge}
-use Rattle.dat_text.specs.Text.Entry.{lists}
+use Rattle.dat_text.specs.Text.{Statement, list_of, SaysEdge, LatestFirst}
+use Rattle.dat_text.specs.Text.Statement.{lists}
 use Rattle.dat_text.proofs.WrittenLines.{IsWritten, is_written, IsOneLine, one_line, one_line-append, decimal_one_line, Adds, Adds-append, line_adds}
 
 -- The parts of an edge line.
@@ -76,7 +76,7 @@ ends_one_line x small =
 abbrev pub other_raw : Edge → RawEdge
 other_raw x = record { u = x.u; v = x.v; cost = x.cost; demand = 0; service = 0 }
 
-other_adds : (x : Edge) (said : List Entry) → IsSmall x → list_of said ≡ Some OtherList → Adds (other_line x) said (lists OtherList (other_raw x) ∷ said)
+other_adds : (x : Edge) (said : LatestFirst) → IsSmall x → list_of said ≡ Some OtherList → Adds (other_line x) said (lists OtherList (other_raw x) ∷ said)
 unfolding other_line
 other_adds x said small under =
     let numbers : EdgeNumbers = record { u = decimal x.u; v = decimal x.v; cost = decimal x.cost; demand = None; service = None } in
@@ -123,7 +123,7 @@ required_is_line x false small = record {
       (word_next (codes "servicio") (number_last (is_written x.service small.service)))))).consists;
 }
 
-required_says : (x : Edge) (said : List Entry) (line : List ℕ) (same : Bool) → IsSmall x → list_of said ≡ Some RequiredList → (same ≡ true → x.service ≡ x.cost) →
+required_says : (x : Edge) (said : LatestFirst) (line : List ℕ) (same : Bool) → IsSmall x → list_of said ≡ Some RequiredList → (same ≡ true → x.service ≡ x.cost) →
     IsEdgeLine RequiredList (numbers_with x (service_digits same x.service)) line → SaysEdge said line RequiredList (required_raw x)
 required_says x said line true small under equal is_line =
     let u = is_written x.u small.u in
@@ -141,7 +141,7 @@ required_says x said line false small under equal is_line =
     let value : edge_of RequiredList (numbers_with x (Some (decimal x.service))) ≡ required_raw x = rw (u.value, v.value, cost.value, demand.value, service.value) refl in
     record { numbers = numbers_with x (Some (decimal x.service)); under = under; is_line = is_line; short = (u.short, (v.short, (cost.short, (demand.short, (service.short, tt))))); value = sym value }
 
-required_adds : (x : Edge) (said : List Entry) → IsSmall x → list_of said ≡ Some RequiredList → Adds (required_line x) said (lists RequiredList (required_raw x) ∷ said)
+required_adds : (x : Edge) (said : LatestFirst) → IsSmall x → list_of said ≡ Some RequiredList → Adds (required_line x) said (lists RequiredList (required_raw x) ∷ said)
 unfolding required_line service_cost
 required_adds x said small under =
     let same = eqb x.service x.cost in
@@ -157,18 +157,18 @@ required_adds x said small under =
 -- The edges of a list.
 
 -- what is said after the edges of a list too
-abbrev pub listed : Key → List RawEdge → List Entry → List Entry
+abbrev pub listed : Key → List RawEdge → LatestFirst → LatestFirst
 listed list [] said = said
 listed list (x ∷ xs) said = listed list xs (lists list x ∷ said)
 
-pub all_required_add : (xs : List Edge) (said : List Entry) → AllByRecursion IsSmall xs → list_of said ≡ Some RequiredList →
+pub all_required_add : (xs : List Edge) (said : LatestFirst) → AllByRecursion IsSmall xs → list_of said ≡ Some RequiredList →
     Adds (flat_map required_line xs) said (listed RequiredList (map required_raw xs) said)
 all_required_add [] said small under = record { adds = λ rest said says. says }
 all_required_add (x ∷ xs) said small under =
     let entry = lists RequiredList (required_raw x) in
     Adds-append (required_adds x said small.0 under) (all_required_add xs (entry ∷ said) small.1 under)
 
-pub all_others_add : (xs : List Edge) (said : List Entry) → AllByRecursion IsSmall xs → list_of said ≡ Some OtherList →
+pub all_others_add : (xs : List Edge) (said : LatestFirst) → AllByRecursion IsSmall xs → list_of said ≡ Some OtherList →
     Adds (flat_map other_line xs) said (listed OtherList (map other_raw xs) said)
 all_others_add [] said small under = record { adds = λ rest said says. says }
 all_others_add (x ∷ xs) said small under =

@@ -21,8 +21,8 @@ use Rattle.dat_text.specs.DatText.{key_line}
 use Rattle.dat_text.specs.Lines.{is_blank, is_key_byte, Each, StartsWith, SameLetters, IsNumber, key_name, HasKey, has_number, IsKeyLine, IsStated, IsSkipped}
 use Rattle.dat_text.specs.Kinds.{NamesNone}
 use Rattle.dat_text.specs.Reading.{after_run, after_byte}
-use Rattle.dat_text.specs.Text.{Entry, lines_of, stands, Says, AllSay}
-use Rattle.dat_text.specs.Text.Entry.{nothing, states}
+use Rattle.dat_text.specs.Text.{Statement, lines_of, stands, Says, AreGood, LatestFirst}
+use Rattle.dat_text.specs.Text.Statement.{nothing, states}
 use Rattle.dat_text.proofs.Runs.{run_passes, run_is}
 use Rattle.dat_text.proofs.KeyLines.{is_skipped}
 
@@ -89,20 +89,20 @@ other_bytes (b ∷ text) one =
 -- Whole lines.
 
 -- the text is good lines after the entries before, and then the entries after are said
-pub record Adds (text : List ℕ) (before after : List Entry) : Type 0 where
-  pub adds : (rest : List ℕ) (said : List Entry) → AllSay after (lines_of rest) said → AllSay before (lines_of (text ++ rest)) said
+pub record Adds (text : List ℕ) (before after : LatestFirst) : Type 0 where
+  pub adds : (rest : List ℕ) (said : LatestFirst) → AreGood after (lines_of rest) said → AreGood before (lines_of (text ++ rest)) said
 
-pub Adds-append : {a b : List ℕ} {before between after : List Entry} → Adds a before between → Adds b between after → Adds (a ++ b) before after
+pub Adds-append : {a b : List ℕ} {before between after : LatestFirst} → Adds a before between → Adds b between after → Adds (a ++ b) before after
 Adds-append {a} {b} {before} {between} {after} left right = record {
-  adds = λ rest said says. subst (λ (x : List ℕ). AllSay before (lines_of x) said) (sym (append_assoc a b rest)) (left.adds (b ++ rest) said (right.adds rest said says));
+  adds = λ rest said says. subst (λ (x : List ℕ). AreGood before (lines_of x) said) (sym (append_assoc a b rest)) (left.adds (b ++ rest) said (right.adds rest said says));
 }
 
-pub line_adds : (line : List ℕ) (before : List Entry) (entry : Entry) → IsOneLine line → Says before line entry → Adds (line ++ codes "\n") before (entry ∷ before)
+pub line_adds : (line : List ℕ) (before : LatestFirst) (entry : Statement) → IsOneLine line → Says before line entry → Adds (line ++ codes "\n") before (entry ∷ before)
 line_adds line before entry one says = record {
   adds = λ rest said more.
       let cut : lines_of ((line ++ codes "\n") ++ rest) ≡ line ∷ lines_of rest =
       ap lines_of (append_assoc line (codes "\n") rest) ∙ slice_split_at (λ b. eqb b 10) line 10 rest (All-from_recursion (λ b. eqb b 10 ≡ false) line (other_bytes line one.test)) refl in
-      subst (λ (x : List (List ℕ)). AllSay before x said) (sym cut) (entry, says, more);
+      subst (λ (x : List (List ℕ)). AreGood before x said) (sym cut) (entry, says, more);
 }
 
 -- Key lines.
@@ -143,7 +143,7 @@ stated digits is_number = inr (
   ([], record { blanks = codes " "; own = digits; are_blank = (refl, tt); is_part = (refl, is_number); whole = ap (λ (x : List ℕ). 32 ∷ x) (sym (append-nil digits)) }, tt),
 )
 
-pub number_adds : (key : Key) (n : ℕ) (before : List Entry) → n < 10 ^ 18 → IsTrue (has_number key) → stands key before ≡ false →
+pub number_adds : (key : Key) (n : ℕ) (before : LatestFirst) → n < 10 ^ 18 → IsTrue (has_number key) → stands key before ≡ false →
     Adds (key_line (key_name key) n) before (states key (Some n) ∷ before)
 unfolding key_line
 number_adds key n before small numbered once =
@@ -159,7 +159,7 @@ number_adds key n before small numbered once =
     (one_line-append (one_line-append (name_one_line key) (one_line (codes " : ") refl)) (decimal_one_line n small))
     (record { digits = Some (decimal n); is_line = is_line; short = written.short; value = ap Some (sym written.value); once = once })
 
-pub list_adds : (key : Key) (before : List Entry) → has_number key ≡ false → stands key before ≡ false → Adds (key_name key ++ codes " :" ++ codes "\n") before (states key None ∷ before)
+pub list_adds : (key : Key) (before : LatestFirst) → has_number key ≡ false → stands key before ≡ false → Adds (key_name key ++ codes " :" ++ codes "\n") before (states key None ∷ before)
 list_adds key before numbered once =
     line_adds (key_name key ++ codes " :") before (states key None)
     (one_line-append (name_one_line key) (one_line (codes " :") refl))
@@ -195,7 +195,7 @@ skipped name rest starts closed run ends other =
     is_skipped (name ++ rest) (name ++ rest) (sym starts) closed (subst NamesNone (sym (run_is is_key_byte name rest run ends).0) (names_none name other))
 
 abbrev Skips : List ℕ → Type 0
-Skips text = (before : List Entry) → Adds text before (nothing ∷ before)
+Skips text = (before : LatestFirst) → Adds text before (nothing ∷ before)
 
 pub name_skipped : Skips (codes "NOMBRE : carp\n")
 unfolding after_byte

@@ -86,8 +86,8 @@ ends_at text = do
   rest ← after_byte 41 v.1
   Some (u.0, v.0, rest)
 
-unfoldable pub edge_at : List ℕ → Option EdgeNumbers
-edge_at text = do
+unfoldable pub edge_line_at : List ℕ → Option EdgeNumbers
+edge_line_at text = do
   ends ← ends_at text
   cost ← labelled_at (codes "coste") ends.2
   demand ← optional_at (codes "demanda") cost.1

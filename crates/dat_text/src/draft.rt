@@ -2,8 +2,8 @@
 ghost use Rattle.std.specs.Prelude.{◌≡◌, ◌<◌, List, [], ◌∷◌, ℕ, true, false, Some, None, is_some, IfSome, IsSomeAnd, ◌≢◌, OnOk, MatchResult};
 ghost use Rattle.std.specs.Bool.{MatchBool};
 ghost use Rattle.dat_text.specs.Lines.{HasKey, IsOpened, has_number};
-ghost use Rattle.dat_text.specs.Text.{Entry, stands};
-ghost use Rattle.dat_text.specs.Text.Entry.{states, lists};
+ghost use Rattle.dat_text.specs.Text.{Statement, stands, LatestFirst};
+ghost use Rattle.dat_text.specs.Text.Statement.{states, lists};
 ghost use Rattle.dat_text.specs.Drafts.{Matches, Takes, number_there, at_key, Ends};
 ghost use Rattle.dat_text.specs.declared.fault.DatFault.TheVariants.{MissingKey, CountDiffers};
 
@@ -30,21 +30,21 @@ pub(crate) enum Stated {
 #[derive(Drop)]
 pub(crate) struct Draft {
     /// What stands at each key, by the key's place.
-    pub stated: [Stated; 7],
+    pub(crate) stated: [Stated; 7],
     /// The last list key.
-    pub list: Option<Key>,
-    pub required: Vec<RawEdge>,
-    pub others: Vec<RawEdge>,
+    pub(crate) list: Option<Key>,
+    pub(crate) required: Vec<RawEdge>,
+    pub(crate) others: Vec<RawEdge>,
 }
 
 /// What a text describes.
 #[derive(Drop)]
 pub(crate) struct Described {
-    pub vertices: u64,
-    pub depot: u64,
-    pub capacity: u64,
-    pub required: Vec<RawEdge>,
-    pub others: Vec<RawEdge>,
+    pub(crate) vertices: u64,
+    pub(crate) depot: u64,
+    pub(crate) capacity: u64,
+    pub(crate) required: Vec<RawEdge>,
+    pub(crate) others: Vec<RawEdge>,
 }
 
 impl Draft {
@@ -62,7 +62,7 @@ impl Draft {
     /// Takes a key with its number, if it did not stand before; says whether it did not.
     fn state(&mut self, key: Key, number: Option<u64>) -> bool
         requires { is_some number ≡ has_number key }
-        ensures { (said : List Entry) → Matches said self.old
+        ensures { (said : LatestFirst) → Matches said self.old
             → MatchBool result ((stands key said ≡ false) × Matches (states key number ∷ said) self.new) (stands key said ≡ true) }
     {
         let place = key.place();
@@ -82,7 +82,7 @@ impl Draft {
     /// Takes an edge of a list.
     fn put(&mut self, list: Key, edge: RawEdge) -> Result<(), AllocError>
         requires { has_number list ≡ false }
-        ensures { (said : List Entry) → Matches said self.old → OnOk result (Matches (lists list edge ∷ said) self.new) }
+        ensures { (said : LatestFirst) → Matches said self.old → OnOk result (Matches (lists list edge ∷ said) self.new) }
     {
         match list {
             Key::RequiredList => self.required.push(edge)?,
@@ -93,7 +93,7 @@ impl Draft {
 
     /// Takes a key line.
     fn take_key(&mut self, key: Key, rest: &[u8], at: u64) -> Result<(), Fail<DatFault>>
-        ensures { (said : List Entry) (line : List ℕ) → Matches said self.old → HasKey key line rest.now → Takes said at line self.new result }
+        ensures { (said : LatestFirst) (line : List ℕ) → Matches said self.old → HasKey key line rest.now → Takes said at line self.new result }
     {
         match read_key(key, rest) {
             Err(LineFault::Syntax) => Err(Fail::Refused(DatFault::Syntax(at))),
@@ -111,7 +111,7 @@ impl Draft {
     /// Takes an edge line.
     fn take_edge(&mut self, line: &[u8], at: u64) -> Result<(), Fail<DatFault>>
         requires { IsOpened line.now }
-        ensures { (said : List Entry) → Matches said self.old → Takes said at line.now self.new result }
+        ensures { (said : LatestFirst) → Matches said self.old → Takes said at line.now self.new result }
     {
         let Some(list) = self.list else {
             return Err(Fail::Refused(DatFault::Syntax(at)));
@@ -125,7 +125,7 @@ impl Draft {
 
     /// Takes a line, the one of this number.
     pub(crate) fn take_line(&mut self, line: &[u8], at: u64) -> Result<(), Fail<DatFault>>
-        ensures { (said : List Entry) → Matches said self.old → Takes said at line.now self.new result }
+        ensures { (said : LatestFirst) → Matches said self.old → Takes said at line.now self.new result }
     {
         match kind_of(line) {
             Kind::Skipped => Ok(()),
@@ -155,7 +155,7 @@ impl Draft {
 
     /// What the lines describe, after the last of them.
     pub(crate) fn end(self) -> Result<Described, DatFault>
-        ensures { (said : List Entry) → Matches said self → Ends said result }
+        ensures { (said : LatestFirst) → Matches said self → Ends said result }
     {
         let vertices = self.needed_number(Key::Vertices)?;
         let required = self.needed_number(Key::RequiredCount)?;

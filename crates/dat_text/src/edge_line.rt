@@ -6,7 +6,7 @@ ghost use Rattle.std.specs.Str.Parse.{digits_value};
 ghost use Rattle.std.specs.Char.{is_ascii_digit};
 ghost use Rattle.dat_text.specs.Lines.{Each, IsNumber, EdgeNumbers, FitsList, IsEdgeLine, IsShort, AreShort, numbers_of, edge_of};
 ghost use Rattle.std.specs.Option.{option_map};
-ghost use Rattle.dat_text.specs.Reading.{is_blank_line, labelled_at, optional_at, ends_at, edge_at};
+ghost use Rattle.dat_text.specs.Reading.{is_blank_line, labelled_at, optional_at, ends_at, edge_line_at};
 ghost use Rattle.dat_text.specs.Kinds.{edge_numbers, ReadsEdge, FailsEdge};
 
 use crate::Key;
@@ -66,9 +66,9 @@ fn ends_at(text: &[u8]) -> Option<(&[u8], &[u8], &[u8])>
 }
 
 /// The numbers of a line that has the shape of an edge line in one of the lists.
-#[tactic(auto, unfolding(crate::specs::Reading::edge_at))]
-fn edge_at(text: &[u8]) -> Option<EdgeLine<'_>>
-    ensures { option_map edge_numbers result ≡ edge_at text.now }
+#[tactic(auto, unfolding(crate::specs::Reading::edge_line_at))]
+fn edge_line_at(text: &[u8]) -> Option<EdgeLine<'_>>
+    ensures { option_map edge_numbers result ≡ edge_line_at text.now }
 {
     let (u, v, rest) = ends_at(text)?;
     let (cost, rest) = labelled_at(rest, b"coste")?;
@@ -111,7 +111,7 @@ fn edge_line_of(list: Key, line: &[u8]) -> Option<EdgeLine<'_>>
     ensures found { IfSome result (λ x. IsEdgeLine list (edge_numbers x) line.now) }
     ensures none { IsNone result → (x : EdgeNumbers) → ¬ (IsEdgeLine list x line.now) }
 {
-    match edge_at(line) {
+    match edge_line_at(line) {
         Some(numbers) => if fits_list(list, &numbers) {
             Some(numbers)
         } else {

@@ -1,7 +1,7 @@
 // The keys of an instance text.
 ghost use Rattle.std.specs.Prelude.{◌≡◌};
 ghost use Rattle.dat_text.specs.Lines.{key_name, has_number};
-ghost use Rattle.dat_text.specs.Text.{place_of};
+ghost use Rattle.dat_text.specs.Text.{key_place};
 
 use std::fmt;
 
@@ -54,7 +54,7 @@ impl Key {
 
     /// The key's place, from 0.
     pub(crate) fn place(self) -> usize
-        ensures { result ≡ place_of self }
+        ensures { result ≡ key_place self }
     {
         match self {
             Key::Vertices => 0,

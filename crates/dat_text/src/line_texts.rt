@@ -7,7 +7,7 @@ use itoa::Buffer;
 
 // A line with a key and its number.
 #[tactic(auto, unfolding(crate::specs::DatText::key_line))]
-pub fn push_key_line(text: &mut Vec<u8>, key: &[u8], number: u64) -> Result<(), Memory>
+pub(crate) fn push_key_line(text: &mut Vec<u8>, key: &[u8], number: u64) -> Result<(), Memory>
     ensures { OnOk result (text.new.items ≡ text.old.items ++ key_line key.now number) }
 {
     text.extend_from_slice(key)?;
@@ -19,7 +19,7 @@ pub fn push_key_line(text: &mut Vec<u8>, key: &[u8], number: u64) -> Result<(), 
 
 // The line of an edge that is to be served.
 #[tactic(auto, unfolding(crate::specs::DatText::required_line))]
-pub fn push_required_line(text: &mut Vec<u8>, edge: &Edge) -> Result<(), Memory>
+pub(crate) fn push_required_line(text: &mut Vec<u8>, edge: &Edge) -> Result<(), Memory>
     ensures { OnOk result (text.new.items ≡ text.old.items ++ required_line edge.now) }
 {
     push_ends_and_cost(text, edge)?;
@@ -32,7 +32,7 @@ pub fn push_required_line(text: &mut Vec<u8>, edge: &Edge) -> Result<(), Memory>
 
 // The line of an edge that need not be served.
 #[tactic(auto, unfolding(crate::specs::DatText::other_line))]
-pub fn push_other_line(text: &mut Vec<u8>, edge: &Edge) -> Result<(), Memory>
+pub(crate) fn push_other_line(text: &mut Vec<u8>, edge: &Edge) -> Result<(), Memory>
     ensures { OnOk result (text.new.items ≡ text.old.items ++ other_line edge.now) }
 {
     push_ends_and_cost(text, edge)?;

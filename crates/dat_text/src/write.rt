@@ -53,8 +53,8 @@ fn push_totals(text: &mut Vec<u8>, inst: &Instance) -> Result<(), Memory>
 fn push_required(text: &mut Vec<u8>, inst: &Instance) -> Result<(), Memory>
     ensures { OnOk result (text.new.items ≡ text.old.items ++ flat_map required_line (required_edges inst.now)) }
 {
-    for i in 0..inst.required() {
-        push_required_line(text, &inst.edge(i + 1))?;
+    for edge in &inst.edges()[..inst.required() as usize] {
+        push_required_line(text, edge)?;
     }
     Ok(())
 }
@@ -62,8 +62,8 @@ fn push_required(text: &mut Vec<u8>, inst: &Instance) -> Result<(), Memory>
 fn push_others(text: &mut Vec<u8>, inst: &Instance) -> Result<(), Memory>
     ensures { OnOk result (text.new.items ≡ text.old.items ++ flat_map other_line (other_edges inst.now)) }
 {
-    for i in inst.required()..inst.edge_count() {
-        push_other_line(text, &inst.edge(i + 1))?;
+    for edge in &inst.edges()[inst.required() as usize..] {
+        push_other_line(text, edge)?;
     }
     Ok(())
 }

@@ -8,4 +8,4 @@ pub returns-clause-fault : goal.returns-clause-fault
 returns-clause-fault c = one_fault
 
 pub returns-clause-apart : goal.returns-clause-apart
-returns-clause-apart c = text_or_fault
+returns-clause-apart c = text_or_fault c.valid_where_no_fault.ensures

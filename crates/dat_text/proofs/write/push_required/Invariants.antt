@@ -1,8 +1,9 @@
 use Rattle.std.proofs.Common.{◌≡◌, ◌++◌, take}
 use Rattle.std.specs.List.{flat_map}
+use Rattle.carp_base.specs.Problem.{required_edges}
 use Rattle.dat_text.specs.DatText.{required_line}
 use Rattle.dat_text.proofs.write.push_required.Given as goal
 
 -- the lines of the edges so far are written
-abbrev pub invariant-loop-i : goal.invariant-loop-i
-invariant-loop-i l = l.text.items ≡ l.fn.text.items ++ flat_map required_line (take l.i l.inst.edges)
+abbrev pub invariant-loop-edge : goal.invariant-loop-edge
+invariant-loop-edge l = l.text.items ≡ l.fn.text.items ++ flat_map required_line (take l.edge-index (required_edges l.inst))
