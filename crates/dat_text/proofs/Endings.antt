@@ -1,9 +1,9 @@
 -- What is missing after the last line.
-use Rattle.std.proofs.Common.{◌≡◌, ℕ, true, false, List, Some, None, is_some, IsTrue, sym, ap, ◌∙◌}
+use Rattle.std.proofs.Common.{◌≡◌, ℕ, true, false, Some, None, is_some, IsTrue, sym, ap, ◌∙◌}
 use Rattle.dat_text.specs.declared.key.Key.{Key}
 use Rattle.dat_text.specs.declared.draft.Draft.{Draft}
 use Rattle.dat_text.specs.Lines.{has_number}
-use Rattle.dat_text.specs.Text.{Statement, stands, LatestFirst}
+use Rattle.dat_text.specs.Text.{stands, LatestFirst}
 use Rattle.dat_text.specs.Drafts.{number_there, at_key, Matches}
 
 -- a key at which a number is kept stands, and one at which none is does not

@@ -1,5 +1,5 @@
 -- The text that is written of an instance is a text of this instance.
-use Rattle.std.proofs.Common.{add-one, ◌≡◌, ℕ, ◌+◌, ◌-◌, ◌*◌, ◌^◌, ◌<◌, ◌≤◌, Bool, true, false, cond, List, [], ◌∷◌, ◌++◌, length, map, get_or, Option, Some, None, refl, sym, ap, subst, ◌∙◌, append_assoc, arith, length-drop}
+use Rattle.std.proofs.Common.{add-one, ◌≡◌, ℕ, ◌+◌, ◌*◌, ◌^◌, ◌<◌, ◌≤◌, Bool, true, false, cond, List, [], ◌∷◌, ◌++◌, length, map, get_or, Option, Some, None, refl, sym, ap, subst, ◌∙◌, append_assoc, arith, length-drop}
 use Rattle.std.specs.List.{AllByRecursion, All}
 use Rattle.std.specs.Int.{div_ceil}
 use Rattle.std.proofs.Math.Nat.{div-le_self}
@@ -12,7 +12,7 @@ use Rattle.carp_base.specs.Problem.{Problem, IsValid, IsFineEdge, IsIdle, requir
 use Rattle.dat_text.specs.declared.key.Key.{Key}
 use Rattle.dat_text.specs.declared.key.Key.TheVariants.{Vertices, RequiredCount, OtherCount, Capacity, Depot, RequiredList, OtherList}
 use Rattle.dat_text.specs.DatText.{dat_of, counts_text, totals_text}
-use Rattle.dat_text.specs.Text.{Statement, lines_of, same_key, stands, number_of, edges_of, AreGood, Description, problem_of, IsComplete, IsTextOf, LatestFirst}
+use Rattle.dat_text.specs.Text.{lines_of, same_key, stands, number_of, edges_of, AreGood, Description, problem_of, IsComplete, IsTextOf, LatestFirst}
 use Rattle.dat_text.specs.Text.Statement.{nothing, states, lists}
 use Rattle.dat_text.proofs.WrittenLines.{Adds, Adds-append, number_adds, list_adds, name_skipped, comment_skipped, costs_skipped, vehicles_skipped, total_skipped, empty_skipped}
 use Rattle.dat_text.proofs.WrittenEdges.{IsSmall, required_raw, other_raw, listed, all_required_add, all_others_add}

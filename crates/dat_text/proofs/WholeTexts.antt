@@ -12,7 +12,7 @@ use Rattle.dat_text.specs.declared.key.Key.{Key}
 use Rattle.dat_text.specs.declared.key.Key.TheVariants.{Vertices, RequiredList, OtherList}
 use Rattle.dat_text.specs.declared.fault.DatFault.{DatFault}
 use Rattle.dat_text.specs.declared.fault.DatFault.TheVariants.{Syntax, MissingKey, DoubleKey, CountDiffers, NumberTooLong, Refused}
-use Rattle.dat_text.specs.Text.{Statement, lines_of, same_key, number_of, edges_of, AreGood, HasFirstBad, Description, Describes, IsFaultOf, LatestFirst}
+use Rattle.dat_text.specs.Text.{lines_of, same_key, number_of, edges_of, AreGood, HasFirstBad, Description, Describes, IsFaultOf, LatestFirst}
 use Rattle.dat_text.specs.Text.Statement.{nothing, states, lists}
 use Rattle.dat_text.specs.Drafts.{ReadsLines, ReadsText}
 

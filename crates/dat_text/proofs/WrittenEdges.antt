@@ -11,7 +11,7 @@ use Rattle.dat_text.specs.declared.key.Key.TheVariants.{RequiredList, OtherList}
 use Rattle.dat_text.specs.DatText.{ends_and_cost, service_cost, required_line, other_line}
 use Rattle.dat_text.specs.Lines.{Part, Consists, IsBlank, EdgeNumbers, edge_parts, IsEdgeLine, edge_of}
 use Rattle.dat_text.specs.Lines.Part.{byte, word, number}
-use Rattle.dat_text.specs.Text.{Statement, list_of, SaysEdge, LatestFirst}
+use Rattle.dat_text.specs.Text.{list_of, SaysEdge, LatestFirst}
 use Rattle.dat_text.specs.Text.Statement.{lists}
 use Rattle.dat_text.proofs.WrittenLines.{IsWritten, is_written, IsOneLine, one_line, one_line-append, decimal_one_line, Adds, Adds-append, line_adds}
 

@@ -1,207 +1,178 @@
 // Texts that are read or refused, against the rules of the format.
 ghost use Rattle.std.specs.Prelude.{◌<◌, ◌^◌, length};
 
-use crate::DatFault::*;
-use crate::{DatFault, Key, read_dat};
-use carp_base::{Edge, Fail, Instance, InstanceFault, Memory};
-use std::alloc::Global;
-use std::test::*;
+use crate::read_dat;
+use carp_base::{Edge, Fail, Instance};
+use std::alloc::{AllocError, Global};
 
-// The fault for which a text is refused.
-fn fault_of(alloc: Global, text: &[u8]) -> Result<Option<DatFault>, Memory>
-    requires { length text.now < 2 ^ 32 }
+// Whether a row, the words of an answer and then a text with `~` for each line feed, agrees with what is read.
+fn agrees(alloc: Global, row: &[u8]) -> Result<bool, std::test::Fail>
+    requires { length row.now < 2 ^ 32 }
 {
-    match read_dat(alloc, text) {
-        Ok(_) => Ok(None),
-        Err(Fail::Refused(fault)) => Ok(Some(fault)),
-        Err(Fail::Memory) => Err(Memory),
-    }
-}
-
-// Where a line is good, the text lacks the next key that has to stand.
-#[test]
-fn tells_key_lines_from_others(rt: HostRuntime) {
-    let good = MissingKey(Key::RequiredCount);
-    let skipped = MissingKey(Key::Vertices);
-    let rows: [(&[u8], DatFault); 34] = [
-        (b"", skipped),
-        (b"VERTICES 12", good),
-        (b"VERTICES:12", good),
-        (b"VERTICES : 12 anything", good),
-        (b"vErTiCeS : 12 (1,2)", good),
-        (b"\t\r\x1a VERTICES\x1a:\r12\x1a\xff", good),
-        (b"VERTICES : 000000000000000012", good),
-        (b"VERTICES : 0000000000000000012", NumberTooLong(1)),
-        (b"VERTICES : 9999999999999999999", NumberTooLong(1)),
-        (b"VERTICES : 0000000000000000012x", Syntax(1)),
-        (b"VERTICES", Syntax(1)),
-        (b"VERTICES :", Syntax(1)),
-        (b"VERTICES : : 12", Syntax(1)),
-        (b"VERTICES 12:", Syntax(1)),
-        (b"VERTICES:12abc", Syntax(1)),
-        (b"VERTICES-12", Syntax(1)),
-        (b"VERTICES : -12", Syntax(1)),
-        (b"VERTICES\x0012", Syntax(1)),
-        (b"VERTICES 12\x00", Syntax(1)),
-        (b"\n\nVERTICES (12", Syntax(3)),
-        (b"VERTICES12", skipped),
-        (b"VERTICES_ : 12", skipped),
-        (b"VERTICESX : 12", skipped),
-        (b"X VERTICES : 12", skipped),
-        (b"- VERTICES : 12", skipped),
-        (b"\x00VERTICES : 12", skipped),
-        (b"VEHICULOS : many\xc3\xa9 \t\x1a", skipped),
-        (b"LISTA_ARISTAS_REQ: 7 (1,2)", skipped),
-        (b"VERTICES 2\nvertices 2", DoubleKey(Key::Vertices)),
-        (b"VERTICES 2\nVERTICES x", Syntax(2)),
-        (
-            b"VERTICES 2\nVERTICES 0000000000000000002",
-            NumberTooLong(2),
-        ),
-        (
-            b"VERTICES 2\nVERTICES 2\nDEPOSITO",
-            DoubleKey(Key::Vertices),
-        ),
-        (
-            b"LISTA_ARISTAS_NOREQ\nLISTA_ARISTAS_REQ\nlista_aristas_noreq",
-            DoubleKey(Key::OtherList),
-        ),
-        (b"DEPOSITO x\nVERTICES 2\nVERTICES 2", Syntax(1)),
-    ];
-    for (text, fault) in &rows {
-        assert!(rt; text.len() < 100);
-        assert_eq!(rt; fault_of(rt.alloc(), text), Ok(Some(*fault)), "{fault}");
-    }
-}
-
-// As above, under each list key.
-#[test]
-fn tells_edge_lines_by_their_list(rt: HostRuntime) -> Result<(), std::test::Fail> {
-    let good = MissingKey(Key::Vertices);
-    let rows: [(&[u8], DatFault, DatFault); 26] = [
-        (b"(1,2)coste5demanda1", good, Syntax(2)),
-        (b"\t( 1 , 2 )\x1aCOSTE\r5 Demanda 1 \x1a\r", good, Syntax(2)),
-        (b"(1,2) coste 5 demanda 1 servicio 9", good, Syntax(2)),
-        (b"(1,2)coste5demanda1SERVICIO0", good, Syntax(2)),
-        (b"(1,2) coste 5", Syntax(2), good),
-        (b"(1,2) coste 5 demanda 00", good, good),
-        (b"(1,2) coste 5 demanda 0 servicio 5", good, Syntax(2)),
-        (b"(1,2) coste 5 servicio 5", Syntax(2), Syntax(2)),
-        (b"(1,2) coste 5 servicio 5 demanda 1", Syntax(2), Syntax(2)),
-        (b"(1,2) coste 5 demanda", Syntax(2), Syntax(2)),
-        (b"(1,2) coste 5 demanda 0 servicio", Syntax(2), Syntax(2)),
-        (b"(1,2) coste 5 demanda 0 x", Syntax(2), Syntax(2)),
-        (b"(1,2) coste 5 demanda 0 (1,2)", Syntax(2), Syntax(2)),
-        (b"(1,2) coste 5\x00", Syntax(2), Syntax(2)),
-        (b"(1 2) coste 5 demanda 0", Syntax(2), Syntax(2)),
-        (b"(1,2 coste 5 demanda 0", Syntax(2), Syntax(2)),
-        (b"((1,2) coste 5 demanda 0", Syntax(2), Syntax(2)),
-        (b"(1,2) costes 5 demanda 0", Syntax(2), Syntax(2)),
-        (b"(1,2) cos te 5 demanda 0", Syntax(2), Syntax(2)),
-        (b"(1,2) coste : 5 demanda 0", Syntax(2), Syntax(2)),
-        (b"(1,-2) coste 5 demanda 0", Syntax(2), Syntax(2)),
-        (
-            b"(1,2) coste 5 demanda 0000000000000000000",
-            NumberTooLong(2),
-            NumberTooLong(2),
-        ),
-        (
-            b"(1,2) coste 5 demanda 0000000000000000001",
-            NumberTooLong(2),
-            Syntax(2),
-        ),
-        (
-            b"(0000000000000000001,2) coste 5 demanda 0",
-            NumberTooLong(2),
-            NumberTooLong(2),
-        ),
-        (
-            b"(1,2) coste 1234567890123456789 demanda",
-            Syntax(2),
-            Syntax(2),
-        ),
-        (b"x (1,2) coste 5", good, good),
-    ];
-    for (line, in_required, in_others) in &rows {
-        assert!(rt; line.len() < 100);
-        for (key, fault) in [
-            ("LISTA_ARISTAS_REQ\n", in_required),
-            ("LISTA_ARISTAS_NOREQ\n", in_others),
-        ] {
-            let mut text = Vec::new(rt.alloc());
-            text.extend_from_slice(key.as_bytes())?;
-            text.extend_from_slice(line)?;
-            assert!(rt; text.len() < 200);
-            assert_eq!(rt; fault_of(rt.alloc(), &text), Ok(Some(*fault)), "{fault}");
+    let Some(cut) = row.iter().position(|byte| *byte == b'|') else {
+        return Ok(false);
+    };
+    let mut text = Vec::from_slice(alloc, &row[cut + 1..])?;
+    for byte in text.iter_mut() {
+        if *byte == b'~' {
+            *byte = b'\n';
         }
+    }
+    let words = &row[..cut];
+    match read_dat(alloc, &text) {
+        Ok(_) => Ok(words == b"read".as_slice()),
+        Err(Fail::Refused(fault)) => Ok(words == fault.to_string(alloc)?.as_bytes()),
+        Err(Fail::Memory) => Err(AllocError)?,
+    }
+}
+
+// Where a key line is good, the text lacks the next key that has to stand.
+const KEY_LINES: &str = "\
+    key VERTICES is missing|\n\
+    key ARISTAS_REQ is missing|VERTICES 12\n\
+    key ARISTAS_REQ is missing|VERTICES:12\n\
+    key ARISTAS_REQ is missing|VERTICES : 12 anything\n\
+    key ARISTAS_REQ is missing|vErTiCeS : 12 (1,2)\n\
+    key ARISTAS_REQ is missing|\t\r\x1a VERTICES\x1a:\r12\x1aé\n\
+    key ARISTAS_REQ is missing|VERTICES : 000000000000000012\n\
+    line 1 has a number of more than 18 digits|VERTICES : 0000000000000000012\n\
+    line 1 has a number of more than 18 digits|VERTICES : 9999999999999999999\n\
+    line 1 cannot be read|VERTICES : 0000000000000000012x\n\
+    line 1 cannot be read|VERTICES\n\
+    line 1 cannot be read|VERTICES :\n\
+    line 1 cannot be read|VERTICES : : 12\n\
+    line 1 cannot be read|VERTICES 12:\n\
+    line 1 cannot be read|VERTICES:12abc\n\
+    line 1 cannot be read|VERTICES-12\n\
+    line 1 cannot be read|VERTICES : -12\n\
+    line 1 cannot be read|VERTICES\x0012\n\
+    line 1 cannot be read|VERTICES 12\x00\n\
+    line 3 cannot be read|~~VERTICES (12\n\
+    key VERTICES is missing|VERTICES12\n\
+    key VERTICES is missing|VERTICES_ : 12\n\
+    key VERTICES is missing|VERTICESX : 12\n\
+    key VERTICES is missing|X VERTICES : 12\n\
+    key VERTICES is missing|- VERTICES : 12\n\
+    key VERTICES is missing|\x00VERTICES : 12\n\
+    key VERTICES is missing|VEHICULOS : manyé \t\x1a\n\
+    key VERTICES is missing|LISTA_ARISTAS_REQ: 7 (1,2)\n\
+    key VERTICES stands twice|VERTICES 2~vertices 2\n\
+    line 2 cannot be read|VERTICES 2~VERTICES x\n\
+    line 2 has a number of more than 18 digits|VERTICES 2~VERTICES 0000000000000000002\n\
+    key VERTICES stands twice|VERTICES 2~VERTICES 2~DEPOSITO\n\
+    key LISTA_ARISTAS_NOREQ stands twice|LISTA_ARISTAS_NOREQ~LISTA_ARISTAS_REQ~lista_aristas_noreq\n\
+    line 1 cannot be read|DEPOSITO x~VERTICES 2~VERTICES 2";
+
+// Lines under the list of required edges.
+const REQUIRED_LINES: &str = "\
+    key VERTICES is missing|LISTA_ARISTAS_REQ~(1,2)coste5demanda1\n\
+    key VERTICES is missing|LISTA_ARISTAS_REQ~\t( 1 , 2 )\x1aCOSTE\r5 Demanda 1 \x1a\r\n\
+    key VERTICES is missing|LISTA_ARISTAS_REQ~(1,2) coste 5 demanda 1 servicio 9\n\
+    key VERTICES is missing|LISTA_ARISTAS_REQ~(1,2)coste5demanda1SERVICIO0\n\
+    line 2 cannot be read|LISTA_ARISTAS_REQ~(1,2) coste 5\n\
+    key VERTICES is missing|LISTA_ARISTAS_REQ~(1,2) coste 5 demanda 00\n\
+    key VERTICES is missing|LISTA_ARISTAS_REQ~(1,2) coste 5 demanda 0 servicio 5\n\
+    line 2 cannot be read|LISTA_ARISTAS_REQ~(1,2) coste 5 servicio 5\n\
+    line 2 cannot be read|LISTA_ARISTAS_REQ~(1,2) coste 5 servicio 5 demanda 1\n\
+    line 2 cannot be read|LISTA_ARISTAS_REQ~(1,2) coste 5 demanda\n\
+    line 2 cannot be read|LISTA_ARISTAS_REQ~(1,2) coste 5 demanda 0 servicio\n\
+    line 2 cannot be read|LISTA_ARISTAS_REQ~(1,2) coste 5 demanda 0 x\n\
+    line 2 cannot be read|LISTA_ARISTAS_REQ~(1,2) coste 5 demanda 0 (1,2)\n\
+    line 2 cannot be read|LISTA_ARISTAS_REQ~(1,2) coste 5\x00\n\
+    line 2 cannot be read|LISTA_ARISTAS_REQ~(1 2) coste 5 demanda 0\n\
+    line 2 cannot be read|LISTA_ARISTAS_REQ~(1,2 coste 5 demanda 0\n\
+    line 2 cannot be read|LISTA_ARISTAS_REQ~((1,2) coste 5 demanda 0\n\
+    line 2 cannot be read|LISTA_ARISTAS_REQ~(1,2) costes 5 demanda 0\n\
+    line 2 cannot be read|LISTA_ARISTAS_REQ~(1,2) cos te 5 demanda 0\n\
+    line 2 cannot be read|LISTA_ARISTAS_REQ~(1,2) coste : 5 demanda 0\n\
+    line 2 cannot be read|LISTA_ARISTAS_REQ~(1,-2) coste 5 demanda 0\n\
+    line 2 has a number of more than 18 digits|LISTA_ARISTAS_REQ~(1,2) coste 5 demanda 0000000000000000000\n\
+    line 2 has a number of more than 18 digits|LISTA_ARISTAS_REQ~(1,2) coste 5 demanda 0000000000000000001\n\
+    line 2 has a number of more than 18 digits|LISTA_ARISTAS_REQ~(0000000000000000001,2) coste 5 demanda 0\n\
+    line 2 cannot be read|LISTA_ARISTAS_REQ~(1,2) coste 1234567890123456789 demanda\n\
+    key VERTICES is missing|LISTA_ARISTAS_REQ~x (1,2) coste 5";
+
+// The same lines under the other list.
+const OTHER_LINES: &str = "\
+    line 2 cannot be read|LISTA_ARISTAS_NOREQ~(1,2)coste5demanda1\n\
+    line 2 cannot be read|LISTA_ARISTAS_NOREQ~\t( 1 , 2 )\x1aCOSTE\r5 Demanda 1 \x1a\r\n\
+    line 2 cannot be read|LISTA_ARISTAS_NOREQ~(1,2) coste 5 demanda 1 servicio 9\n\
+    line 2 cannot be read|LISTA_ARISTAS_NOREQ~(1,2)coste5demanda1SERVICIO0\n\
+    key VERTICES is missing|LISTA_ARISTAS_NOREQ~(1,2) coste 5\n\
+    key VERTICES is missing|LISTA_ARISTAS_NOREQ~(1,2) coste 5 demanda 00\n\
+    line 2 cannot be read|LISTA_ARISTAS_NOREQ~(1,2) coste 5 demanda 0 servicio 5\n\
+    line 2 cannot be read|LISTA_ARISTAS_NOREQ~(1,2) coste 5 servicio 5\n\
+    line 2 cannot be read|LISTA_ARISTAS_NOREQ~(1,2) coste 5 servicio 5 demanda 1\n\
+    line 2 cannot be read|LISTA_ARISTAS_NOREQ~(1,2) coste 5 demanda\n\
+    line 2 cannot be read|LISTA_ARISTAS_NOREQ~(1,2) coste 5 demanda 0 servicio\n\
+    line 2 cannot be read|LISTA_ARISTAS_NOREQ~(1,2) coste 5 demanda 0 x\n\
+    line 2 cannot be read|LISTA_ARISTAS_NOREQ~(1,2) coste 5 demanda 0 (1,2)\n\
+    line 2 cannot be read|LISTA_ARISTAS_NOREQ~(1,2) coste 5\x00\n\
+    line 2 cannot be read|LISTA_ARISTAS_NOREQ~(1 2) coste 5 demanda 0\n\
+    line 2 cannot be read|LISTA_ARISTAS_NOREQ~(1,2 coste 5 demanda 0\n\
+    line 2 cannot be read|LISTA_ARISTAS_NOREQ~((1,2) coste 5 demanda 0\n\
+    line 2 cannot be read|LISTA_ARISTAS_NOREQ~(1,2) costes 5 demanda 0\n\
+    line 2 cannot be read|LISTA_ARISTAS_NOREQ~(1,2) cos te 5 demanda 0\n\
+    line 2 cannot be read|LISTA_ARISTAS_NOREQ~(1,2) coste : 5 demanda 0\n\
+    line 2 cannot be read|LISTA_ARISTAS_NOREQ~(1,-2) coste 5 demanda 0\n\
+    line 2 has a number of more than 18 digits|LISTA_ARISTAS_NOREQ~(1,2) coste 5 demanda 0000000000000000000\n\
+    line 2 cannot be read|LISTA_ARISTAS_NOREQ~(1,2) coste 5 demanda 0000000000000000001\n\
+    line 2 has a number of more than 18 digits|LISTA_ARISTAS_NOREQ~(0000000000000000001,2) coste 5 demanda 0\n\
+    line 2 cannot be read|LISTA_ARISTAS_NOREQ~(1,2) coste 1234567890123456789 demanda\n\
+    key VERTICES is missing|LISTA_ARISTAS_NOREQ~x (1,2) coste 5";
+
+// Whole texts.
+const WHOLE_TEXTS: &str = "\
+    line 1 cannot be read|(1,2)coste5demanda1~LISTA_ARISTAS_REQ\n\
+    key ARISTAS_REQ is missing|VERTICES 2~DEPOSITO 1~CAPACIDAD 1\n\
+    key CAPACIDAD is missing|VERTICES 2~ARISTAS_REQ 1~DEPOSITO 1\n\
+    key DEPOSITO is missing|CAPACIDAD 1~VERTICES 2~ARISTAS_REQ 1\n\
+    key VERTICES is missing|ARISTAS_REQ 1~LISTA_ARISTAS_REQ\n\
+    ARISTAS_REQ states 3 and the list has 2|VERTICES 2~ARISTAS_REQ 3~CAPACIDAD 1~DEPOSITO 1~LISTA_ARISTAS_REQ~(1,2)coste1demanda1~(1,2)coste1demanda1\n\
+    ARISTAS_REQ states 0 and the list has 1|VERTICES 2~ARISTAS_REQ 0~CAPACIDAD 1~DEPOSITO 1~LISTA_ARISTAS_REQ~(1,2)coste1demanda1~ARISTAS_NOREQ 1\n\
+    ARISTAS_NOREQ states 1 and the list has 0|VERTICES 2~ARISTAS_REQ 0~CAPACIDAD 1~DEPOSITO 9~ARISTAS_NOREQ 1\n\
+    ARISTAS_NOREQ states 0 and the list has 1|LISTA_ARISTAS_NOREQ~(1,2)coste1~VERTICES 2~ARISTAS_REQ 0~CAPACIDAD 1~DEPOSITO 1~ARISTAS_NOREQ 0\n\
+    read|LISTA_ARISTAS_NOREQ~(1,2)coste1~VERTICES 2~ARISTAS_REQ 0~CAPACIDAD 1~DEPOSITO 1\n\
+    read|VERTICES 1~ARISTAS_REQ 0~CAPACIDAD 1~DEPOSITO 1\n\
+    depot 2 is out of range|VERTICES 1~ARISTAS_REQ 0~CAPACIDAD 1~DEPOSITO 2\n\
+    edge 1 has a demand above the capacity|VERTICES 2~ARISTAS_REQ 1~CAPACIDAD 1~DEPOSITO 1~LISTA_ARISTAS_REQ~(1,2)coste1demanda2\n\
+    edge 1 has too large a service cost|VERTICES 2~ARISTAS_REQ 1~CAPACIDAD 1~DEPOSITO 1~LISTA_ARISTAS_REQ~(1,2)coste1demanda1servicio1000001\n\
+    999999999999999999 vertices are too many|VERTICES 999999999999999999~ARISTAS_REQ 0~CAPACIDAD 1~DEPOSITO 1~";
+
+#[test]
+fn tells_key_lines_from_others(rt: HostRuntime) -> Result<(), std::test::Fail> {
+    for row in KEY_LINES.split('\n') {
+        assert!(rt; row.len() < 1000);
+        assert!(rt; agrees(rt.alloc(), row.as_bytes())?, "{row:?}");
     }
     Ok(())
 }
 
-// Whole texts and what they are refused for.
 #[test]
-fn answers_the_first_fault(rt: HostRuntime) {
-    let differs = |key, stated, found| CountDiffers { key, stated, found };
-    let rows: [(&[u8], Option<DatFault>); 15] = [
-        (b"(1,2)coste5demanda1\nLISTA_ARISTAS_REQ", Some(Syntax(1))),
-        (
-            b"VERTICES 2\nDEPOSITO 1\nCAPACIDAD 1",
-            Some(MissingKey(Key::RequiredCount)),
-        ),
-        (
-            b"VERTICES 2\nARISTAS_REQ 1\nDEPOSITO 1",
-            Some(MissingKey(Key::Capacity)),
-        ),
-        (
-            b"CAPACIDAD 1\nVERTICES 2\nARISTAS_REQ 1",
-            Some(MissingKey(Key::Depot)),
-        ),
-        (
-            b"ARISTAS_REQ 1\nLISTA_ARISTAS_REQ",
-            Some(MissingKey(Key::Vertices)),
-        ),
-        (
-            b"VERTICES 2\nARISTAS_REQ 3\nCAPACIDAD 1\nDEPOSITO 1\nLISTA_ARISTAS_REQ\n(1,2)coste1demanda1\n(1,2)coste1demanda1",
-            Some(differs(Key::RequiredCount, 3, 2)),
-        ),
-        (
-            b"VERTICES 2\nARISTAS_REQ 0\nCAPACIDAD 1\nDEPOSITO 1\nLISTA_ARISTAS_REQ\n(1,2)coste1demanda1\nARISTAS_NOREQ 1",
-            Some(differs(Key::RequiredCount, 0, 1)),
-        ),
-        (
-            b"VERTICES 2\nARISTAS_REQ 0\nCAPACIDAD 1\nDEPOSITO 9\nARISTAS_NOREQ 1",
-            Some(differs(Key::OtherCount, 1, 0)),
-        ),
-        (
-            b"LISTA_ARISTAS_NOREQ\n(1,2)coste1\nVERTICES 2\nARISTAS_REQ 0\nCAPACIDAD 1\nDEPOSITO 1\nARISTAS_NOREQ 0",
-            Some(differs(Key::OtherCount, 0, 1)),
-        ),
-        (
-            b"LISTA_ARISTAS_NOREQ\n(1,2)coste1\nVERTICES 2\nARISTAS_REQ 0\nCAPACIDAD 1\nDEPOSITO 1",
-            None,
-        ),
-        (b"VERTICES 1\nARISTAS_REQ 0\nCAPACIDAD 1\nDEPOSITO 1", None),
-        (
-            b"VERTICES 1\nARISTAS_REQ 0\nCAPACIDAD 1\nDEPOSITO 2",
-            Some(Refused(InstanceFault::DepotOutOfRange(2))),
-        ),
-        (
-            b"VERTICES 2\nARISTAS_REQ 1\nCAPACIDAD 1\nDEPOSITO 1\nLISTA_ARISTAS_REQ\n(1,2)coste1demanda2",
-            Some(Refused(InstanceFault::Overweight(1))),
-        ),
-        (
-            b"VERTICES 2\nARISTAS_REQ 1\nCAPACIDAD 1\nDEPOSITO 1\nLISTA_ARISTAS_REQ\n(1,2)coste1demanda1servicio1000001",
-            Some(Refused(InstanceFault::ServiceTooLarge(1))),
-        ),
-        (
-            b"VERTICES 999999999999999999\nARISTAS_REQ 0\nCAPACIDAD 1\nDEPOSITO 1\n",
-            Some(Refused(InstanceFault::TooManyVertices(999999999999999999))),
-        ),
-    ];
-    for (text, fault) in &rows {
-        assert!(rt; text.len() < 1000);
-        assert_eq!(rt; fault_of(rt.alloc(), text), Ok(*fault));
+fn tells_required_edges(rt: HostRuntime) -> Result<(), std::test::Fail> {
+    for row in REQUIRED_LINES.split('\n') {
+        assert!(rt; row.len() < 1000);
+        assert!(rt; agrees(rt.alloc(), row.as_bytes())?, "{row:?}");
     }
+    Ok(())
+}
+
+#[test]
+fn tells_other_edges(rt: HostRuntime) -> Result<(), std::test::Fail> {
+    for row in OTHER_LINES.split('\n') {
+        assert!(rt; row.len() < 1000);
+        assert!(rt; agrees(rt.alloc(), row.as_bytes())?, "{row:?}");
+    }
+    Ok(())
+}
+
+#[test]
+fn answers_the_first_fault(rt: HostRuntime) -> Result<(), std::test::Fail> {
+    for row in WHOLE_TEXTS.split('\n') {
+        assert!(rt; row.len() < 1000);
+        assert!(rt; agrees(rt.alloc(), row.as_bytes())?, "{row:?}");
+    }
+    Ok(())
 }
 
 // A file in the layout of the data set gdb.

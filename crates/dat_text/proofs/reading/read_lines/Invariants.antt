@@ -1,6 +1,6 @@
-use Rattle.std.proofs.Common.{◌≡◌, ◌+◌, List, [], length, drop}
+use Rattle.std.proofs.Common.{◌≡◌, ◌+◌, [], length, drop}
 use Rattle.dat_text.specs.declared.fault.DatFault.{DatFault}
-use Rattle.dat_text.specs.Text.{Statement, lines_of, AreGood, HasFirstBad, LatestFirst}
+use Rattle.dat_text.specs.Text.{lines_of, AreGood, HasFirstBad, LatestFirst}
 use Rattle.dat_text.specs.Drafts.{Matches}
 use Rattle.dat_text.proofs.reading.read_lines.Given as goal
 
