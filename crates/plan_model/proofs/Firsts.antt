@@ -7,7 +7,7 @@ use Rattle.plan_model.specs.declared.step.Step.{Step}
 use Rattle.plan_model.specs.declared.verdict.Verdict.{Verdict}
 use Rattle.plan_model.specs.declared.verdict.Verdict.TheVariants.{Lawful, Broken, NotAtDepot, ServesOther, ServedTwice, NotServed, Overload}
 use Rattle.plan_model.specs.Plans.{IsLawful, plan_cost, services_of, steps_of, walk_at, walk_load}
-use Rattle.plan_model.specs.Verdicts.{IsVerdict, Applies, IsBefore, IsBroken, IsFailing, rank_of, named_by, step_named_by, tour_at}
+use Rattle.plan_model.specs.Verdicts.{IsVerdict, VerdictApplies, VerdictNoLater, IsBroken, IsFailing, verdict_rank, verdict_number, verdict_step, tour_at}
 use Rattle.plan_model.specs.Passes.{IsFirstNot, ContinuesAt, Continues, IsAtDepot, ServesOtherIn}
 use Rattle.plan_model.proofs.Chains.{back, broken_step, not_broken, continues_unless_broken, away_walk, not_away, at_depot_unless_away}
 use Rattle.plan_model.proofs.Clear.{IsClear, lawful_where_clear, clear_where_lawful}
@@ -53,40 +53,40 @@ module _ (p : Problem) (plan : List (List Step)) where
   breaks_tour : (walk : List Step) (step : ℕ) → 1 ≤ step → step ≤ length walk → IsBroken p walk step → ¬ (Continues p walk)
   breaks_tour walk step one within broken continues = broken_within walk step one (continues (step - 1) (omega arith)) broken
 
-  none_broken : ((k : ℕ) → k < length plan → Continues p (walk_at plan k)) → (tour step : ℕ) → ¬ (Applies p plan (Broken tour step))
+  none_broken : ((k : ℕ) → k < length plan → Continues p (walk_at plan k)) → (tour step : ℕ) → ¬ (VerdictApplies p plan (Broken tour step))
   none_broken continues tour step found =
       breaks_tour (tour_at plan tour) step found.1.from_one found.1.in_range found.2 (continues (tour - 1) (omega (arith, found.0.from_one, found.0.in_range)))
 
-  none_away : ((k : ℕ) → k < length plan → IsAtDepot p (walk_at plan k)) → (tour : ℕ) → ¬ (Applies p plan (NotAtDepot tour))
+  none_away : ((k : ℕ) → k < length plan → IsAtDepot p (walk_at plan k)) → (tour : ℕ) → ¬ (VerdictApplies p plan (NotAtDepot tour))
   none_away depot tour found = not_away p (tour_at plan tour) (depot (tour - 1) (omega (arith, found.0.from_one, found.0.in_range))) found.1
 
-  none_twice : ((k : ℕ) → k < p.required → services_of (suc k) plan ≤ 1) → (e : ℕ) → ¬ (Applies p plan (ServedTwice e))
+  none_twice : ((k : ℕ) → k < p.required → services_of (suc k) plan ≤ 1) → (e : ℕ) → ¬ (VerdictApplies p plan (ServedTwice e))
   none_twice most e found =
       let place : suc (e - 1) ≡ e = omega (arith, found.0.from_one) in
       let once = rw place at (most (e - 1) (omega (arith, found.0.from_one, found.0.in_range))) in
       absurd (omega (arith, once, found.1))
 
-  none_unserved : ((k : ℕ) → k < p.required → 1 ≤ services_of (suc k) plan) → (e : ℕ) → ¬ (Applies p plan (NotServed e))
+  none_unserved : ((k : ℕ) → k < p.required → 1 ≤ services_of (suc k) plan) → (e : ℕ) → ¬ (VerdictApplies p plan (NotServed e))
   none_unserved least e found =
       let place : suc (e - 1) ≡ e = omega (arith, found.0.from_one) in
       let once = rw place at (least (e - 1) (omega (arith, found.0.from_one, found.0.in_range))) in
       absurd (omega (arith, once, found.1))
 
-  none_overload : ((k : ℕ) → k < length plan → walk_load p (walk_at plan k) ≤ p.capacity) → (tour load : ℕ) → ¬ (Applies p plan (Overload tour load))
+  none_overload : ((k : ℕ) → k < length plan → walk_load p (walk_at plan k) ≤ p.capacity) → (tour load : ℕ) → ¬ (VerdictApplies p plan (Overload tour load))
   none_overload loads tour load found =
       absurd (omega (arith, loads (tour - 1) (omega (arith, found.0.from_one, found.0.in_range)), found.1, found.2))
 
   pub broken_first : (t i : ℕ) → IsFirstNot (length plan) (λ k. Continues p (walk_at plan k)) t →
       IsFirstNot (length (walk_at plan t)) (ContinuesAt p (walk_at plan t)) i → IsVerdict p plan (Broken (t + 1) (i + 1))
   broken_first t i tours steps = rw (add-one t, add-one i) (record { applies = applies; first = first }) where
-    applies : Applies p plan (Broken (suc t) (suc i))
+    applies : VerdictApplies p plan (Broken (suc t) (suc i))
     applies = rw (back t) (
       record { from_one = omega arith; in_range = omega (arith, tours.in_range) },
       record { from_one = omega arith; in_range = omega (arith, steps.in_range) },
       broken_step p (walk_at plan t) i steps.fails,
     )
 
-    first : (w : Verdict) → Applies p plan w → IsBefore (Broken (suc t) (suc i)) w
+    first : (w : Verdict) → VerdictApplies p plan w → VerdictNoLater (Broken (suc t) (suc i)) w
     first (Broken tour step) h = inr (
       refl,
       no_later (suc t) tour (suc i) step
@@ -105,10 +105,10 @@ module _ (p : Problem) (plan : List (List Step)) where
   module _ (continues : (k : ℕ) → k < length plan → Continues p (walk_at plan k)) where
     pub away_first : (t : ℕ) → IsFirstNot (length plan) (λ k. IsAtDepot p (walk_at plan k)) t → IsVerdict p plan (NotAtDepot (t + 1))
     away_first t tours = rw (add-one t) (record { applies = applies; first = first }) where
-      applies : Applies p plan (NotAtDepot (suc t))
+      applies : VerdictApplies p plan (NotAtDepot (suc t))
       applies = rw (back t) (record { from_one = omega arith; in_range = omega (arith, tours.in_range) }, away_walk p (walk_at plan t) tours.fails)
 
-      first : (w : Verdict) → Applies p plan w → IsBefore (NotAtDepot (suc t)) w
+      first : (w : Verdict) → VerdictApplies p plan w → VerdictNoLater (NotAtDepot (suc t)) w
       first (Broken tour step) h = absurd (none_broken continues tour step h)
       first (NotAtDepot tour) h = inr (
         refl,
@@ -124,7 +124,7 @@ module _ (p : Problem) (plan : List (List Step)) where
     module _ (depot : (k : ℕ) → k < length plan → IsAtDepot p (walk_at plan k)) where
       pub other_first : (e : ℕ) → ServesOtherIn p (steps_of plan) e → ((d : ℕ) → ServesOtherIn p (steps_of plan) d → e ≤ d) → IsVerdict p plan (ServesOther e)
       other_first e other least = record { applies = other; first = first } where
-        first : (w : Verdict) → Applies p plan w → IsBefore (ServesOther e) w
+        first : (w : Verdict) → VerdictApplies p plan w → VerdictNoLater (ServesOther e) w
         first (Broken tour step) h = absurd (none_broken continues tour step h)
         first (NotAtDepot tour) h = absurd (none_away depot tour h)
         first (ServesOther d) h = inr (refl, no_later e d 0 0 (least d h) (λ _. omega arith))
@@ -136,13 +136,13 @@ module _ (p : Problem) (plan : List (List Step)) where
       module _ (no_other : (e : ℕ) → ¬ (ServesOtherIn p (steps_of plan) e)) where
         pub twice_first : (k : ℕ) → IsFirstNot p.required (λ k. services_of (suc k) plan ≤ 1) k → IsVerdict p plan (ServedTwice (k + 1))
         twice_first k edges = rw (add-one k) (record { applies = applies; first = first }) where
-          applies : Applies p plan (ServedTwice (suc k))
+          applies : VerdictApplies p plan (ServedTwice (suc k))
           applies = (
             record { from_one = omega arith; in_range = omega (arith, edges.in_range) },
             elim (cases_lt 1 (services_of (suc k) plan)) [ inl more ↦ omega arith | inr most ↦ absurd (edges.fails most) ],
           )
 
-          first : (w : Verdict) → Applies p plan w → IsBefore (ServedTwice (suc k)) w
+          first : (w : Verdict) → VerdictApplies p plan w → VerdictNoLater (ServedTwice (suc k)) w
           first (Broken tour step) h = absurd (none_broken continues tour step h)
           first (NotAtDepot tour) h = absurd (none_away depot tour h)
           first (ServesOther d) h = absurd (no_other d h)
@@ -159,13 +159,13 @@ module _ (p : Problem) (plan : List (List Step)) where
         module _ (most : (k : ℕ) → k < p.required → services_of (suc k) plan ≤ 1) where
           pub unserved_first : (k : ℕ) → IsFirstNot p.required (λ k. 1 ≤ services_of (suc k) plan) k → IsVerdict p plan (NotServed (k + 1))
           unserved_first k edges = rw (add-one k) (record { applies = applies; first = first }) where
-            applies : Applies p plan (NotServed (suc k))
+            applies : VerdictApplies p plan (NotServed (suc k))
             applies = (
               record { from_one = omega arith; in_range = omega (arith, edges.in_range) },
               elim (cases_lt 0 (services_of (suc k) plan)) [ inl some ↦ absurd (edges.fails (omega arith)) | inr none ↦ omega arith ],
             )
 
-            first : (w : Verdict) → Applies p plan w → IsBefore (NotServed (suc k)) w
+            first : (w : Verdict) → VerdictApplies p plan w → VerdictNoLater (NotServed (suc k)) w
             first (Broken tour step) h = absurd (none_broken continues tour step h)
             first (NotAtDepot tour) h = absurd (none_away depot tour h)
             first (ServesOther d) h = absurd (no_other d h)
@@ -183,14 +183,14 @@ module _ (p : Problem) (plan : List (List Step)) where
             pub overload_first : (t load : ℕ) → IsFirstNot (length plan) (λ k. walk_load p (walk_at plan k) ≤ p.capacity) t →
                 load ≡ walk_load p (walk_at plan t) → IsVerdict p plan (Overload (t + 1) load)
             overload_first t load tours load_is = rw (add-one t) (record { applies = applies; first = first }) where
-              applies : Applies p plan (Overload (suc t) load)
+              applies : VerdictApplies p plan (Overload (suc t) load)
               applies = rw (back t) (
                 record { from_one = omega arith; in_range = omega (arith, tours.in_range) },
                 load_is,
                 elim (cases_lt p.capacity load) [ inl above ↦ above | inr within ↦ absurd (tours.fails (omega (arith, within, load_is))) ],
               )
 
-              first : (w : Verdict) → Applies p plan w → IsBefore (Overload (suc t) load) w
+              first : (w : Verdict) → VerdictApplies p plan w → VerdictNoLater (Overload (suc t) load) w
               first (Broken tour step) h = absurd (none_broken continues tour step h)
               first (NotAtDepot tour) h = absurd (none_away depot tour h)
               first (ServesOther d) h = absurd (no_other d h)
@@ -203,7 +203,7 @@ module _ (p : Problem) (plan : List (List Step)) where
               )
               first (Lawful cost) h = inl (omega arith)
 
-  pub nothing_fails : IsClear p plan → (v : Verdict) → IsFailing v → ¬ (Applies p plan v)
+  pub nothing_fails : IsClear p plan → (v : Verdict) → IsFailing v → ¬ (VerdictApplies p plan v)
   nothing_fails clear (Broken tour step) fails h = none_broken clear.continues tour step h
   nothing_fails clear (NotAtDepot tour) fails h = none_away clear.depot tour h
   nothing_fails clear (ServesOther e) fails h = clear.no_other e h
@@ -214,7 +214,7 @@ module _ (p : Problem) (plan : List (List Step)) where
 
   pub lawful_first : (cost : ℕ) → IsClear p plan → cost ≡ plan_cost p plan → IsVerdict p plan (Lawful cost)
   lawful_first cost clear cost_is = record { applies = (lawful_where_clear p plan clear, cost_is); first = first } where
-    first : (w : Verdict) → Applies p plan w → IsBefore (Lawful cost) w
+    first : (w : Verdict) → VerdictApplies p plan w → VerdictNoLater (Lawful cost) w
     first (Broken tour step) h = absurd (none_broken clear.continues tour step h)
     first (NotAtDepot tour) h = absurd (none_away clear.depot tour h)
     first (ServesOther d) h = absurd (clear.no_other d h)
@@ -223,7 +223,7 @@ module _ (p : Problem) (plan : List (List Step)) where
     first (Overload tour load) h = absurd (none_overload clear.loads tour load h)
     first (Lawful other) h = inr (refl, inr (refl, omega arith))
 
-  clear_where_nothing_fails : ((v : Verdict) → IsFailing v → ¬ (Applies p plan v)) → IsClear p plan
+  clear_where_nothing_fails : ((v : Verdict) → IsFailing v → ¬ (VerdictApplies p plan v)) → IsClear p plan
   clear_where_nothing_fails none = record {
     continues = λ t in_plan i in_walk. continues_unless_broken p (walk_at plan t) i (λ broken. none (Broken (suc t) (suc i)) (omega arith) (rw (back t) (
       record { from_one = omega arith; in_range = omega arith },
@@ -247,10 +247,10 @@ module _ (p : Problem) (plan : List (List Step)) where
     ];
   }
 
-  pub lawful_where_nothing_fails : ((v : Verdict) → IsFailing v → ¬ (Applies p plan v)) → IsLawful p plan
+  pub lawful_where_nothing_fails : ((v : Verdict) → IsFailing v → ¬ (VerdictApplies p plan v)) → IsLawful p plan
   lawful_where_nothing_fails none = lawful_where_clear p plan (clear_where_nothing_fails none)
 
-  pub nothing_fails_where_lawful : IsLawful p plan → (v : Verdict) → IsFailing v → ¬ (Applies p plan v)
+  pub nothing_fails_where_lawful : IsLawful p plan → (v : Verdict) → IsFailing v → ¬ (VerdictApplies p plan v)
   nothing_fails_where_lawful lawful = nothing_fails (clear_where_lawful p plan lawful)
 
   pub lawful_verdict : (cost : ℕ) → IsLawful p plan → cost ≡ plan_cost p plan → IsVerdict p plan (Lawful cost)
@@ -267,7 +267,7 @@ module _ (p : Problem) (plan : List (List Step)) where
       else if rank == 6 then Overload number (walk_load p (tour_at plan number))
       else Lawful (plan_cost p plan)
 
-  is_made : (v : Verdict) → Applies p plan v → v ≡ made (rank_of v) (named_by v) (step_named_by v)
+  is_made : (v : Verdict) → VerdictApplies p plan v → v ≡ made (verdict_rank v) (verdict_number v) (verdict_step v)
   unfolding made
   is_made (Broken tour step) h = refl
   is_made (NotAtDepot tour) h = refl
@@ -279,7 +279,7 @@ module _ (p : Problem) (plan : List (List Step)) where
 
   pub one_verdict : (v w : Verdict) → IsVerdict p plan v → IsVerdict p plan w → v ≡ w
   one_verdict v w v_is w_is =
-      let same = same_place (rank_of v) (rank_of w) (named_by v) (named_by w) (step_named_by v) (step_named_by w) (v_is.first w w_is.applies) (w_is.first v v_is.applies) in
+      let same = same_place (verdict_rank v) (verdict_rank w) (verdict_number v) (verdict_number w) (verdict_step v) (verdict_step w) (v_is.first w w_is.applies) (w_is.first v v_is.applies) in
       is_made v v_is.applies ∙ (rw (same.0, same.1, same.2) refl) ∙ sym (is_made w w_is.applies)
 
 -- a first place is one of another property that says the same

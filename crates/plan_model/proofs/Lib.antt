@@ -1,5 +1,6 @@
 pub mod Sums
 pub mod Services
+pub mod Crossings
 pub mod Chains
 pub mod Clear
 pub mod Firsts

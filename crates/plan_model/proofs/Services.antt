@@ -3,10 +3,11 @@ use Rattle.std.proofs.Common.{◌≡◌, ℕ, ◌+◌, ◌*◌, ◌≤◌, ◌==
 use Rattle.std.specs.Prelude.{if◌then◌else◌, IsTrue}
 use Rattle.std.specs.List.{sum_by, count_by, AllByRecursion}
 use Rattle.std.proofs.lemmas.List.Sums.{sum_by-cons, sum_by-le-sum_by}
-use Rattle.carp_base.specs.Problem.{Problem, IsValid, IsRequired, edge_at, no_edge, required_edges, required_cost}
+use Rattle.carp_base.specs.Problem.{Problem, IsValid, IsRequired, edge_at, required_edges, required_cost}
 use Rattle.plan_model.specs.Plans.{IsLawful, IsLawfulWalk, steps_of, step_cost, plan_cost}
 use Rattle.plan_model.specs.declared.step.Step.{Step}
-use Rattle.plan_model.proofs.Sums.{sum_to, sum_to-single, sum_to-add, sum_to-same, sum_to-take, sum_to-zero}
+use Rattle.plan_model.specs.Sums.{sum_to}
+use Rattle.plan_model.proofs.Sums.{sum_to-single, sum_to-add, sum_to-same, sum_to-edge_at, sum_to-zero}
 use Rattle.carp_base.specs.declared.edge.Edge.{Edge}
 
 -- each served step is on a required edge
@@ -22,7 +23,7 @@ serves_required p [] all = tt
 serves_required p (walk ∷ walks) all = AllByRecursion-append _ walk (steps_of walks) all.0.serves_required (serves_required p walks all.1)
 
 -- one step gives the term of its own edge, where it is served
-term : (m : ℕ) (g : ℕ → ℕ) (b : Bool) (e : ℕ) → (IsTrue b → (1 ≤ e) × (e ≤ m)) →
+pub term : (m : ℕ) (g : ℕ → ℕ) (b : Bool) (e : ℕ) → (IsTrue b → (1 ≤ e) × (e ≤ m)) →
     cond b (g e) 0 ≡ sum_to m (λ i. cond (b && (e == i)) (g i) 0)
 term m g true e serves = let h : (1 ≤ e) × (e ≤ m) = serves refl in sym (sum_to-single m e g h.0 h.1)
 term m g false e serves = sym (sum_to-zero m)
@@ -58,7 +59,7 @@ served_once p plan g lawful =
 pub served_once_at : (p : Problem) (plan : List (List Step)) (f : Edge → ℕ) → IsValid p → IsLawful p plan →
     sum_by (λ s. if s.served then f (edge_at p s.edge) else 0) (steps_of plan) ≡ sum_by f (required_edges p)
 served_once_at p plan f valid lawful =
-    served_once p plan (λ e. f (edge_at p e)) lawful ∙ sum_to-take f p.edges no_edge p.required valid.required_in
+    served_once p plan (λ e. f (edge_at p e)) lawful ∙ sum_to-edge_at p f p.required valid.required_in
 
 service_part : (b : Bool) (service cost : ℕ) → (if b then service else 0) ≤ (if b then service else cost)
 service_part true service cost = omega arith

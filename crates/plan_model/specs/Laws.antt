@@ -1,8 +1,10 @@
 -- Laws over all lawful plans, and over what a judge answers.
-use Rattle.std.specs.Prelude.{◌≡◌, ℕ, ◌≤◌, ◌↔◌, List}
-use Rattle.carp_base.specs.Problem.{Problem, IsValid, required_cost}
-use Rattle.plan_model.specs.Plans.{IsLawful, plan_cost}
-use Rattle.plan_model.specs.Verdicts.{IsVerdict, Applies, IsFailing}
+use Rattle.std.specs.Prelude.{◌≡◌, ℕ, ◌<◌, ◌≤◌, ◌↔◌, Bool, List, IsTrue, if◌then◌else◌, length, sum_by}
+use Rattle.carp_base.specs.declared.edge.Edge.{Edge}
+use Rattle.carp_base.specs.Problem.{Problem, IsValid, IsRequired, edge_at, required_cost, required_edges}
+use Rattle.plan_model.specs.Sums.{sum_to}
+use Rattle.plan_model.specs.Plans.{IsLawful, plan_cost, steps_of, step_at, serves, crosses, deadheads_on, deadheads_over}
+use Rattle.plan_model.specs.Verdicts.{IsVerdict, VerdictApplies, IsFailing}
 use Rattle.plan_model.specs.declared.step.Step.{Step}
 use Rattle.plan_model.specs.declared.verdict.Verdict.{Verdict}
 use Rattle.plan_model.specs.declared.verdict.Verdict.TheVariants.{Lawful}
@@ -14,6 +16,32 @@ IsLowerBound p bound = (plan : List (List Step)) → IsLawful p plan → bound �
 -- every lawful plan costs at least what serving its required edges costs
 abbrev pub RequiredCostIsLeast : Type 0
 RequiredCostIsLeast = (p : Problem) → IsValid p → IsLowerBound p (required_cost p)
+
+-- what the services of a lawful plan sum to, by the edges' numbers, is the sum over the required edges
+abbrev pub ServedOnceByNumber : Type 0
+ServedOnceByNumber = (p : Problem) (plan : List (List Step)) (g : ℕ → ℕ) → IsLawful p plan →
+    sum_by (λ s. if s.served then g s.edge else 0) (steps_of plan) ≡ sum_to p.required g
+
+-- the same for what is read off the edges
+abbrev pub ServedOnceByEdge : Type 0
+ServedOnceByEdge = (p : Problem) (plan : List (List Step)) (g : Edge → ℕ) → IsValid p → IsLawful p plan →
+    sum_by (λ s. if s.served then g (edge_at p s.edge) else 0) (steps_of plan) ≡ sum_by g (required_edges p)
+
+-- the step at this place serves the edge, and no step at another place does
+pub record ServedOnlyAt (steps : List Step) (e : ℕ) (place : ℕ) : Type 0 where
+  pub in_range : place < length steps
+  pub served : IsTrue (serves e (step_at steps place))
+  pub only : (k : ℕ) → k < length steps → IsTrue (serves e (step_at steps k)) → k ≡ place
+
+-- one step of a lawful plan serves a required edge, and no other does
+abbrev pub ServedByOneStep : Type 0
+ServedByOneStep = (p : Problem) (plan : List (List Step)) (e : ℕ) → IsLawful p plan → IsRequired p e →
+    (place : ℕ) × ServedOnlyAt (steps_of plan) e place
+
+-- the deadheads over a set are those on the edges that cross it; the plan need not be lawful
+abbrev pub DeadheadsByEdge : Type 0
+DeadheadsByEdge = (p : Problem) (inside : ℕ → Bool) (plan : List (List Step)) →
+    deadheads_over p inside plan ≡ sum_to (length p.edges) (λ e. if crosses inside (edge_at p e) then deadheads_on e plan else 0)
 
 -- a plan has at most one verdict
 abbrev pub VerdictIsUnique : Type 0
@@ -27,4 +55,4 @@ LawfulVerdictIsExact = (p : Problem) (plan : List (List Step)) (cost : ℕ) →
 -- a plan is lawful exactly where no verdict that says that something is wrong applies
 abbrev pub FailuresAreComplete : Type 0
 FailuresAreComplete = (p : Problem) (plan : List (List Step)) →
-    IsLawful p plan ↔ ((v : Verdict) → IsFailing v → ¬ (Applies p plan v))
+    IsLawful p plan ↔ ((v : Verdict) → IsFailing v → ¬ (VerdictApplies p plan v))

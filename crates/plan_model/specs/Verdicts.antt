@@ -45,52 +45,52 @@ IsAway p walk =
     × ((start_of p (nth_step walk 1) ≢ p.depot) ⊎ (end_of p (nth_step walk (length walk)) ≢ p.depot))
 
 -- what the verdict says is so
-abbrev pub Applies : Problem → List (List Step) → Verdict → Type 0
-Applies p plan (Lawful cost) = IsLawful p plan × (cost ≡ plan_cost p plan)
-Applies p plan (Broken tour step) = IsTourNumber plan tour × IsStepNumber (tour_at plan tour) step × IsBroken p (tour_at plan tour) step
-Applies p plan (NotAtDepot tour) = IsTourNumber plan tour × IsAway p (tour_at plan tour)
-Applies p plan (ServesOther e) = ¬ (IsRequired p e) × (1 ≤ services_of e plan)
-Applies p plan (ServedTwice e) = IsRequired p e × (2 ≤ services_of e plan)
-Applies p plan (NotServed e) = IsRequired p e × (services_of e plan ≡ 0)
-Applies p plan (Overload tour load) = IsTourNumber plan tour × (load ≡ walk_load p (tour_at plan tour)) × (p.capacity < load)
+abbrev pub VerdictApplies : Problem → List (List Step) → Verdict → Type 0
+VerdictApplies p plan (Lawful cost) = IsLawful p plan × (cost ≡ plan_cost p plan)
+VerdictApplies p plan (Broken tour step) = IsTourNumber plan tour × IsStepNumber (tour_at plan tour) step × IsBroken p (tour_at plan tour) step
+VerdictApplies p plan (NotAtDepot tour) = IsTourNumber plan tour × IsAway p (tour_at plan tour)
+VerdictApplies p plan (ServesOther e) = ¬ (IsRequired p e) × (1 ≤ services_of e plan)
+VerdictApplies p plan (ServedTwice e) = IsRequired p e × (2 ≤ services_of e plan)
+VerdictApplies p plan (NotServed e) = IsRequired p e × (services_of e plan ≡ 0)
+VerdictApplies p plan (Overload tour load) = IsTourNumber plan tour × (load ≡ walk_load p (tour_at plan tour)) × (p.capacity < load)
 
 -- the place of a verdict in the order in which verdicts are answered
-abbrev pub rank_of : Verdict → ℕ
-rank_of (Broken tour step) = 1
-rank_of (NotAtDepot tour) = 2
-rank_of (ServesOther e) = 3
-rank_of (ServedTwice e) = 4
-rank_of (NotServed e) = 5
-rank_of (Overload tour load) = 6
-rank_of (Lawful cost) = 7
+abbrev pub verdict_rank : Verdict → ℕ
+verdict_rank (Broken tour step) = 1
+verdict_rank (NotAtDepot tour) = 2
+verdict_rank (ServesOther e) = 3
+verdict_rank (ServedTwice e) = 4
+verdict_rank (NotServed e) = 5
+verdict_rank (Overload tour load) = 6
+verdict_rank (Lawful cost) = 7
 
 -- the tour or the edge that a verdict names
-abbrev pub named_by : Verdict → ℕ
-named_by (Broken tour step) = tour
-named_by (NotAtDepot tour) = tour
-named_by (ServesOther e) = e
-named_by (ServedTwice e) = e
-named_by (NotServed e) = e
-named_by (Overload tour load) = tour
-named_by (Lawful cost) = 0
+abbrev pub verdict_number : Verdict → ℕ
+verdict_number (Broken tour step) = tour
+verdict_number (NotAtDepot tour) = tour
+verdict_number (ServesOther e) = e
+verdict_number (ServedTwice e) = e
+verdict_number (NotServed e) = e
+verdict_number (Overload tour load) = tour
+verdict_number (Lawful cost) = 0
 
 -- the step that a verdict names within its tour
-abbrev pub step_named_by : Verdict → ℕ
-step_named_by (Broken tour step) = step
-step_named_by _ = 0
+abbrev pub verdict_step : Verdict → ℕ
+verdict_step (Broken tour step) = step
+verdict_step _ = 0
 
--- one verdict is answered before another: by rank, then by the tour or the edge, and then by the step
-abbrev pub IsBefore : Verdict → Verdict → Type 0
-IsBefore v w =
-    (rank_of v < rank_of w)
-    ⊎ ((rank_of v ≡ rank_of w)
-    × ((named_by v < named_by w) ⊎ ((named_by v ≡ named_by w) × (step_named_by v ≤ step_named_by w))))
+-- a verdict stands no later than another: by rank, then by the tour or the edge, and then by the step
+abbrev pub VerdictNoLater : Verdict → Verdict → Type 0
+VerdictNoLater v w =
+    (verdict_rank v < verdict_rank w)
+    ⊎ ((verdict_rank v ≡ verdict_rank w)
+    × ((verdict_number v < verdict_number w) ⊎ ((verdict_number v ≡ verdict_number w) × (verdict_step v ≤ verdict_step w))))
 
--- the verdict that is answered: it applies, and stands before each other that applies
+-- the verdict that is answered: it applies, and stands no later than each that applies
 pub record IsVerdict (p : Problem) (plan : List (List Step)) (v : Verdict) : Type 0 where
-  pub applies : Applies p plan v
-  pub first : (w : Verdict) → Applies p plan w → IsBefore v w
+  pub applies : VerdictApplies p plan v
+  pub first : (w : Verdict) → VerdictApplies p plan w → VerdictNoLater v w
 
 -- the verdict says that something is wrong
 abbrev pub IsFailing : Verdict → Type 0
-IsFailing v = rank_of v < 7
+IsFailing v = verdict_rank v < 7

@@ -1,21 +1,37 @@
 // Small data on which a fact that no call decides holds, and on which it does not.
-ghost use Rattle.std.specs.Prelude.{[], ◌∷◌, Ok, Some, None};
+ghost use Rattle.std.specs.Prelude.{◌≡◌, ◌==◌, ◌||◌, true, false, [], ◌∷◌, Ok, Some, None};
 ghost use Rattle.plan_model.specs.declared.verdict.Verdict.TheVariants.{Lawful, Broken, NotServed};
-ghost use Rattle.plan_model.specs.Plans.{IsOnEdges};
-ghost use Rattle.plan_model.specs.Verdicts.{IsBefore, IsFailing};
+ghost use Rattle.plan_model.specs.Plans.{IsOnEdges, crosses, deadheads_on, deadheads_over};
+ghost use Rattle.plan_model.specs.Verdicts.{VerdictNoLater, IsFailing};
 ghost use Rattle.plan_model.specs.Laws.{IsLowerBound};
 ghost use Rattle.plan_model.specs.Offers.{AfterOffer};
-ghost use Rattle.plan_model.specs.Examples.{one_vertex, one_street, first_step, second_step, fresh, paid, foul};
+ghost use Rattle.plan_model.specs.Examples.{one_vertex, one_street, street_in, street_out, two_streets_meet, there_and_back, first_step, second_step, fresh, paid, foul};
 
 fn steps_on_edges()
     ensures on { IsOnEdges one_street (first_step ∷ []) }
     ensures off { ¬ (IsOnEdges one_street (second_step ∷ [])) }
 {}
 
+fn an_edge_crosses_a_set()
+    ensures last_end_inside { crosses (λ v. v == 2) street_in ≡ true }
+    ensures first_end_inside { crosses (λ v. v == 3) street_out ≡ true }
+    ensures both_inside { crosses (λ v. (v == 1) || (v == 2)) street_in ≡ false }
+    ensures both_outside { crosses (λ v. v == 3) street_in ≡ false }
+{}
+
+fn deadheads_of_a_plan()
+    ensures beside_a_service { deadheads_on 1 there_and_back ≡ 1 }
+    ensures both_directions { deadheads_on 2 there_and_back ≡ 2 }
+    ensures other_edge { deadheads_on 3 there_and_back ≡ 0 }
+    ensures over_a_set { deadheads_over two_streets_meet (λ v. v == 2) there_and_back ≡ 3 }
+    ensures not_within { deadheads_over two_streets_meet (λ v. (v == 2) || (v == 3)) there_and_back ≡ 1 }
+    ensures on_no_edge { deadheads_over one_vertex (λ v. true) there_and_back ≡ 0 }
+{}
+
 fn a_verdict_before_another()
-    ensures kind { IsBefore (Broken 2 1) (NotServed 1) }
-    ensures step { IsBefore (Broken 1 2) (Broken 1 3) }
-    ensures after { ¬ (IsBefore (Broken 2 1) (Broken 1 3)) }
+    ensures kind { VerdictNoLater (Broken 2 1) (NotServed 1) }
+    ensures step { VerdictNoLater (Broken 1 2) (Broken 1 3) }
+    ensures after { ¬ (VerdictNoLater (Broken 2 1) (Broken 1 3)) }
 {}
 
 fn a_verdict_that_fails()

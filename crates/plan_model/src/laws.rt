@@ -1,9 +1,23 @@
 // Laws over all plans, as functions whose contract is the law.
-ghost use Rattle.plan_model.specs.Laws.{RequiredCostIsLeast, VerdictIsUnique, LawfulVerdictIsExact, FailuresAreComplete};
+ghost use Rattle.plan_model.specs.Laws.{RequiredCostIsLeast, ServedOnceByNumber, ServedOnceByEdge, ServedByOneStep, DeadheadsByEdge, VerdictIsUnique, LawfulVerdictIsExact, FailuresAreComplete};
 
 /// No lawful plan costs less than it costs to serve each required edge once.
 pub fn required_cost_is_least()
     ensures { RequiredCostIsLeast }
+{}
+
+/// Just one step of a lawful plan serves a required edge. So what the services sum to, read off the edges or off their
+/// numbers, is the sum over the required edges.
+pub fn required_edges_are_served_once()
+    ensures by_number { ServedOnceByNumber }
+    ensures by_edge { ServedOnceByEdge }
+    ensures one_step { ServedByOneStep }
+{}
+
+/// The deadheads of a plan over a set of vertices are the deadheads on the edges of the instance that cross the set. The
+/// plan need not be lawful.
+pub fn deadheads_are_on_crossing_edges()
+    ensures { DeadheadsByEdge }
 {}
 
 /// A plan has one verdict at most. It is `Lawful` exactly where the plan is lawful, and something is wrong with every

@@ -23,7 +23,10 @@ mod verdict;
 mod walk;
 
 pub use judging::{JudgeRoom, judge};
-pub use laws::{required_cost_is_least, verdicts_are_exact};
+pub use laws::{
+    deadheads_are_on_crossing_edges, required_cost_is_least, required_edges_are_served_once,
+    verdicts_are_exact,
+};
 pub use plan::Plan;
 pub use proposer::Proposer;
 pub use step::Step;

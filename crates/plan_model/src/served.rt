@@ -49,7 +49,7 @@ fn least_other_in(inst: &Instance, walk: &Walk) -> Option<u32>
 }
 
 /// The least edge that is served and not required.
-pub fn least_other(inst: &Instance, plan: &Plan) -> Option<u32>
+pub(crate) fn least_other(inst: &Instance, plan: &Plan) -> Option<u32>
     ensures least { FindsLeast (ServesOtherIn inst.now (steps_of plan.now)) result }
     ensures valid { IsValid inst.now }
 {
@@ -82,7 +82,7 @@ fn count_walk(walk: &Walk, counts: &mut [u8])
 }
 
 /// Sets the count of each edge, from edge 1 on, to how often the plan serves it, or to 2 where that is more.
-pub fn count_services(plan: &Plan, counts: &mut [u8])
+pub(crate) fn count_services(plan: &Plan, counts: &mut [u8])
     ensures { EachIndex counts.new (λ k. slice_index counts.new k ≡ min 2 (services_of (k + 1) plan.now)) }
 {
     counts.fill(0);
@@ -92,14 +92,14 @@ pub fn count_services(plan: &Plan, counts: &mut [u8])
 }
 
 /// The place of the first edge that is served more than once.
-pub fn first_twice(counts: &[u8]) -> Option<usize>
+pub(crate) fn first_twice(counts: &[u8]) -> Option<usize>
     ensures { FindsNot (length counts.now) (λ k. slice_index counts.now k ≤ 1) result }
 {
     counts.iter().position(|count| *count > 1)
 }
 
 /// The place of the first edge that is never served.
-pub fn first_unserved(counts: &[u8]) -> Option<usize>
+pub(crate) fn first_unserved(counts: &[u8]) -> Option<usize>
     ensures { FindsNot (length counts.now) (λ k. 1 ≤ slice_index counts.now k) result }
 {
     counts.iter().position(|count| *count == 0)

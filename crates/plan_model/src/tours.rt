@@ -58,7 +58,7 @@ fn first_break(inst: &Instance, walk: &Walk) -> Option<u32>
 }
 
 /// The first tour with a broken step, and that step.
-pub fn first_broken(inst: &Instance, plan: &Plan) -> Option<(u32, u32)>
+pub(crate) fn first_broken(inst: &Instance, plan: &Plan) -> Option<(u32, u32)>
     ensures { FindsBroken inst.now plan.now result }
 {
     for tour in 0..plan.len() {
@@ -81,7 +81,7 @@ fn is_at_depot(inst: &Instance, walk: &Walk) -> bool
 }
 
 /// The first tour that does not start and end at the depot.
-pub fn first_away(inst: &Instance, plan: &Plan) -> Option<u32>
+pub(crate) fn first_away(inst: &Instance, plan: &Plan) -> Option<u32>
     requires { (k : ℕ) → k < length plan.now → Continues inst.now (walk_at plan.now k) }
     ensures { FindsNot (length plan.now) (λ k. IsAtDepot inst.now (walk_at plan.now k)) result }
 {
@@ -94,7 +94,7 @@ pub fn first_away(inst: &Instance, plan: &Plan) -> Option<u32>
 }
 
 /// The first tour whose load is above the capacity, and its load.
-pub fn first_overload(inst: &Instance, plan: &Plan) -> Option<(u32, u128)>
+pub(crate) fn first_overload(inst: &Instance, plan: &Plan) -> Option<(u32, u128)>
     requires { (k : ℕ) → k < length plan.now → Continues inst.now (walk_at plan.now k) }
     ensures { FindsOverload inst.now plan.now result }
 {
@@ -109,7 +109,7 @@ pub fn first_overload(inst: &Instance, plan: &Plan) -> Option<(u32, u128)>
 }
 
 /// What the plan costs.
-pub fn plan_cost_of(inst: &Instance, plan: &Plan) -> u128
+pub(crate) fn plan_cost_of(inst: &Instance, plan: &Plan) -> u128
     requires valid { IsValid inst.now }
     requires continues { (k : ℕ) → k < length plan.now → Continues inst.now (walk_at plan.now k) }
     ensures { result ≡ plan_cost inst.now plan.now }
