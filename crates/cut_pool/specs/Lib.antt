@@ -1,0 +1,5 @@
+pub mod Shores
+pub mod Marks
+pub mod Pools
+pub mod Laws
+pub mod Examples

@@ -1,0 +1,19 @@
+//! Sets of vertices without the depot, what every lawful plan does at their border, and a pool of such sets.
+//!
+//! A [`Shore`] is a set of vertices, which contracts see as its rising list. [`need`] is the least number of deadheads
+//! over it of every lawful plan, by the law [`need_is_met`]. A [`ShorePool`] numbers shores in the order of discovery.
+#![tactic(auto)]
+
+mod border;
+#[cfg(test)]
+mod examples;
+mod laws;
+mod pool;
+mod shore;
+#[cfg(test)]
+mod tests;
+
+pub use border::{need, required_crossings, touched};
+pub use laws::need_is_met;
+pub use pool::{PoolFull, ShorePool};
+pub use shore::{Shore, Weighted};
