@@ -11,7 +11,7 @@ use Rattle.plan_model.specs.Plans.{Leads}
 use Rattle.plan_model.specs.declared.step.Step.{Step}
 use Rattle.deadhead_paths.specs.Prices.{price_of, ArePrices, NoneServed, IsLeastPath, NoneLead}
 use Rattle.deadhead_paths.specs.Table.{unreached, rise_of, IsTowards}
-use Rattle.deadhead_paths.proofs.Labels.{labels_below, more_below, descends_by, least_price, none_lead, few_below}
+use Rattle.deadhead_paths.proofs.Labels.{labels_below, more_below, descends_by, least_price, label_least, none_lead, few_below}
 
 -- lists of steps, one step longer
 pub Leads-more : (p : Problem) (a : ℕ) (steps : List Step) (s : Step) (b : ℕ) → Leads p a steps b → IsEdgeNumber p s.edge → tail_of (edge_at p s.edge) s.forward ≡ b →
@@ -156,6 +156,16 @@ module _ (p : Problem) (valid : IsValid p) (prices : List ℕ) (fit : ArePrices 
             leads = subst (Leads p from so_far.done) arrived so_far.leads;
             costs = omega (arith, so_far.label, none, so_far.few, so_far.fewest, valid.few_vertices);
           };
+          fewest = λ other there. omega (
+            arith,
+            so_far.label,
+            none,
+            so_far.few,
+            so_far.fewest,
+            valid.few_vertices,
+            label_least p valid prices fit to labels nexts towards from other there.leads,
+            there.costs,
+          );
           short = omega (arith, so_far.few, so_far.fewest);
         },
         so_far.now_is,

@@ -124,7 +124,7 @@ module _ (p : Problem) (valid : IsValid p) (prices : List ℕ) (fit : ArePrices 
       omega (arith, fit.small s.edge leads.0, prices_small (head_of (edge_at p s.edge) s.forward) steps leads.2, sum_by-cons (λ x. price_of prices x.edge) s steps)
 
   -- a label that is not that of want of steps is far below it
-  label_small : (v : ℕ) → IsVertex p v → get_or labels v 0 < unreached → get_or labels v 0 ≤ 4096000000000000000001000
+  pub label_small : (v : ℕ) → IsVertex p v → get_or labels v 0 < unreached → get_or labels v 0 ≤ 4096000000000000000001000
   label_small v vertex reached =
       let path = has_path v vertex reached in
       omega (arith, path.label, path.few, few_below v vertex reached, prices_small v path.steps path.leads, valid.few_vertices)
@@ -161,6 +161,18 @@ module _ (p : Problem) (valid : IsValid p) (prices : List ℕ) (fit : ArePrices 
         reached = record { unserved = path.unserved; leads = path.leads; costs = price_at v vertex reached path };
         least = λ n other deadheads. omega (arith, deadheads.costs, (price_least v other deadheads.leads).1);
       }
+
+  -- each list of steps makes at least the label
+  pub label_least : (v : ℕ) (steps : List Step) → Leads p v steps target → get_or labels v 0 ≤ 1024 * sum_by (λ s. price_of prices s.edge) steps + length steps
+  label_least v [] leads = omega (arith, ap (λ w. get_or labels w 0) leads, towards.at_target)
+  label_least v (s ∷ steps) leads =
+      omega (
+        arith,
+        ap (λ w. get_or labels w 0) leads.1,
+        towards.potentials s.edge s.forward leads.0,
+        label_least (head_of (edge_at p s.edge) s.forward) steps leads.2,
+        sum_by-cons (λ x. price_of prices x.edge) s steps,
+      )
 
   pub none_lead : (v : ℕ) → unreached ≤ get_or labels v 0 → NoneLead p v target
   none_lead v none steps leads = absurd (omega (arith, none, (price_least v steps leads).0))

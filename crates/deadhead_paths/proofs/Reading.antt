@@ -1,9 +1,9 @@
 -- What is read from a table.
-use Rattle.std.proofs.Common.{◌≡◌, ℕ, ◌+◌, ◌-◌, ◌*◌, ◌/◌, ◌<◌, List, length, get_or, sym, arith, subst}
+use Rattle.std.proofs.Common.{◌≡◌, ℕ, ◌+◌, ◌-◌, ◌*◌, ◌/◌, ◌<◌, ◌≤◌, List, length, get_or, sym, arith, subst}
 use Rattle.carp_base.specs.Problem.{IsVertex}
 use Rattle.deadhead_paths.specs.Prices.{Priced, NoneLead, IsLeastPrice, edge_price}
 use Rattle.deadhead_paths.specs.Table.{IsTable, row_of, unreached}
-use Rattle.deadhead_paths.proofs.Labels.{least_price, none_lead}
+use Rattle.deadhead_paths.proofs.Labels.{least_price, none_lead, label_small}
 use Rattle.deadhead_paths.proofs.Rows.{place_in, read_row}
 
 module _ (x : Priced) (labels nexts : List ℕ) (table : IsTable x labels nexts) (to at place : ℕ)
@@ -35,3 +35,9 @@ module _ (x : Priced) (labels nexts : List ℕ) (table : IsTable x labels nexts)
       let is = label_read x labels nexts table to from place to_in from_in place_is l read in
       subst (λ n. IsLeastPrice x.problem (edge_price x) from to (n / 1024)) (sym is)
       (least_price x.problem table.valid x.prices table.prices to (row_of width labels to) (row_of width nexts to) (table.rows to to_in) from from_in (omega (arith, is, reached)))
+
+  pub read_small : l < unreached → l / 1024 ≤ 4000000000000000000000
+  read_small reached =
+      let width = x.problem.vertices + 1 in
+      let is = label_read x labels nexts table to from place to_in from_in place_is l read in
+      omega (arith, is, label_small x.problem table.valid x.prices table.prices to (row_of width labels to) (row_of width nexts to) (table.rows to to_in) from from_in (omega (arith, is, reached)))

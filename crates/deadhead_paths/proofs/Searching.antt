@@ -1,5 +1,5 @@
 -- A search, one label or one vertex further.
-use Rattle.std.proofs.Common.{◌≡◌, ◌≢◌, ℕ, zero, suc, ◌+◌, ◌<◌, ◌≤◌, min, Bool, true, false, List, [], ◌∷◌, length, get_or, set, sum, replicate, refl, sym, ap, ◌∙◌, arith, inl, inr, ◌⊎◌, subst, cond, eqb, ◌||◌}
+use Rattle.std.proofs.Common.{◌≡◌, ◌≢◌, ℕ, zero, suc, ◌+◌, ◌-◌, ◌<◌, ◌≤◌, min, Bool, true, false, List, [], ◌∷◌, length, get_or, set, sum, replicate, refl, sym, ap, ◌∙◌, arith, inl, inr, ◌⊎◌, subst, cond, eqb, ◌||◌}
 use Rattle.std.specs.List.{Contains, All}
 use Rattle.std.specs.List.Sorted.{IsPermutation}
 use Rattle.std.proofs.lemmas.Bool.{cases_eq, cases_lt, eq-eqb, ne_eqb, eqb-true}
@@ -10,24 +10,30 @@ use Rattle.std.proofs.lemmas.List.Sums.{sum_by-set}
 use Rattle.carp_base.specs.declared.edge.Edge.{Edge}
 use Rattle.carp_base.specs.Problem.{Problem, IsValid, IsVertex, IsEdgeNumber, edge_at, tail_of, head_of}
 use Rattle.road_network.specs.Incidence.{has_end, far_end, incident}
+use Rattle.deadhead_paths.specs.Prices.{price_of}
 use Rattle.deadhead_paths.specs.Table.{unreached, rise_of, Descends, IsTowards}
-use Rattle.deadhead_paths.specs.Search.{Entry, entry, IsSettled, IsSearch, Lowered, Unchanged, weight}
+use Rattle.deadhead_paths.specs.Search.{QueueEntry, queue_entry, IsSettled, IsLabelling, Lowered, Unchanged, weight}
+
+-- the price of an edge stands at the place before its number
+pub price_place : (prices : List ℕ) (e : ℕ) → 1 ≤ e → get_or prices (e - 1) 0 ≡ price_of prices e
+price_place prices zero from_one = absurd (omega (arith, from_one))
+price_place prices (suc k) from_one = let back : suc k - 1 ≡ k = omega arith in ap (λ i. get_or prices i 0) back
 
 -- which entries a longer queue has
-Contains-front : (x : Entry) (xs : List Entry) → Contains (x ∷ xs) x
+Contains-front : (x : QueueEntry) (xs : List QueueEntry) → Contains (x ∷ xs) x
 Contains-front x xs = (0, omega arith, refl)
 
-Contains-later : (y : Entry) (xs : List Entry) (x : Entry) → Contains xs x → Contains (y ∷ xs) x
+Contains-later : (y : QueueEntry) (xs : List QueueEntry) (x : QueueEntry) → Contains xs x → Contains (y ∷ xs) x
 Contains-later y xs x there = Contains-append_right (y ∷ []) xs x there
 
-Contains-cases : (y : Entry) (xs : List Entry) (x : Entry) → Contains (y ∷ xs) x → (y ≡ x) ⊎ Contains xs x
+Contains-cases : (y : QueueEntry) (xs : List QueueEntry) (x : QueueEntry) → Contains (y ∷ xs) x → (y ≡ x) ⊎ Contains xs x
 Contains-cases y xs x (zero, in_range, is) = inl is
 Contains-cases y xs x (suc k, in_range, is) = inr (k, omega (arith, in_range), is)
 
 -- a label that an edge to u lowers
-module _ (p : Problem) (prices : List ℕ) (target : ℕ) (labels nexts : List ℕ) (queue : List Entry) (u : ℕ)
-    (state : IsSearch p prices target labels nexts queue u)
-    (w next label : ℕ) (labels' nexts' : List ℕ) (queue' : List Entry)
+module _ (p : Problem) (prices : List ℕ) (target : ℕ) (labels nexts : List ℕ) (queue : List QueueEntry) (u : ℕ)
+    (state : IsLabelling p prices target labels nexts queue u)
+    (w next label : ℕ) (labels' nexts' : List ℕ) (queue' : List QueueEntry)
     (vertex : IsVertex p w) (apart : w ≢ u)
     (number : IsEdgeNumber p next) (forward : Bool) (tail : tail_of (edge_at p next) forward ≡ w) (head : head_of (edge_at p next) forward ≡ u)
     (label_is : label ≡ min (get_or labels u 0 + rise_of prices next) unreached)
@@ -73,11 +79,11 @@ module _ (p : Problem) (prices : List ℕ) (target : ℕ) (labels nexts : List �
         })
   ]
 
-  covers_more : (v : ℕ) → IsVertex p v → v ≢ u → Contains queue' (entry (get_or labels' v 0) v) ⊎ IsSettled p prices labels' v
+  covers_more : (v : ℕ) → IsVertex p v → v ≢ u → Contains queue' (queue_entry (get_or labels' v 0) v) ⊎ IsSettled p prices labels' v
   covers_more v is_vertex not_u = elim (cases_eq v w) [
-    | inl same ↦ inl (rw (same, at_w) (Contains-permutation _ _ _ lowered.queue_is (Contains-front (entry label w) queue)))
+    | inl same ↦ inl (rw (same, at_w) (Contains-permutation _ _ _ lowered.queue_is (Contains-front (queue_entry label w) queue)))
     | inr other ↦ elim (state.covers v is_vertex not_u) [
-      | inl waits ↦ inl (rw (at_other v other) (Contains-permutation _ _ _ lowered.queue_is (Contains-later (entry label w) queue _ waits)))
+      | inl waits ↦ inl (rw (at_other v other) (Contains-permutation _ _ _ lowered.queue_is (Contains-later (queue_entry label w) queue _ waits)))
       | inr settled ↦ inr (λ e way is_number is. omega (arith, settled e way is_number is, falls (tail_of (edge_at p e) way), at_other v other))
     ]
   ]
@@ -85,14 +91,14 @@ module _ (p : Problem) (prices : List ℕ) (target : ℕ) (labels nexts : List �
   not_target : w ≢ target
   not_target is = absurd (omega (arith, less, state.at_target, ap (λ v. get_or labels v 0) is))
 
-  lowered_search : IsSearch p prices target labels' nexts' queue' u
+  lowered_search : IsLabelling p prices target labels' nexts' queue' u
   lowered_search = record {
     labels_long = ap length lowered.labels_are ∙ length-set labels w label ∙ state.labels_long;
     nexts_long = ap length lowered.nexts_are ∙ length-set nexts w next ∙ state.nexts_long;
     unused = at_other 0 (λ is. absurd (omega (arith, is, vertex.from_one))) ∙ state.unused;
     at_target = at_other target (λ is. not_target (sym is)) ∙ state.at_target;
     descends = descends_more;
-    queued = All-permutation (λ x. IsVertex p x.1) _ _ lowered.queue_is (All-cons (λ x. IsVertex p x.1) (entry label w) queue vertex state.queued);
+    queued = All-permutation (λ x. IsVertex p x.1) _ _ lowered.queue_is (All-cons (λ x. IsVertex p x.1) (queue_entry label w) queue vertex state.queued);
     covers = covers_more;
   }
 
@@ -111,15 +117,15 @@ module _ (p : Problem) (prices : List ℕ) (target : ℕ) (labels nexts : List �
   lowered_labels = (omega (arith, at_w, rises), at_other u (λ is. apart (sym is)))
 
 -- the search after an edge to u was tried
-pub record Tried (p : Problem) (prices : List ℕ) (target u w next : ℕ) (labels : List ℕ) (queue : List Entry) (labels' nexts' : List ℕ) (queue' : List Entry) : Type 0 where
-  pub search : IsSearch p prices target labels' nexts' queue' u
+pub record Tried (p : Problem) (prices : List ℕ) (target u w next : ℕ) (labels : List ℕ) (queue : List QueueEntry) (labels' nexts' : List ℕ) (queue' : List QueueEntry) : Type 0 where
+  pub search : IsLabelling p prices target labels' nexts' queue' u
   pub lighter : weight labels' queue' ≤ weight labels queue
   pub tried : get_or labels' w 0 ≤ get_or labels u 0 + rise_of prices next
   pub own : get_or labels' u 0 ≡ get_or labels u 0
   pub falling : (v : ℕ) → get_or labels' v 0 ≤ get_or labels v 0
 
-pub tried_edge : (p : Problem) (prices : List ℕ) (target : ℕ) (labels nexts : List ℕ) (queue : List Entry) (u : ℕ) → IsSearch p prices target labels nexts queue u →
-    (w next label : ℕ) (labels' nexts' : List ℕ) (queue' : List Entry) → IsVertex p w → w ≢ u →
+pub tried_edge : (p : Problem) (prices : List ℕ) (target : ℕ) (labels nexts : List ℕ) (queue : List QueueEntry) (u : ℕ) → IsLabelling p prices target labels nexts queue u →
+    (w next label : ℕ) (labels' nexts' : List ℕ) (queue' : List QueueEntry) → IsVertex p w → w ≢ u →
     IsEdgeNumber p next → (forward : Bool) → tail_of (edge_at p next) forward ≡ w → head_of (edge_at p next) forward ≡ u →
     label ≡ min (get_or labels u 0 + rise_of prices next) unreached → get_or labels w 0 ≤ unreached →
     (label < get_or labels w 0 → Lowered w label next labels nexts queue labels' nexts' queue') →
@@ -207,8 +213,8 @@ settled_all p prices labels u complete tried e forward number head =
     (tried at.0 forward at.1 (subst (λ n. head_of (edge_at p n) forward ≡ u) (sym here) head))
 
 -- then no vertex is left out
-pub covers_all : (p : Problem) (prices : List ℕ) (target : ℕ) (labels nexts : List ℕ) (queue : List Entry) (u : ℕ) → IsSearch p prices target labels nexts queue u →
-    IsSettled p prices labels u → IsSearch p prices target labels nexts queue 0
+pub covers_all : (p : Problem) (prices : List ℕ) (target : ℕ) (labels nexts : List ℕ) (queue : List QueueEntry) (u : ℕ) → IsLabelling p prices target labels nexts queue u →
+    IsSettled p prices labels u → IsLabelling p prices target labels nexts queue 0
 covers_all p prices target labels nexts queue u state settled = record {
   labels_long = state.labels_long;
   nexts_long = state.nexts_long;
@@ -222,17 +228,17 @@ covers_all p prices target labels nexts queue u state settled = record {
   ];
 }
 
--- the search without the entry that was taken from its queue
-module _ (p : Problem) (prices : List ℕ) (target : ℕ) (labels nexts : List ℕ) (queue : List Entry) (taken : Entry) (rest : List Entry)
-    (state : IsSearch p prices target labels nexts queue 0) (pops : IsPermutation queue (taken ∷ rest)) where
+-- the search without the queue_entry that was taken from its queue
+module _ (p : Problem) (prices : List ℕ) (target : ℕ) (labels nexts : List ℕ) (queue : List QueueEntry) (taken : QueueEntry) (rest : List QueueEntry)
+    (state : IsLabelling p prices target labels nexts queue 0) (pops : IsPermutation queue (taken ∷ rest)) where
   all_queued : All (λ x. IsVertex p x.1) (taken ∷ rest)
   all_queued = All-permutation (λ x. IsVertex p x.1) _ _ pops state.queued
 
   pub taken_vertex : IsVertex p taken.1
   taken_vertex = All-head (λ x. IsVertex p x.1) taken rest all_queued
 
-  covers_but : (but : ℕ) → ((v : ℕ) → v ≢ but → taken ≡ entry (get_or labels v 0) v → ⊥) → (v : ℕ) → IsVertex p v → v ≢ but →
-      Contains rest (entry (get_or labels v 0) v) ⊎ IsSettled p prices labels v
+  covers_but : (but : ℕ) → ((v : ℕ) → v ≢ but → taken ≡ queue_entry (get_or labels v 0) v → ⊥) → (v : ℕ) → IsVertex p v → v ≢ but →
+      Contains rest (queue_entry (get_or labels v 0) v) ⊎ IsSettled p prices labels v
   covers_but but not_taken v vertex other = elim (state.covers v vertex (λ is. absurd (omega (arith, is, vertex.from_one)))) [
     | inl waits ↦ elim (Contains-cases taken rest _ (Contains-permutation _ _ _ pops waits)) [
       | inl is ↦ absurd (not_taken v other is)
@@ -241,7 +247,7 @@ module _ (p : Problem) (prices : List ℕ) (target : ℕ) (labels nexts : List �
     | inr settled ↦ inr settled
   ]
 
-  without : (but : ℕ) → ((v : ℕ) → v ≢ but → taken ≡ entry (get_or labels v 0) v → ⊥) → IsSearch p prices target labels nexts rest but
+  without : (but : ℕ) → ((v : ℕ) → v ≢ but → taken ≡ queue_entry (get_or labels v 0) v → ⊥) → IsLabelling p prices target labels nexts rest but
   without but not_taken = record {
     labels_long = state.labels_long;
     nexts_long = state.nexts_long;
@@ -253,19 +259,19 @@ module _ (p : Problem) (prices : List ℕ) (target : ℕ) (labels nexts : List �
   }
 
   -- its vertex is the one whose edges are to be gone through
-  pub without_current : IsSearch p prices target labels nexts rest taken.1
+  pub without_current : IsLabelling p prices target labels nexts rest taken.1
   without_current = without taken.1 (λ v other is. other (sym (ap (λ x. x.1) is)))
 
   -- its label is out of date
-  pub without_stale : taken.0.0 ≢ get_or labels taken.1 0 → IsSearch p prices target labels nexts rest 0
+  pub without_stale : taken.0.0 ≢ get_or labels taken.1 0 → IsLabelling p prices target labels nexts rest 0
   without_stale stale = without 0 (λ v _ is. stale (ap (λ x. x.0.0) is ∙ ap (λ w. get_or labels w 0) (sym (ap (λ x. x.1) is))))
 
   pub lighter_rest : weight labels rest + 1 ≡ weight labels queue
   lighter_rest = omega (arith, length_permutation _ _ pops)
 
 -- when the queue is empty the labels are least
-pub search_done : (p : Problem) → IsValid p → (prices : List ℕ) (target : ℕ) (labels nexts : List ℕ) (queue : List Entry) → length queue ≡ 0 →
-    IsSearch p prices target labels nexts queue 0 → IsTowards p prices target labels nexts
+pub search_done : (p : Problem) → IsValid p → (prices : List ℕ) (target : ℕ) (labels nexts : List ℕ) (queue : List QueueEntry) → length queue ≡ 0 →
+    IsLabelling p prices target labels nexts queue 0 → IsTowards p prices target labels nexts
 search_done p valid prices target labels nexts queue empty state = record {
   labels_long = state.labels_long;
   nexts_long = state.nexts_long;
@@ -285,18 +291,18 @@ search_done p valid prices target labels nexts queue empty state = record {
     head_vertex x false u_in v_in = u_in
 
 -- before the search only the target has a label, and waits
-pub search_begun : (p : Problem) (prices : List ℕ) (target n : ℕ) (labels nexts : List ℕ) (queue : List Entry) → n ≡ p.vertices + 1 → IsVertex p target →
-    labels ≡ set (replicate n unreached) target 0 → length nexts ≡ n → IsPermutation (entry 0 target ∷ []) queue →
-    IsSearch p prices target labels nexts queue 0
+pub search_begun : (p : Problem) (prices : List ℕ) (target n : ℕ) (labels nexts : List ℕ) (queue : List QueueEntry) → n ≡ p.vertices + 1 → IsVertex p target →
+    labels ≡ set (replicate n unreached) target 0 → length nexts ≡ n → IsPermutation (queue_entry 0 target ∷ []) queue →
+    IsLabelling p prices target labels nexts queue 0
 search_begun p prices target n labels nexts queue long vertex labels_are nexts_long queue_is = record {
   labels_long = ap length labels_are ∙ length-set (replicate n unreached) target 0 ∙ length-replicate n unreached ∙ long;
   nexts_long = nexts_long ∙ long;
   unused = high 0 (omega arith) (λ is. absurd (omega (arith, is, vertex.from_one)));
   at_target = at_target;
   descends = λ v is_vertex other reached. absurd (omega (arith, reached, high v (omega (arith, is_vertex.in_range)) other));
-  queued = All-permutation (λ x. IsVertex p x.1) _ _ queue_is (All-cons (λ x. IsVertex p x.1) (entry 0 target) [] vertex (All-nil (λ x. IsVertex p x.1)));
+  queued = All-permutation (λ x. IsVertex p x.1) _ _ queue_is (All-cons (λ x. IsVertex p x.1) (queue_entry 0 target) [] vertex (All-nil (λ x. IsVertex p x.1)));
   covers = λ v is_vertex _. elim (cases_eq v target) [
-    | inl same ↦ inl (rw (same, at_target) (Contains-permutation _ _ _ queue_is (Contains-front (entry 0 target) [])))
+    | inl same ↦ inl (rw (same, at_target) (Contains-permutation _ _ _ queue_is (Contains-front (queue_entry 0 target) [])))
     | inr other ↦ inr (λ e forward number is. omega (arith, below (tail_of (edge_at p e) forward), high v (omega (arith, is_vertex.in_range)) other))
   ];
 }

@@ -13,6 +13,14 @@ street = record { u = 1; v = 2; cost = 5; demand = 1; service = 7 }
 abbrev pub town : Problem
 town = record { vertices = 2; depot = 1; capacity = 2; required = 1; edges = street ∷ [] }
 
+-- the same street among many vertices
+abbrev pub wide_town : Problem
+wide_town = record { vertices = 100; depot = 1; capacity = 2; required = 1; edges = street ∷ [] }
+
+-- each edge is free
+abbrev pub gratis : ℕ → ℕ
+gratis e = 0
+
 -- each edge has the price 5
 abbrev pub five : ℕ → ℕ
 five e = 5
@@ -24,8 +32,8 @@ serve = record { edge = 1; forward = true; served = true }
 abbrev pub forth : Step
 forth = record { edge = 1; forward = true; served = false }
 
-abbrev pub back : Step
-back = record { edge = 1; forward = false; served = false }
+abbrev pub homeward : Step
+homeward = record { edge = 1; forward = false; served = false }
 
 -- the street as a task, from the depot
 abbrev pub task : Task

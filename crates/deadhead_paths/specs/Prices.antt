@@ -1,13 +1,15 @@
 -- Least prices of deadheads, over all lists of steps, and what a table of them is made for.
-use Rattle.std.specs.Prelude.{◌≡◌, ℕ, ◌-◌, ◌<◌, ◌≤◌, false, List, ◌++◌, length, map, sum_by, slice_index}
+use Rattle.std.specs.Prelude.{◌≡◌, ℕ, zero, suc, ◌<◌, ◌≤◌, false, List, ◌++◌, length, map, sum_by, slice_index}
 use Rattle.std.specs.List.{AllByRecursion}
 use Rattle.carp_base.specs.Problem.{Problem, IsEdgeNumber}
 use Rattle.plan_model.specs.Plans.{Leads}
 use Rattle.plan_model.specs.declared.step.Step.{Step}
 
--- the price of the edge of a number, where the prices stand in the order of the edges
+-- the price of the edge of a number from 1, where the prices stand in the order of the edges; 0, and a number past the last one,
+-- has no price, which is read as 0
 abbrev pub price_of : List ℕ → ℕ → ℕ
-price_of prices e = slice_index prices (e - 1)
+price_of prices zero = 0
+price_of prices (suc k) = slice_index prices k
 
 -- the price of crossing each edge without service, where that is its cost
 abbrev pub costs_of : Problem → List ℕ
@@ -33,11 +35,12 @@ pub record IsLeastPrice (p : Problem) (q : ℕ → ℕ) (a b price : ℕ) : Type
 abbrev pub NoneLead : Problem → ℕ → ℕ → Type 0
 NoneLead p a b = (steps : List Step) → Leads p a steps b → ⊥
 
--- steps of the least price from a to b, fewer than there are vertices
+-- steps of the least price from a to b, as few as such steps can be, and fewer than there are vertices
 pub record IsLeastPath (p : Problem) (q : ℕ → ℕ) (a b : ℕ) (steps : List Step) : Type 0 where
   pub price : ℕ
   pub least : IsLeastPrice p q a b price
   pub deadheads : Deadheads p q a b price steps
+  pub fewest : (other : List Step) → Deadheads p q a b price other → length steps ≤ length other
   pub short : length steps < p.vertices
 
 -- a price for each edge, none above 4 * 10^18

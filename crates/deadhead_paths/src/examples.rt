@@ -1,21 +1,23 @@
 // Small data on which a fact that no call decides holds, and on which it does not.
-ghost use Rattle.std.specs.Prelude.{[], ◌∷◌};
-ghost use Rattle.deadhead_paths.specs.Prices.{ArePrices, Deadheads, IsLeastPath, IsLeastPrice};
+ghost use Rattle.std.specs.Prelude.{◌≡◌, [], ◌∷◌};
+ghost use Rattle.deadhead_paths.specs.Prices.{ArePrices, Deadheads, IsLeastPath, IsLeastPrice, price_of};
 ghost use Rattle.deadhead_paths.specs.Tours.{IsFollowed, IsTaskTour, LeastDeadhead};
 ghost use Rattle.deadhead_paths.specs.Tidy.{GoByLeastPaths, IsCheapest, IsTidied};
-ghost use Rattle.deadhead_paths.specs.Examples.{IsAny, IsOther, back, five, forth, serve, task, town};
+ghost use Rattle.deadhead_paths.specs.Examples.{IsAny, IsOther, five, forth, gratis, homeward, serve, task, town, wide_town};
 
 fn prices_of_a_town()
     ensures in_range { ArePrices town (5 ∷ []) }
     ensures none { ¬ (ArePrices town []) }
+    ensures second { price_of (7 ∷ 9 ∷ []) 2 ≡ 9 }
+    ensures nothing_at_0 { price_of (7 ∷ 9 ∷ []) 0 ≡ 0 }
     ensures above { ¬ (ArePrices town (4000000000000000001 ∷ [])) }
 {}
 
 fn a_deadhead()
-    ensures back { Deadheads town five 2 1 5 (back ∷ []) }
+    ensures back { Deadheads town five 2 1 5 (homeward ∷ []) }
     ensures served { ¬ (Deadheads town five 1 2 5 (serve ∷ [])) }
     ensures elsewhere { ¬ (Deadheads town five 1 1 5 (forth ∷ [])) }
-    ensures cheaper { ¬ (Deadheads town five 2 1 4 (back ∷ [])) }
+    ensures cheaper { ¬ (Deadheads town five 2 1 4 (homeward ∷ [])) }
 {}
 
 fn a_least_price()
@@ -25,8 +27,9 @@ fn a_least_price()
 {}
 
 fn a_least_path()
-    ensures least { IsLeastPath town five 2 1 (back ∷ []) }
-    ensures round { ¬ (IsLeastPath town five 2 1 (back ∷ forth ∷ back ∷ [])) }
+    ensures least { IsLeastPath town five 2 1 (homeward ∷ []) }
+    ensures round { ¬ (IsLeastPath town five 2 1 (homeward ∷ forth ∷ homeward ∷ [])) }
+    ensures to_and_fro { ¬ (IsLeastPath wide_town gratis 2 1 (homeward ∷ forth ∷ homeward ∷ [])) }
 {}
 
 fn a_followed_edge()
@@ -48,15 +51,15 @@ fn a_least_deadhead()
 
 fn a_cheapest_walk()
     ensures empty { IsCheapest town [] }
-    ensures detour { ¬ (IsCheapest town (forth ∷ back ∷ [])) }
+    ensures detour { ¬ (IsCheapest town (forth ∷ homeward ∷ [])) }
 {}
 
 fn a_way_by_least_paths()
     ensures stays { GoByLeastPaths town [] 1 1 [] }
-    ensures round { ¬ (GoByLeastPaths town [] 1 1 (forth ∷ back ∷ [])) }
+    ensures round { ¬ (GoByLeastPaths town [] 1 1 (forth ∷ homeward ∷ [])) }
 {}
 
 fn a_plan_not_tidied()
-    ensures tour_dropped { ¬ (IsTidied town ((serve ∷ back ∷ []) ∷ []) []) }
-    ensures detour { ¬ (IsTidied town ((serve ∷ back ∷ []) ∷ []) ((forth ∷ back ∷ serve ∷ back ∷ []) ∷ [])) }
+    ensures tour_dropped { ¬ (IsTidied town ((serve ∷ homeward ∷ []) ∷ []) []) }
+    ensures detour { ¬ (IsTidied town ((serve ∷ homeward ∷ []) ∷ []) ((forth ∷ homeward ∷ serve ∷ homeward ∷ []) ∷ [])) }
 {}

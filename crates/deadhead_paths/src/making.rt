@@ -42,7 +42,8 @@ pub fn distances(
 
 /// The cost of each edge, as its price.
 pub fn cost_prices(alloc: Global, inst: &Instance) -> Result<Vec<u64>, Memory>
-    ensures { IfOk result (λ prices. prices.items ≡ costs_of inst.now) }
+    ensures value { IfOk result (λ prices. prices.items ≡ costs_of inst.now) }
+    ensures fit { IfOk result (λ prices. ArePrices inst.now prices.items) }
 {
     let edges = inst.edges();
     let mut prices = Vec::with_capacity(alloc, edges.len())?;

@@ -3,7 +3,7 @@ ghost use Rattle.std.specs.Prelude.{◌≡◌, ℕ, ◌<◌, ◌≤◌, List, le
 ghost use Rattle.std.specs.BinaryHeap.{heap_items};
 ghost use Rattle.carp_base.specs.Problem.{IsValid, IsVertex};
 ghost use Rattle.deadhead_paths.specs.Table.{IsTowards, unreached};
-ghost use Rattle.deadhead_paths.specs.Search.{IsSearch, Lowered, Unchanged, weight};
+ghost use Rattle.deadhead_paths.specs.Search.{IsLabelling, Lowered, Unchanged, weight};
 
 use carp_base::{Instance, Memory};
 use road_network::{Network, far_end};
@@ -58,9 +58,9 @@ impl Search {
         requires net { net.now ≡ inst.now }
         requires prices { length prices.now ≡ length inst.now.edges }
         requires vertex { IsVertex inst.now v }
-        requires search { IsSearch inst.now prices.now self.old.target self.old.labels.items self.old.nexts.items (heap_items self.old.queue) v }
+        requires search { IsLabelling inst.now prices.now self.old.target self.old.labels.items self.old.nexts.items (heap_items self.old.queue) v }
         ensures target { self.new.target ≡ self.old.target }
-        ensures search { OnOk result (IsSearch inst.now prices.now self.new.target self.new.labels.items self.new.nexts.items (heap_items self.new.queue) 0) }
+        ensures search { OnOk result (IsLabelling inst.now prices.now self.new.target self.new.labels.items self.new.nexts.items (heap_items self.new.queue) 0) }
         ensures lighter { OnOk result (weight self.new.labels.items (heap_items self.new.queue) ≤ weight self.old.labels.items (heap_items self.old.queue)) }
     {
         let label = self.labels[v as usize];
@@ -76,7 +76,7 @@ impl Search {
     fn begin(alloc: Global, inst: &Instance, target: u32) -> Result<Search, Memory>
         requires { IsVertex inst.now target }
         ensures target { IfOk result (λ search. search.target ≡ target) }
-        ensures begun { IfOk result (λ search. (prices : List ℕ) → IsSearch inst.now prices search.target search.labels.items search.nexts.items (heap_items search.queue) 0) }
+        ensures begun { IfOk result (λ search. (prices : List ℕ) → IsLabelling inst.now prices search.target search.labels.items search.nexts.items (heap_items search.queue) 0) }
     {
         let places = inst.vertices() as usize + 1;
         let mut labels = vec![in alloc; UNREACHED; places]?;

@@ -1,5 +1,5 @@
 // A table of the least prices between all pairs of vertices.
-ghost use Rattle.std.specs.Prelude.{◌≡◌, ◌+◌, ◌-◌, ◌*◌, ◌^◌, ◌<◌, length, IfOk, OnOk, MatchOption};
+ghost use Rattle.std.specs.Prelude.{◌≡◌, ◌+◌, ◌-◌, ◌*◌, ◌^◌, ◌<◌, ◌≤◌, length, IfOk, IfSome, OnOk, MatchOption};
 ghost use Rattle.carp_base.specs.Problem.{IsVertex};
 ghost use Rattle.deadhead_paths.specs.Prices.{IsLeastPrice, IsLeastPath, AddsPath, NoneLead, edge_price};
 
@@ -43,11 +43,12 @@ impl Distances {
         (to as usize - 1) * (self.inst.vertices() as usize + 1) + from as usize
     }
 
-    /// The least price of a list of steps from one vertex to another; `None` where no steps lead there.
+    /// The least price of a list of steps from one vertex to another, at most 4 * 10^21; `None` where no steps lead there.
     pub fn get(&self, from: u32, to: u32) -> Option<u128>
         requires from { IsVertex self.now.problem from }
         requires to { IsVertex self.now.problem to }
-        ensures { MatchOption result (NoneLead self.now.problem from to) (λ price. IsLeastPrice self.now.problem (edge_price self.now) from to price) }
+        ensures value { MatchOption result (NoneLead self.now.problem from to) (λ price. IsLeastPrice self.now.problem (edge_price self.now) from to price) }
+        ensures small { IfSome result (λ price. price ≤ 4000000000000000000000) }
     {
         let label = self.labels[self.place(from, to)];
         if label == UNREACHED {
@@ -79,8 +80,8 @@ impl Distances {
         Ok(())
     }
 
-    /// Steps of the least price from one vertex to another, fewer than the instance has vertices; `None` where no steps
-    /// lead there.
+    /// Steps of the least price from one vertex to another, of such steps the fewest, and fewer than the instance has
+    /// vertices; `None` where no steps lead there.
     pub fn path(&self, alloc: Global, from: u32, to: u32) -> Result<Option<Walk>, Memory>
         requires from { IsVertex self.now.problem from }
         requires to { IsVertex self.now.problem to }

@@ -6,4 +6,4 @@ pub returns-clause-way_back : goal.returns-clause-way_back
 returns-clause-way_back c = (0, 5, no_way, way_back, refl)
 
 pub returns-clause-free : goal.returns-clause-free
-returns-clause-free c = λ (k, m, there, back, sum). omega (arith, some_price m back.steps back.reached, sum)
+returns-clause-free c = λ (k, m, there, home, sum). omega (arith, some_price m home.steps home.reached, sum)

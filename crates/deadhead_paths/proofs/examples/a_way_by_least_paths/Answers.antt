@@ -6,6 +6,7 @@ returns-clause-stays c = record {
   price = 0;
   least = record { steps = []; reached = search; least = λ n other d. omega arith };
   deadheads = search;
+  fewest = λ other d. omega arith;
   short = omega arith;
 }
 

@@ -4,8 +4,8 @@ use Rattle.std.specs.BinaryHeap.{heap_items}
 use Rattle.carp_base.specs.Problem.{IsVertex, IsEdgeNumber, edge_at}
 use Rattle.road_network.specs.Incidence.{has_end, far_end, incident}
 use Rattle.deadhead_paths.specs.Table.{rise_of, unreached}
-use Rattle.deadhead_paths.specs.Search.{IsSearch}
-use Rattle.deadhead_paths.proofs.Searching.{AreTried, tried_edge, tried_more, settled_all, covers_all, comes_to, far_vertex}
+use Rattle.deadhead_paths.specs.Search.{IsLabelling}
+use Rattle.deadhead_paths.proofs.Searching.{AreTried, price_place, tried_edge, tried_more, settled_all, covers_all, comes_to, far_vertex}
 use Rattle.deadhead_paths.proofs.search.Search.settle.Goals as goal
 
 pub improve-requires-clause-labels : goal.improve-requires-clause-labels
@@ -44,7 +44,7 @@ loop-i-preserved c =
     let far_is : c.far_end.result ≡ far_end v (edge_at p e) = c.far_end.ensures ∙ ap (far_end v) c.edge.ensures in
     let way = comes_to (edge_at p e) v there in
     let label_is : c.saturating_add.result ≡ min (get_or before.labels.items v 0 + rise_of prices e) unreached =
-    c.saturating_add.ensures ∙ ap (λ n. min (c.index-label.result.now + (1024 * n + 1)) unreached) c.from.ensures ∙ ap (λ n. min (n + rise_of prices e) unreached) loop.label in
+    c.saturating_add.ensures ∙ ap (λ n. min (c.index-label.result.now + (1024 * n + 1)) unreached) (c.from.ensures ∙ price_place prices e number.from_one) ∙ ap (λ n. min (n + rise_of prices e) unreached) loop.label in
     let tried = tried_edge p prices before.target before.labels.items before.nexts.items (heap_items before.queue) v loop.search
     c.far_end.result e c.saturating_add.result after.labels.items after.nexts.items (heap_items after.queue)
     (subst (IsVertex p) (sym far_is) far.0) (λ same. far.1 (sym far_is ∙ same)) number way.0 (way.1 ∙ sym far_is) way.2
@@ -53,7 +53,7 @@ loop-i-preserved c =
     record {
       target = c.improve.ensures.target ∙ loop.target;
       degree = loop.degree;
-      search = subst (λ t. IsSearch p prices t after.labels.items after.nexts.items (heap_items after.queue) v) (sym c.improve.ensures.target) tried.search;
+      search = subst (λ t. IsLabelling p prices t after.labels.items after.nexts.items (heap_items after.queue) v) (sym c.improve.ensures.target) tried.search;
       lighter = omega (arith, tried.lighter, loop.lighter);
       label = loop.label ∙ sym tried.own;
       tried = tried_more p c.requires.valid prices before.labels.items after.labels.items v k (subst (IsEdgeNumber p) e_is number) tried.falling tried.own

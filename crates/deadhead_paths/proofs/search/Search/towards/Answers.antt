@@ -2,7 +2,7 @@ use Rattle.std.proofs.Common.{arith, subst, sym, ◌∙◌}
 use Rattle.std.specs.BinaryHeap.{heap_items}
 use Rattle.std.proofs.lemmas.List.{get_or_read}
 use Rattle.deadhead_paths.specs.Table.{IsTowards}
-use Rattle.deadhead_paths.specs.Search.{Entry}
+use Rattle.deadhead_paths.specs.Search.{QueueEntry}
 use Rattle.deadhead_paths.proofs.Searching.{without_current, without_stale, search_done, taken_vertex}
 use Rattle.deadhead_paths.proofs.search.Search.towards.Goals as goal
 
@@ -20,7 +20,7 @@ loop-label-preserved c =
     let p = c.args.inst.now in
     let before = c.loop-label.search in
     let loop = c.loop-label.invariant in
-    let taken : Entry = (c.in-Some.field-0-0, c.in-Some.v) in
+    let taken : QueueEntry = (c.in-Some.field-0-0, c.in-Some.v) in
     let vertex = taken_vertex p c.args.prices.now before.target before.labels.items before.nexts.items (heap_items before.queue) taken (heap_items c.pop.new.self)
     loop.search c.in-Some.ensures.permutation in
     let read = get_or_read before.labels.items c.in-Some.v c.index.result.now (omega (arith, vertex.in_range, loop.search.labels_long)) c.index.ensures 0 in
