@@ -8,3 +8,8 @@ pub mod Filling
 pub mod Joining
 pub mod Plans
 pub mod Small
+pub mod Counting
+pub mod Ways
+pub mod Shortening
+pub mod Finding
+pub mod TaskTours

@@ -1,17 +1,17 @@
 -- Plans by the services of their walks.
-use Rattle.std.proofs.Common.{◌≡◌, ℕ, zero, suc, ◌+◌, ◌*◌, ◌<◌, ◌≤◌, Bool, true, false, cond, not, ◌&&◌, ◌||◌, ◌==◌, List, [], ◌∷◌, ◌++◌, length, get_or, map, take, refl, sym, ap, ◌∙◌, arith, inl, inr, subst}
+use Rattle.std.proofs.Common.{◌≡◌, ℕ, zero, suc, ◌+◌, ◌*◌, ◌<◌, ◌≤◌, Bool, true, false, cond, ◌&&◌, ◌||◌, ◌==◌, List, [], ◌∷◌, ◌++◌, length, get_or, map, take, refl, sym, ap, ◌∙◌, arith, subst}
 use Rattle.std.specs.Prelude.{if◌then◌else◌, IsTrue}
-use Rattle.std.specs.List.{filter, sum_by, count_by, All, AllByRecursion, AllZip}
-use Rattle.std.proofs.lemmas.Bool.{cases_eq, eq-eqb, false≢true}
+use Rattle.std.specs.List.{filter, sum_by, count_by, AllByRecursion, AllZip}
+use Rattle.std.proofs.lemmas.Bool.{false≢true}
 use Rattle.std.proofs.lemmas.List.{length-append, append-nil}
-use Rattle.std.proofs.lemmas.List.Elements.{filter-append, filter_passes, All-filter, All-head, All-from_recursion, AllZip-push, length_all_zip, filter_more}
-use Rattle.std.proofs.lemmas.List.Filters.{length-filter_both, sum_by-filter_both}
-use Rattle.std.proofs.lemmas.List.Sums.{sum_by-cons, sum_by-append, length-filter}
+use Rattle.std.proofs.lemmas.List.Elements.{filter-append, All-from_recursion, AllZip-push, length_all_zip, filter_more}
+use Rattle.std.proofs.lemmas.List.Sums.{sum_by-cons, sum_by-append}
 use Rattle.carp_base.specs.Problem.{Problem, IsValid, IsRequired, edge_at}
 use Rattle.plan_model.specs.Plans.{IsLawfulWalk, IsLawful, step_cost, step_load, walk_load, plan_cost, steps_of, serves}
 use Rattle.plan_model.specs.declared.step.Step.{Step}
 use Rattle.deadhead_paths.specs.Tidy.{served_steps, serves_some, GoByLeastPaths, IsCheapest, IsTidied}
 use Rattle.deadhead_paths.specs.Join.{IsJoined}
+use Rattle.deadhead_paths.proofs.Counting.{at_most_once}
 
 -- the services of a plan, walk by walk
 pub all_services : (plan : List (List Step)) → served_steps (steps_of plan) ≡ steps_of (map served_steps plan)
@@ -26,7 +26,7 @@ none_served (s ∷ walk) none = one s.served none (none_served walk)
     one true out onward = absurd (false≢true (sym out))
     one false out onward = onward out
 
-some_served : (walk : List Step) → serves_some walk ≡ true → 1 ≤ length (served_steps walk)
+pub some_served : (walk : List Step) → serves_some walk ≡ true → 1 ≤ length (served_steps walk)
 some_served [] some = absurd (false≢true some)
 some_served (s ∷ walk) some = one s.served some (some_served walk)
   where
@@ -161,31 +161,6 @@ some_cost p test (w ∷ plan) = one (test w) (some_cost p test plan)
     one true rest = omega (arith, rest, sum_by-append (step_cost p) w (steps_of plan), sum_by-append (step_cost p) w (steps_of (filter test plan)))
     one false rest = omega (arith, rest, sum_by-append (step_cost p) w (steps_of plan))
 
--- a list of steps on edges up to m, each at most once, has at most m steps
-pub at_most_once : (m : ℕ) (steps : List Step) → All (λ s. (1 ≤ s.edge) × (s.edge ≤ m)) steps → ((e : ℕ) → 1 ≤ e → e ≤ m → count_by (λ s. s.edge == e) steps ≤ 1) → length steps ≤ m
-at_most_once zero [] within once = omega arith
-at_most_once zero (s ∷ steps) within once = let own = All-head (λ x. (1 ≤ x.edge) × (x.edge ≤ 0)) s steps within in absurd (omega (arith, own.0, own.1))
-at_most_once (suc m) steps within once =
-    let test : Step → Bool = λ s. s.edge == suc m in
-    let rest = filter (λ s. not (test s)) steps in
-    let few = at_most_once m rest (rest_within test rest_in) (λ e from_one in_range.
-    omega (arith, once e from_one (omega (arith, in_range)), sum_by-filter_both test (λ s. not (test s)) (λ s. refl) (λ s. cond (s.edge == e) 1 0) steps)) in
-    omega (arith, few, once (suc m) (omega arith) (omega arith), length-filter test steps, length-filter_both test (λ s. not (test s)) (λ s. refl) steps)
-  where
-    rest_in : All (λ s. (1 ≤ s.edge) × (s.edge ≤ suc m)) (filter (λ s. not (s.edge == suc m)) steps)
-    rest_in = All-filter (λ s. not (s.edge == suc m)) (λ s. (1 ≤ s.edge) × (s.edge ≤ suc m)) steps within
-
-    rest_within : (test : Step → Bool) → All (λ s. (1 ≤ s.edge) × (s.edge ≤ suc m)) (filter (λ s. not (s.edge == suc m)) steps) → All (λ s. (1 ≤ s.edge) × (s.edge ≤ m)) (filter (λ s. not (s.edge == suc m)) steps)
-    rest_within test all = λ k d in_range.
-        let own = all k d in_range in
-        let other = filter_passes (λ s. not (s.edge == suc m)) steps k d in_range in (
-          own.0,
-          elim (cases_eq (get_or (filter (λ s. not (s.edge == suc m)) steps) k d).edge (suc m)) [
-            | inl same ↦ absurd (false≢true (sym (ap not (eq-eqb _ (suc m) same)) ∙ other))
-            | inr apart ↦ omega (arith, own.1, apart)
-          ],
-        )
-
 AllByRecursion-append : {X : Type 0} (P : X → Type 0) (xs ys : List X) → AllByRecursion P xs → AllByRecursion P ys → AllByRecursion P (xs ++ ys)
 AllByRecursion-append P [] ys first second = second
 AllByRecursion-append P (x ∷ xs) ys first second = (first.0, AllByRecursion-append P xs ys first.1 second)
@@ -200,7 +175,7 @@ pub few_services : (p : Problem) (plan : List (List Step)) → IsLawful p plan �
 few_services p plan lawful =
     let steps = steps_of (map served_steps plan) in
     let all = All-from_recursion (λ s. IsRequired p s.edge) steps (plan_required p plan lawful.walks) in
-    at_most_once p.required steps
+    at_most_once (λ (s : Step). s.edge) p.required steps
     (λ k d in_range. let own = all k d in_range in (own.from_one, own.in_range))
     (λ e from_one in_range. omega (arith, lawful.once e (record { from_one = from_one; in_range = in_range }), count_served e (steps_of plan), ap (count_by (λ s. s.edge == e)) (all_services plan)))
 

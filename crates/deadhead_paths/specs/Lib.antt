@@ -1,6 +1,7 @@
 pub mod Prices
-pub mod Tours
 pub mod Tidy
+pub mod Tours
+pub mod Laws
 pub mod Table
 pub mod Search
 pub mod Join

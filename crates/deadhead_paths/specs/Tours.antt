@@ -1,9 +1,11 @@
 -- Relaxed tours: lists of tasks that are joined by deadheads of least price (Corberán and Laporte 2014, route relaxation).
-use Rattle.std.specs.Prelude.{◌≡◌, ◌≢◌, ℕ, ◌+◌, ◌≤◌, List, [], ◌∷◌, ◌++◌, map, sum_by}
+use Rattle.std.specs.Prelude.{◌≡◌, ◌≢◌, ℕ, ◌+◌, ◌≤◌, List, [], ◌∷◌, ◌++◌, map, sum_by, if◌then◌else◌}
 use Rattle.std.specs.List.{AllByRecursion}
 use Rattle.carp_base.specs.declared.edge.Task.{Task}
 use Rattle.carp_base.specs.Problem.{Problem, IsRequired, edge_at, tail_of, head_of}
+use Rattle.plan_model.specs.declared.step.Step.{Step}
 use Rattle.deadhead_paths.specs.Prices.{IsLeastPrice}
+use Rattle.deadhead_paths.specs.Tidy.{served_steps}
 
 -- b stands directly after a in the list
 pub record IsFollowed (es : List ℕ) (a b : ℕ) : Type 0 where
@@ -24,3 +26,15 @@ LeastDeadhead p q a [] b n = IsLeastPrice p q a b n
 LeastDeadhead p q a (t ∷ ts) b n =
     (k m : ℕ) × IsLeastPrice p q a (tail_of (edge_at p t.edge) t.forward) k
     × LeastDeadhead p q (head_of (edge_at p t.edge) t.forward) ts b m × (n ≡ k + m)
+
+-- a step as a task
+abbrev pub task_of : Step → Task
+task_of s = record { edge = s.edge; forward = s.forward }
+
+-- the services of a walk as tasks, in their order and direction
+abbrev pub tasks_of : List Step → List Task
+tasks_of walk = map task_of (served_steps walk)
+
+-- the sum of the prices of the steps of a walk that do not serve
+abbrev pub dead_price : (ℕ → ℕ) → List Step → ℕ
+dead_price q walk = sum_by (λ s. if s.served then 0 else q s.edge) walk

@@ -7,6 +7,7 @@
 
 #[cfg(test)]
 mod examples;
+mod laws;
 mod making;
 mod search;
 mod table;
@@ -14,6 +15,7 @@ mod table;
 mod tests;
 mod tidying;
 
+pub use laws::{least_prices_are_distances, least_prices_are_there, walks_are_task_tours};
 pub use making::{cost_prices, distances};
 pub use table::Distances;
 pub use tidying::tidy;

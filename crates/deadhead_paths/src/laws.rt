@@ -1,0 +1,25 @@
+// Laws over least prices and relaxed tours, as functions whose contract is the law.
+ghost use Rattle.deadhead_paths.specs.Laws.{FewStepsAreLeast, LeastDeadheadIsLeast, LeastDeadheadIsThere, LeastPathsCost, LeastPriceIsSymmetric, LeastPriceOfStaying, LeastPriceOrNone, TriangleInequality, WalkIsTaskTour};
+
+/// Least prices are symmetric and obey the triangle inequality, and staying costs nothing.
+pub fn least_prices_are_distances()
+    ensures symmetric { LeastPriceIsSymmetric }
+    ensures triangle { TriangleInequality }
+    ensures staying { LeastPriceOfStaying }
+{}
+
+/// Where steps lead from one vertex of a valid instance to another there is a least price, few steps have it, and so tasks
+/// on required edges have a least deadhead.
+pub fn least_prices_are_there()
+    ensures found { LeastPriceOrNone }
+    ensures few_steps { FewStepsAreLeast }
+    ensures tasks { LeastDeadheadIsThere }
+{}
+
+/// The services of a lawful walk are a relaxed tour, whose least deadhead is at most that of the walk; a walk by least paths
+/// costs just its services and their least deadhead.
+pub fn walks_are_task_tours()
+    ensures tour { WalkIsTaskTour }
+    ensures least { LeastDeadheadIsLeast }
+    ensures cost { LeastPathsCost }
+{}
