@@ -6,10 +6,11 @@ pub mod Reading
 pub mod Walking
 pub mod Filling
 pub mod Joining
-pub mod Plans
-pub mod Small
 pub mod Counting
+pub mod Plans
 pub mod Ways
 pub mod Shortening
 pub mod Finding
 pub mod TaskTours
+pub mod Singles
+pub mod Small

@@ -161,7 +161,7 @@ some_cost p test (w ∷ plan) = one (test w) (some_cost p test plan)
     one true rest = omega (arith, rest, sum_by-append (step_cost p) w (steps_of plan), sum_by-append (step_cost p) w (steps_of (filter test plan)))
     one false rest = omega (arith, rest, sum_by-append (step_cost p) w (steps_of plan))
 
-AllByRecursion-append : {X : Type 0} (P : X → Type 0) (xs ys : List X) → AllByRecursion P xs → AllByRecursion P ys → AllByRecursion P (xs ++ ys)
+pub AllByRecursion-append : {X : Type 0} (P : X → Type 0) (xs ys : List X) → AllByRecursion P xs → AllByRecursion P ys → AllByRecursion P (xs ++ ys)
 AllByRecursion-append P [] ys first second = second
 AllByRecursion-append P (x ∷ xs) ys first second = (first.0, AllByRecursion-append P xs ys first.1 second)
 

@@ -6,9 +6,10 @@ use Rattle.carp_base.specs.Problem.{Problem, IsValid, IsRequired, IsEdgeNumber, 
 use Rattle.carp_base.specs.declared.edge.Task.{Task}
 use Rattle.plan_model.specs.Plans.{Leads}
 use Rattle.plan_model.specs.declared.step.Step.{Step}
-use Rattle.deadhead_paths.specs.Prices.{NoneServed, Deadheads}
+use Rattle.deadhead_paths.specs.Prices.{NoneServed, Deadheads, NoneLead}
 use Rattle.deadhead_paths.proofs.Following.{Leads-more, NoneServed-more}
 use Rattle.deadhead_paths.proofs.Joining.{Leads-append}
+use Rattle.deadhead_paths.proofs.Plans.{AllByRecursion-append}
 
 -- some steps lead from a to b
 pub record HasWay (p : Problem) (a b : ℕ) : Type 0 where
@@ -60,15 +61,11 @@ turned_deadheads p q a b n steps there = record {
   costs = there.costs ∙ sym (turned_price q steps);
 }
 
-NoneServed-append : (xs ys : List Step) → NoneServed xs → NoneServed ys → NoneServed (xs ++ ys)
-NoneServed-append [] ys first second = second
-NoneServed-append (s ∷ xs) ys first second = (first.0, NoneServed-append xs ys first.1 second)
-
 pub joined_deadheads : (p : Problem) (q : ℕ → ℕ) (a b c m n : ℕ) (xs ys : List Step) → Deadheads p q a b m xs → Deadheads p q b c n ys → (k : ℕ) × Deadheads p q a c k (xs ++ ys) × (k ≤ m + n)
 joined_deadheads p q a b c m n xs ys first second = (
   sum_by (λ s. q s.edge) (xs ++ ys),
   record {
-    unserved = NoneServed-append xs ys first.unserved second.unserved;
+    unserved = AllByRecursion-append (λ s. s.served ≡ false) xs ys first.unserved second.unserved;
     leads = Leads-append p a xs ys b c first.leads second.leads;
     costs = refl;
   },
@@ -111,3 +108,14 @@ module _ (p : Problem) (valid : IsValid p) (e : ℕ) (required : IsRequired p e)
   pub way_to_head : (forward : Bool) → HasWay p p.depot (head_of (edge_at p e) forward)
   way_to_head true = way_to_tail false
   way_to_head false = way_out
+
+  -- so steps lead there, and home
+  pub linked_out : (a : ℕ) (forward : Bool) → a ≡ p.depot → NoneLead p a (tail_of (edge_at p e) forward) → ⊥
+  linked_out a forward at_depot none =
+      let way = way_to_tail forward in
+      none way.steps (subst (λ v. Leads p v way.steps (tail_of (edge_at p e) forward)) (sym at_depot) way.leads)
+
+  pub linked_home : (a b : ℕ) (forward : Bool) → a ≡ head_of (edge_at p e) forward → b ≡ p.depot → NoneLead p a b → ⊥
+  linked_home a b forward at_head at_depot none =
+      let way = back_way p p.depot (head_of (edge_at p e) forward) (way_to_head forward) in
+      none way.steps (subst (λ v. Leads p v way.steps b) (sym at_head) (subst (Leads p (head_of (edge_at p e) forward) way.steps) (sym at_depot) way.leads))

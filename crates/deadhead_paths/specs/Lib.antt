@@ -1,5 +1,6 @@
 pub mod Prices
 pub mod Tidy
+pub mod Singles
 pub mod Tours
 pub mod Laws
 pub mod Table

@@ -2,7 +2,7 @@
 //!
 //! [`distances`] makes a table of the least prices between all pairs of vertices, for any price per edge, from which
 //! [`Distances::get`] reads a price and [`Distances::path`] a list of steps. [`tidy`] joins the services of a plan by
-//! such paths.
+//! such paths, and [`single_tours`] serves each required edge in a tour of its own.
 #![tactic(auto)]
 
 #[cfg(test)]
@@ -14,8 +14,10 @@ mod table;
 #[cfg(test)]
 mod tests;
 mod tidying;
+mod touring;
 
 pub use laws::{least_prices_are_distances, least_prices_are_there, walks_are_task_tours};
 pub use making::{cost_prices, distances};
 pub use table::Distances;
 pub use tidying::tidy;
+pub use touring::single_tours;

@@ -24,7 +24,7 @@ fn has_service(walk: &Walk) -> bool
 }
 
 // Goes from a vertex to the start of a step by a least path, and then that step. Its answer is where the step ends.
-fn serve(
+pub(crate) fn serve(
     inst: &Instance,
     dist: &Distances,
     joined: &mut Walk,
