@@ -27,7 +27,7 @@ Leads-split p a (s ∷ xs) ys b leads =
 
 -- the edge of a number stands at the place before it
 edge_place : (p : Problem) (k : ℕ) → get_or p.edges k no_edge ≡ edge_at p (suc k)
-edge_place p k = let back : suc k - 1 ≡ k = omega arith in ap (λ i. get_or p.edges i no_edge) (sym back)
+edge_place p k = let back : suc k - 1 ≡ k = omega arith in cc
 
 -- what unserved steps cost
 pub cost_price : (p : Problem) (e : ℕ) → IsEdgeNumber p e → price_of (costs_of p) e ≡ (edge_at p e).cost

@@ -2,6 +2,7 @@
 use Rattle.std.proofs.Common.{◌≡◌, ℕ, ◌≤◌, List, [], ◌∷◌, ◌++◌, length, ap, refl, arith}
 use Rattle.std.proofs.lemmas.List.Sums.{sum_by-cons}
 use Rattle.std.proofs.lemmas.List.{length-append}
+use Rattle.plan_model.specs.Plans.{Leads}
 use Rattle.plan_model.specs.declared.step.Step.{Step}
 use Rattle.deadhead_paths.specs.Prices.{Deadheads, IsLeastPrice}
 use Rattle.deadhead_paths.specs.Examples.{five, town, homeward}
@@ -24,6 +25,14 @@ way_back = record { steps = homeward ∷ []; reached = back_again; least = some_
 -- who is there need not go
 pub no_way : IsLeastPrice town five 1 1 0
 no_way = record { steps = []; reached = search; least = λ n other d. omega arith }
+
+-- who is at the end need not go there
+pub no_way_there : IsLeastPrice town five 2 2 0
+no_way_there = record { steps = []; reached = search; least = λ n other d. omega arith }
+
+pub some_way : (steps : List Step) → Leads town 2 steps 1 → 1 ≤ length steps
+some_way [] leads = omega (arith, leads)
+some_way (s ∷ steps) leads = omega arith
 
 -- of two edges the first does not follow the second
 pub not_turned : (before after : List ℕ) → (1 ∷ 2 ∷ []) ≡ before ++ (2 ∷ (1 ∷ after)) → ⊥

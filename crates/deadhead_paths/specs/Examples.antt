@@ -35,9 +35,12 @@ forth = record { edge = 1; forward = true; served = false }
 abbrev pub homeward : Step
 homeward = record { edge = 1; forward = false; served = false }
 
--- the street as a task, from the depot
+-- the street as a task, from the depot and to it
 abbrev pub task : Task
 task = record { edge = 1; forward = true }
+
+abbrev pub task_back : Task
+task_back = record { edge = 1; forward = false }
 
 -- an edge may follow each edge, itself too
 abbrev pub IsAny : ℕ → ℕ → Type 0

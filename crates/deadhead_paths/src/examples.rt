@@ -1,9 +1,10 @@
 // Small data on which a fact that no call decides holds, and on which it does not.
 ghost use Rattle.std.specs.Prelude.{◌≡◌, [], ◌∷◌};
 ghost use Rattle.deadhead_paths.specs.Prices.{ArePrices, Deadheads, IsLeastPath, IsLeastPrice, price_of};
-ghost use Rattle.deadhead_paths.specs.Tours.{IsFollowed, IsTaskTour, LeastDeadhead};
+ghost use Rattle.deadhead_paths.specs.Singles.{AreLeastTours, IsLeastTour};
+ghost use Rattle.deadhead_paths.specs.Tours.{IsFollowed, IsTaskTour, LeastDeadhead, dead_price, tasks_of};
 ghost use Rattle.deadhead_paths.specs.Tidy.{GoByLeastPaths, IsCheapest, IsTidied};
-ghost use Rattle.deadhead_paths.specs.Examples.{IsAny, IsOther, five, forth, gratis, homeward, serve, task, town, wide_town};
+ghost use Rattle.deadhead_paths.specs.Examples.{IsAny, IsOther, five, forth, gratis, homeward, serve, task, task_back, town, wide_town};
 
 fn prices_of_a_town()
     ensures in_range { ArePrices town (5 ∷ []) }
@@ -47,6 +48,19 @@ fn a_task_tour()
 fn a_least_deadhead()
     ensures way_back { LeastDeadhead town five 1 (task ∷ []) 1 5 }
     ensures free { ¬ (LeastDeadhead town five 1 (task ∷ []) 1 0) }
+    ensures same_way_twice { LeastDeadhead town five 1 (task ∷ task ∷ []) 1 10 }
+    ensures to_and_fro { LeastDeadhead town five 1 (task ∷ task_back ∷ []) 1 0 }
+    ensures not_both { ¬ (LeastDeadhead town five 1 (task ∷ task_back ∷ []) 1 10) }
+{}
+
+fn a_walk_as_tasks()
+    ensures tasks { tasks_of (forth ∷ homeward ∷ serve ∷ homeward ∷ []) ≡ task ∷ [] }
+    ensures price { dead_price five (forth ∷ homeward ∷ serve ∷ homeward ∷ []) ≡ 15 }
+{}
+
+fn tours_that_are_not_single()
+    ensures stays_out { ¬ (IsLeastTour town 1 (serve ∷ [])) }
+    ensures none { ¬ (AreLeastTours town []) }
 {}
 
 fn a_cheapest_walk()
