@@ -1,5 +1,5 @@
 -- What leaves a side of the nodes, less what enters it, is what flows from the nodes of the side.
-use Rattle.std.proofs.Common.{◌≡◌, ℕ, zero, suc, ◌+◌, ◌-◌, ◌<◌, ◌≤◌, Bool, true, false, not, ◌&&◌, cond, ltb, List, length, get_or, refl, sym, ap, ◌∙◌, arith, inl, inr}
+use Rattle.std.proofs.Common.{◌≡◌, ℕ, zero, suc, ◌+◌, ◌<◌, ◌≤◌, Bool, true, false, not, ◌&&◌, cond, ltb, List, length, get_or, refl, sym, ap, ◌∙◌, arith, inl, inr}
 use Rattle.std.proofs.lemmas.Bool.{cases_eq, cases_lt, cases_order, eq-eqb, ne_eqb, lt-ltb, le-ltb, false≢true}
 use Rattle.std.proofs.lemmas.List.{get_or_past}
 use Rattle.flow_cut.specs.declared.network.Arc.{Arc}
@@ -78,13 +78,18 @@ in_and_out false false x = omega arith
 abbrev pub enters : List Bool → Arc → Bool
 enters side arc = is_on side arc.to && not (is_on side arc.from)
 
+-- no node past the entries of a side is on it
+none_past : (side : List Bool) (v : ℕ) → length side + 1 ≤ v → is_on side v ≡ false
+none_past side zero far = refl
+none_past side (suc k) far = get_or_past side k false (omega arith)
+
 -- what leaves a side is what enters it, and the value
 pub leaves_more : (side : List Bool) (s value : ℕ) (arcs : List Arc) (flows : List ℕ) →
     ((v : ℕ) → is_on side v ≡ true → inflow arcs flows v + at_node s value v ≡ outflow arcs flows v) → is_on side s ≡ true →
     flow_on (leaves side) arcs flows ≡ flow_on (enters side) arcs flows + value
 leaves_more side s value arcs flows each there =
     let n = length side + 1 in
-    let none : (v : ℕ) → n ≤ v → is_on side v ≡ false = λ v far. get_or_past side (v - 1) false (omega arith) in
+    let none = none_past side in
     let s_below : s < n = elim (cases_lt s n) [ inl less ↦ less | inr more ↦ absurd (false≢true (sym (none s more) ∙ there)) ] in
     omega (
       arith,

@@ -1,5 +1,5 @@
 -- A flow after a search that does not reach the target.
-use Rattle.std.proofs.Common.{◌≡◌, ◌≢◌, ℕ, ◌+◌, ◌-◌, ◌<◌, ◌≤◌, Bool, true, false, not, cond, eqb, List, length, get_or, slice_index, map, drop, replicate, refl, sym, ap, subst, ◌∙◌, arith, inl, inr}
+use Rattle.std.proofs.Common.{◌≡◌, ◌≢◌, ℕ, zero, suc, ◌+◌, ◌-◌, ◌<◌, ◌≤◌, Bool, true, false, not, cond, eqb, List, length, get_or, slice_index, map, drop, replicate, refl, sym, ap, subst, ◌∙◌, arith, inl, inr}
 use Rattle.std.proofs.lemmas.Bool.{and_parts, cases_lt, eq-eqb, ne_eqb, eqb-true, eqb-false, not-true, not-false}
 use Rattle.std.proofs.lemmas.List.{get_or-drop, get_or-map, get_or-replicate, get_or_past, length-drop, length-map, length-replicate}
 use Rattle.flow_cut.specs.declared.network.Arc.{Arc}
@@ -67,11 +67,11 @@ abbrev pub reached_nodes : List ℕ → List Bool
 reached_nodes level = map (λ depth. not (eqb depth 0)) (drop 1 level)
 
 on_side : (n : ℕ) (level : List ℕ) (v : ℕ) → length level ≡ n + 1 → IsNode n v → is_on (reached_nodes level) v ≡ not (eqb (slice_index level v) 0)
-on_side n level v long node =
-    let below : v - 1 < length (drop 1 level) = omega (arith, length-drop 1 level, long, node.from_one, node.in_range) in
-    let next : 1 + (v - 1) ≡ v = omega (arith, node.from_one) in
-    get_or-map (λ depth. not (eqb depth 0)) (drop 1 level) (v - 1) 0 false below
-    ∙ ap (λ depth. not (eqb depth 0)) (get_or-drop 1 level (v - 1) 0 ∙ ap (slice_index level) next)
+on_side n level zero long node = absurd (omega (arith, node.from_one))
+on_side n level (suc k) long node =
+    let below : k < length (drop 1 level) = omega (arith, length-drop 1 level, long, node.in_range) in
+    let next : 1 + k ≡ suc k = omega arith in
+    get_or-map (λ depth. not (eqb depth 0)) (drop 1 level) k 0 false below ∙ ap (λ depth. not (eqb depth 0)) (get_or-drop 1 level k 0 ∙ ap (slice_index level) next)
 
 -- a node is on the side just where it was reached
 on_reached : (n : ℕ) (level : List ℕ) (v : ℕ) → length level ≡ n + 1 → IsNode n v → is_on (reached_nodes level) v ≡ true → slice_index level v ≢ 0

@@ -8,9 +8,9 @@ use Rattle.std.proofs.lemmas.List.Folds.{sum_by-replicate}
 use Rattle.flow_cut.specs.declared.network.Arc.{Arc}
 use Rattle.flow_cut.specs.declared.residual.ResidualArc.{ResidualArc}
 use Rattle.flow_cut.specs.Flows.{IsNode}
-use Rattle.flow_cut.specs.Residual.{tail_of, head_of, left_on}
+use Rattle.flow_cut.specs.Residual.{residual_tail, residual_head, left_on}
 use Rattle.flow_cut.specs.Adjacency.{ListsAt, no_residual, residual_at}
-use Rattle.flow_cut.specs.Layers.{IsClosed, IsExplored, IsPending, IsProgress, IsReached, IsSearch, IsWaiting}
+use Rattle.flow_cut.specs.Layers.{IsClosed, IsExplored, IsPending, IsProgress, IsLayerReached, IsLayerSearch, IsWaiting}
 
 -- at the beginning the source alone is reached
 module _ (arcs : List Arc) (flows : List ℕ) (n s : ℕ) (node : IsNode n s) where
@@ -34,7 +34,7 @@ module _ (arcs : List Arc) (flows : List ℕ) (n s : ℕ) (node : IsNode n s) wh
   reached_is_source : (v : ℕ) → slice_index first v ≢ 0 → v ≡ s
   reached_is_source v reached = elim (cases_eq v s) [ inl same ↦ same | inr other ↦ absurd (reached (at_others v other)) ]
 
-  pub search_none : (via : List ResidualArc) → length via ≡ n + 1 → IsSearch arcs flows n s (set (replicate (n + 1) 0) s 1) via (s ∷ [])
+  pub search_none : (via : List ResidualArc) → length via ≡ n + 1 → IsLayerSearch arcs flows n s (set (replicate (n + 1) 0) s 1) via (s ∷ [])
   unfolding first
   search_none via long = record {
     layered = record {
@@ -69,7 +69,7 @@ module _ (arcs : List Arc) (flows : List ℕ) (n s : ℕ) (node : IsNode n s) wh
 
 -- one node w more, over the residual arc r from v
 module _ (arcs : List Arc) (flows : List ℕ) (n s v w : ℕ) (level : List ℕ) (via : List ResidualArc) (queue : List ℕ) (r : ResidualArc)
-    (state : IsSearch arcs flows n s level via queue) (node : IsNode n w) (in_arcs : r.arc < length arcs) (own : tail_of arcs r ≡ v) (ends : head_of arcs r ≡ w)
+    (state : IsLayerSearch arcs flows n s level via queue) (node : IsNode n w) (in_arcs : r.arc < length arcs) (own : residual_tail arcs r ≡ v) (ends : residual_head arcs r ≡ w)
     (near : slice_index level v ≢ 0) (new : slice_index level w ≡ 0) (left : 1 ≤ left_on arcs flows r) where
   w_in : w < length level
   w_in = omega (arith, node.in_range, state.layered.level_len)
@@ -95,7 +95,7 @@ module _ (arcs : List Arc) (flows : List ℕ) (n s v w : ℕ) (level : List ℕ)
   via_other : (u : ℕ) → u ≢ w → residual_at (set via w r) u ≡ residual_at via u
   via_other u other = get_or-set_other via w u r no_residual other
 
-  reached_w : IsReached arcs (set level w (slice_index level v + 1)) (set via w r) w
+  reached_w : IsLayerReached arcs (set level w (slice_index level v + 1)) (set via w r) w
   reached_w = record {
     in_arcs = rw via_w in_arcs;
     ends = rw via_w ends;
@@ -103,12 +103,12 @@ module _ (arcs : List Arc) (flows : List ℕ) (n s v w : ℕ) (level : List ℕ)
     begins = rw (via_w, own) (kept v near);
   }
 
-  reached_other : (u : ℕ) → u ≢ w → slice_index level u ≢ 0 → IsReached arcs level via u → IsReached arcs (set level w (slice_index level v + 1)) (set via w r) u
+  reached_other : (u : ℕ) → u ≢ w → slice_index level u ≢ 0 → IsLayerReached arcs level via u → IsLayerReached arcs (set level w (slice_index level v + 1)) (set via w r) u
   reached_other u other reached was = record {
     in_arcs = rw (via_other u other) was.in_arcs;
     ends = rw (via_other u other) was.ends;
-    nearer = rw (via_other u other, stays (tail_of arcs (residual_at via u)) was.begins, stays u reached) was.nearer;
-    begins = rw (via_other u other) (kept (tail_of arcs (residual_at via u)) was.begins);
+    nearer = rw (via_other u other, stays (residual_tail arcs (residual_at via u)) was.begins, stays u reached) was.nearer;
+    begins = rw (via_other u other) (kept (residual_tail arcs (residual_at via u)) was.begins);
   }
 
   fewer : count_by (λ x. eqb x 0) (set level w (slice_index level v + 1)) + 1 ≡ count_by (λ x. eqb x 0) level
@@ -126,7 +126,7 @@ module _ (arcs : List Arc) (flows : List ℕ) (n s v w : ℕ) (level : List ℕ)
     | inr other ↦ rw (at_other u other) (omega (arith, state.shallow u))
   ]
 
-  pub search_more : IsSearch arcs flows n s (set level w (slice_index level v + 1)) (set via w r) (queue ++ w ∷ [])
+  pub search_more : IsLayerSearch arcs flows n s (set level w (slice_index level v + 1)) (set via w r) (queue ++ w ∷ [])
   search_more = record {
     layered = record {
       level_len = length-set level w (slice_index level v + 1) ∙ state.layered.level_len;
@@ -173,7 +173,7 @@ module _ (arcs : List Arc) (flows : List ℕ) (n s v w : ℕ) (level : List ℕ)
     ];
   }
 
-  pub reached_more : slice_index (set level w (slice_index level v + 1)) (head_of arcs r) ≢ 0
+  pub reached_more : slice_index (set level w (slice_index level v + 1)) (residual_head arcs r) ≢ 0
   reached_more = rw (ends, at_w) (λ e. omega (arith, e))
 
 pub no_progress : (level queue : List ℕ) → IsProgress level queue level queue
@@ -182,11 +182,11 @@ no_progress level queue = record { kept = λ v reached. reached; longer = omega 
 -- the residual arcs at these places lead to nodes that were reached, where something is left
 abbrev pub AreTried : List Arc → List ℕ → List ℕ → List ResidualArc → ℕ → ℕ → Type 0
 AreTried arcs flows level list start end =
-    (j : ℕ) → start ≤ j → j < end → 1 ≤ left_on arcs flows (residual_at list j) → slice_index level (head_of arcs (residual_at list j)) ≢ 0
+    (j : ℕ) → start ≤ j → j < end → 1 ≤ left_on arcs flows (residual_at list j) → slice_index level (residual_head arcs (residual_at list j)) ≢ 0
 
 -- a node is being explored: its residual arcs before this place are tried
 pub record IsExploring (arcs : List Arc) (flows : List ℕ) (n s : ℕ) (list : List ResidualArc) (start end : ℕ) (level queue level' : List ℕ) (via' : List ResidualArc) (queue' : List ℕ) : Type 0 where
-  pub search : IsSearch arcs flows n s level' via' queue'
+  pub search : IsLayerSearch arcs flows n s level' via' queue'
   pub progress : IsProgress level queue level' queue'
   pub tried : AreTried arcs flows level' list start end
 
@@ -220,7 +220,7 @@ progress_twice l q l' q' l'' q'' first second = record {
 }
 
 pub exploring_none : (arcs : List Arc) (flows : List ℕ) (n s : ℕ) (list : List ResidualArc) (start : ℕ) (level : List ℕ) (via : List ResidualArc) (queue : List ℕ) →
-    IsSearch arcs flows n s level via queue → IsExploring arcs flows n s list start start level queue level via queue
+    IsLayerSearch arcs flows n s level via queue → IsExploring arcs flows n s list start start level queue level via queue
 exploring_none arcs flows n s list start level via queue state = record {
   search = state;
   progress = no_progress level queue;
@@ -228,15 +228,15 @@ exploring_none arcs flows n s list start level via queue state = record {
 }
 
 pub exploring_more : (arcs : List Arc) (flows : List ℕ) (n s : ℕ) (list : List ResidualArc) (start k : ℕ) (level queue l : List ℕ) (v : List ResidualArc) (q l' : List ℕ) (v' : List ResidualArc) (q' : List ℕ) →
-    IsExploring arcs flows n s list start k level queue l v q → IsSearch arcs flows n s l' v' q' → IsProgress l q l' q' →
-    (1 ≤ left_on arcs flows (residual_at list k) → slice_index l' (head_of arcs (residual_at list k)) ≢ 0) →
+    IsExploring arcs flows n s list start k level queue l v q → IsLayerSearch arcs flows n s l' v' q' → IsProgress l q l' q' →
+    (1 ≤ left_on arcs flows (residual_at list k) → slice_index l' (residual_head arcs (residual_at list k)) ≢ 0) →
     IsExploring arcs flows n s list start (k + 1) level queue l' v' q'
 exploring_more arcs flows n s list start k level queue l v q l' v' q' state search progress reached = record {
   search = search;
   progress = progress_twice level queue l q l' q' state.progress progress;
   tried = λ j low high. elim (cases_eq j k) [
     | inl same ↦ rw same reached
-    | inr other ↦ λ left. progress.kept (head_of arcs (residual_at list j)) (state.tried j low (omega (arith, high, other)) left)
+    | inr other ↦ λ left. progress.kept (residual_head arcs (residual_at list j)) (state.tried j low (omega (arith, high, other)) left)
   ];
 }
 
@@ -250,7 +250,7 @@ explored_all arcs flows level list v start end lists tried = λ r here own left.
 
 still_explored : (arcs : List Arc) (flows level level' : List ℕ) (v : ℕ) → ((u : ℕ) → slice_index level u ≢ 0 → slice_index level' u ≢ 0) →
     IsExplored arcs flows level v → IsExplored arcs flows level' v
-still_explored arcs flows level level' v kept explored = λ r here own left. kept (head_of arcs r) (explored r here own left)
+still_explored arcs flows level level' v kept explored = λ r here own left. kept (residual_head arcs r) (explored r here own left)
 
 pub pending_more : (arcs : List Arc) (flows : List ℕ) (n s : ℕ) (list : List ResidualArc) (start end place v : ℕ) (level queue l : List ℕ) (via : List ResidualArc) (q : List ℕ) →
     v ≡ slice_index queue place → place < length queue → IsPending arcs flows level queue place → ListsAt arcs list v start end →

@@ -6,7 +6,7 @@ use Rattle.std.proofs.lemmas.List.{length-set, length-drop, get_or-drop, get_or-
 use Rattle.std.proofs.lemmas.List.Sums.{sum_by-set}
 use Rattle.flow_cut.specs.declared.network.Arc.{Arc}
 use Rattle.flow_cut.specs.declared.residual.ResidualArc.{ResidualArc}
-use Rattle.flow_cut.specs.Residual.{tail_of, head_of}
+use Rattle.flow_cut.specs.Residual.{residual_tail, residual_head}
 use Rattle.flow_cut.specs.Adjacency.{IsAdjacency, no_residual, residual_at}
 use Rattle.flow_cut.specs.Layers.{IsLayered, IsUntried, LeadsOn, to_try}
 use Rattle.flow_cut.proofs.Ways.{reached_in}
@@ -49,8 +49,8 @@ all_untried n starts long = record {
 }
 
 -- a residual arc over which a node one level further is reached
-pub layered_set : (arcs : List Arc) (n s w : ℕ) (level : List ℕ) (via : List ResidualArc) (r : ResidualArc) → IsLayered arcs n s level via → r.arc < length arcs → head_of arcs r ≡ w →
-    slice_index level w ≡ slice_index level (tail_of arcs r) + 1 → slice_index level (tail_of arcs r) ≢ 0 → IsLayered arcs n s level (set via w r)
+pub layered_set : (arcs : List Arc) (n s w : ℕ) (level : List ℕ) (via : List ResidualArc) (r : ResidualArc) → IsLayered arcs n s level via → r.arc < length arcs → residual_head arcs r ≡ w →
+    slice_index level w ≡ slice_index level (residual_tail arcs r) + 1 → slice_index level (residual_tail arcs r) ≢ 0 → IsLayered arcs n s level (set via w r)
 layered_set arcs n s w level via r layered in_arcs ends further begins =
     let reached : slice_index level w ≢ 0 = λ none. omega (arith, none, further) in
     let there : w < length via = omega (arith, reached_in level w reached, layered.level_len, layered.via_len) in
@@ -72,7 +72,7 @@ layered_set arcs n s w level via r layered in_arcs ends further begins =
 pub led_on : (arcs : List Arc) (flows : List ℕ) (n s : ℕ) (starts : List ℕ) (list : List ResidualArc) (level : List ℕ) (via : List ResidualArc) (untried : List ℕ) (v end start : ℕ) (r : ResidualArc) →
     IsAdjacency arcs n starts list → IsLayered arcs n s level via → IsUntried n starts untried → slice_index level v ≢ 0 → end ≤ slice_index untried v →
     start ≡ get_or starts v start → start < end → (slice_index starts v < end → LeadsOn arcs flows level (residual_at list (end - 1))) → r ≡ get_or list (end - 1) r →
-    (r.arc < length arcs) × (tail_of arcs r ≡ v) × LeadsOn arcs flows level r
+    (r.arc < length arcs) × (residual_tail arcs r ≡ v) × LeadsOn arcs flows level r
 led_on arcs flows n s starts list level via untried v end start r adjacency layered free reached most first some found item =
     let small : v ≤ n = omega (arith, reached_in level v reached, layered.level_len) in
     let lists = adjacency.lists v small in

@@ -1,8 +1,17 @@
 -- Flows in a network of arcs with rooms, and the cuts that bound them (Ford and Fulkerson 1956).
-use Rattle.std.specs.Prelude.{◌≡◌, ◌≢◌, ◌==◌, ℕ, ◌+◌, ◌-◌, ◌≤◌, Bool, true, false, not, ◌&&◌, if◌then◌else◌, List, [], ◌∷◌, length, slice_index, slice_index_or}
+use Rattle.std.specs.Prelude.{◌≡◌, ◌≢◌, ◌==◌, ℕ, zero, suc, ◌+◌, ◌≤◌, Bool, true, false, not, ◌&&◌, if◌then◌else◌, List, [], ◌∷◌, length, slice_index, slice_index_or}
 use Rattle.std.specs.List.{sum_by, All}
-use Rattle.flow_cut.specs.declared.network.TheConstants.{MAX_NODES, MAX_ARCS, MAX_ROOM}
 use Rattle.flow_cut.specs.declared.network.Arc.{Arc}
+
+-- the most nodes and the most arcs of a network, and the greatest room of an arc
+abbrev pub node_limit : ℕ
+node_limit = 10000
+
+abbrev pub arc_limit : ℕ
+arc_limit = 40000
+
+abbrev pub room_limit : ℕ
+room_limit = 1000000000000000000
 
 -- a number of one of the nodes 1 to n
 pub record IsNode (n v : ℕ) : Type 0 where
@@ -16,12 +25,12 @@ pub record HasEnds (n : ℕ) (arc : Arc) : Type 0 where
 
 -- an arc whose room is not too great
 abbrev pub HasFineRoom : Arc → Type 0
-HasFineRoom arc = arc.room ≤ MAX_ROOM
+HasFineRoom arc = arc.room ≤ room_limit
 
 -- a network of n nodes, within the limits
 pub record IsNetwork (n : ℕ) (arcs : List Arc) : Type 0 where
-  pub few_nodes : n ≤ MAX_NODES
-  pub few_arcs : length arcs ≤ MAX_ARCS
+  pub few_nodes : n ≤ node_limit
+  pub few_arcs : length arcs ≤ arc_limit
   pub ends : All (HasEnds n) arcs
   pub rooms : All HasFineRoom arcs
 
@@ -57,9 +66,10 @@ pub record IsFlow (arcs : List Arc) (s t value : ℕ) (flows : List ℕ) : Type 
   pub balanced : (v : ℕ) → v ≢ s → v ≢ t → inflow arcs flows v ≡ outflow arcs flows v
   pub value_is : value + inflow arcs flows s ≡ outflow arcs flows s
 
--- node v is on the side; the entry of node 1 is the first
+-- node v is on the side; the entry of node 1 is the first, and 0 is no node
 abbrev pub is_on : List Bool → ℕ → Bool
-is_on side v = slice_index_or side (v - 1) false
+is_on side zero = false
+is_on side (suc k) = slice_index_or side k false
 
 -- a side of a cut between s and t
 pub record IsSide (side : List Bool) (s t : ℕ) : Type 0 where

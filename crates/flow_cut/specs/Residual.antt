@@ -6,11 +6,11 @@ use Rattle.flow_cut.specs.declared.residual.ResidualArc.{ResidualArc}
 use Rattle.flow_cut.specs.Flows.{arc_at, inflow, outflow, IsWithinRooms}
 
 -- where a residual arc begins and ends
-abbrev pub tail_of : List Arc → ResidualArc → ℕ
-tail_of arcs r = if r.forward then (arc_at arcs r.arc).from else (arc_at arcs r.arc).to
+abbrev pub residual_tail : List Arc → ResidualArc → ℕ
+residual_tail arcs r = if r.forward then (arc_at arcs r.arc).from else (arc_at arcs r.arc).to
 
-abbrev pub head_of : List Arc → ResidualArc → ℕ
-head_of arcs r = if r.forward then (arc_at arcs r.arc).to else (arc_at arcs r.arc).from
+abbrev pub residual_head : List Arc → ResidualArc → ℕ
+residual_head arcs r = if r.forward then (arc_at arcs r.arc).to else (arc_at arcs r.arc).from
 
 -- how much more can cross
 abbrev pub left_on : List Arc → List ℕ → ResidualArc → ℕ
@@ -23,7 +23,7 @@ at_node u amount v = if u == v then amount else 0
 -- an amount crossed a residual arc
 pub record IsPushed (arcs : List Arc) (r : ResidualArc) (amount : ℕ) (before after : List ℕ) : Type 0 where
   pub rooms : IsWithinRooms arcs after
-  pub moved : (v : ℕ) → inflow arcs after v + outflow arcs before v + at_node (tail_of arcs r) amount v ≡ outflow arcs after v + inflow arcs before v + at_node (head_of arcs r) amount v
+  pub moved : (v : ℕ) → inflow arcs after v + outflow arcs before v + at_node (residual_tail arcs r) amount v ≡ outflow arcs after v + inflow arcs before v + at_node (residual_head arcs r) amount v
   pub others : (i : ℕ) → i ≢ r.arc → slice_index after i ≡ slice_index before i
 
 -- the flows keep within the rooms and bring the value from s to t

@@ -1,7 +1,7 @@
 // A search along the layers that sends over each way until none is left (Dinic 1970).
 ghost use Rattle.std.specs.Prelude.{◌≡◌, ◌≢◌, ℕ, ◌+◌, ◌-◌, ◌<◌, ◌≤◌, ◌^◌, ◌↔◌, length, slice_index, sum, IsTrue, IfNone, IfSome};
 ghost use Rattle.flow_cut.specs.Flows.{IsNetwork, IsWithinRooms};
-ghost use Rattle.flow_cut.specs.Residual.{Brings, head_of, tail_of};
+ghost use Rattle.flow_cut.specs.Residual.{Brings, residual_head, residual_tail};
 ghost use Rattle.flow_cut.specs.Adjacency.{IsAdjacency, residual_at};
 ghost use Rattle.flow_cut.specs.Layers.{IsLayered, IsOpen, IsUntried, LeadsOn, to_try};
 
@@ -15,9 +15,9 @@ use crate::residual::{ResidualArc, head, left, tail};
 fn leads_on(arcs: &[Arc], flows: &[u64], level: &[u32], r: ResidualArc) -> bool
     requires in_arcs { r.arc < length arcs.now }
     requires rooms { IsWithinRooms arcs.now flows.now }
-    requires tail_in { tail_of arcs.now r < length level.now }
-    requires head_in { head_of arcs.now r < length level.now }
-    requires low { slice_index level.now (tail_of arcs.now r) < 2 ^ 32 - 1 }
+    requires tail_in { residual_tail arcs.now r < length level.now }
+    requires head_in { residual_head arcs.now r < length level.now }
+    requires low { slice_index level.now (residual_tail arcs.now r) < 2 ^ 32 - 1 }
     ensures { IsTrue result ↔ LeadsOn arcs.now flows.now level.now r }
 {
     level[head(arcs, r) as usize] == level[tail(arcs, r) as usize] + 1 && left(arcs, flows, r) > 0

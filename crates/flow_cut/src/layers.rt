@@ -1,9 +1,9 @@
 // Layers of nodes by their distance from the source in the residual network (Dinic 1970).
 ghost use Rattle.std.specs.Prelude.{◌≡◌, ◌≢◌, ◌+◌, ◌<◌, ◌≤◌, length, slice_index, replicate, OnOk};
 ghost use Rattle.flow_cut.specs.Flows.{IsNetwork, IsNode, IsWithinRooms};
-ghost use Rattle.flow_cut.specs.Residual.{tail_of, head_of, left_on};
+ghost use Rattle.flow_cut.specs.Residual.{residual_tail, residual_head, left_on};
 ghost use Rattle.flow_cut.specs.Adjacency.{IsAdjacency};
-ghost use Rattle.flow_cut.specs.Layers.{IsClosed, IsLayered, IsOpen, IsPending, IsProgress, IsSearch};
+ghost use Rattle.flow_cut.specs.Layers.{IsClosed, IsLayered, IsOpen, IsPending, IsProgress, IsLayerSearch};
 
 use crate::Arc;
 use crate::adjacency::Adjacency;
@@ -46,7 +46,7 @@ fn restart(
     requires source { IsNode ends.nodes ends.source }
     requires level_len { length layers.old.level.items ≡ ends.nodes + 1 }
     requires via_len { length layers.old.via.items ≡ ends.nodes + 1 }
-    ensures search { OnOk result (IsSearch arcs.now flows.now ends.nodes ends.source layers.new.level.items layers.new.via.items queue.new.items) }
+    ensures search { OnOk result (IsLayerSearch arcs.now flows.now ends.nodes ends.source layers.new.level.items layers.new.via.items queue.new.items) }
     ensures pending { OnOk result (IsPending arcs.now flows.now layers.new.level.items queue.new.items 0) }
 {
     forget(&mut layers.level);
@@ -68,13 +68,13 @@ fn reach(
 ) -> Result<(), Memory>
     requires network { IsNetwork ends.nodes arcs.now }
     requires rooms { IsWithinRooms arcs.now flows.now }
-    requires search { IsSearch arcs.now flows.now ends.nodes ends.source layers.old.level.items layers.old.via.items queue.old.items }
+    requires search { IsLayerSearch arcs.now flows.now ends.nodes ends.source layers.old.level.items layers.old.via.items queue.old.items }
     requires in_arcs { r.arc < length arcs.now }
-    requires own { tail_of arcs.now r ≡ v }
+    requires own { residual_tail arcs.now r ≡ v }
     requires reached { slice_index layers.old.level.items v ≢ 0 }
-    ensures search { OnOk result (IsSearch arcs.now flows.now ends.nodes ends.source layers.new.level.items layers.new.via.items queue.new.items) }
+    ensures search { OnOk result (IsLayerSearch arcs.now flows.now ends.nodes ends.source layers.new.level.items layers.new.via.items queue.new.items) }
     ensures progress { OnOk result (IsProgress layers.old.level.items queue.old.items layers.new.level.items queue.new.items) }
-    ensures reached { OnOk result (1 ≤ left_on arcs.now flows.now r → slice_index layers.new.level.items (head_of arcs.now r) ≢ 0) }
+    ensures reached { OnOk result (1 ≤ left_on arcs.now flows.now r → slice_index layers.new.level.items (residual_head arcs.now r) ≢ 0) }
 {
     let w = head(arcs, r);
     if layers.level[w as usize] == 0 && left(arcs, flows, r) > 0 {
@@ -98,10 +98,10 @@ fn explore(
     requires network { IsNetwork ends.nodes arcs.now }
     requires rooms { IsWithinRooms arcs.now flows.now }
     requires adjacency { IsAdjacency arcs.now ends.nodes adjacency.now.starts.items adjacency.now.list.items }
-    requires search { IsSearch arcs.now flows.now ends.nodes ends.source layers.old.level.items layers.old.via.items queue.old.items }
+    requires search { IsLayerSearch arcs.now flows.now ends.nodes ends.source layers.old.level.items layers.old.via.items queue.old.items }
     requires in_queue { place < length queue.old.items }
     requires pending { IsPending arcs.now flows.now layers.old.level.items queue.old.items place }
-    ensures search { OnOk result (IsSearch arcs.now flows.now ends.nodes ends.source layers.new.level.items layers.new.via.items queue.new.items) }
+    ensures search { OnOk result (IsLayerSearch arcs.now flows.now ends.nodes ends.source layers.new.level.items layers.new.via.items queue.new.items) }
     ensures longer { OnOk result (length queue.old.items ≤ length queue.new.items) }
     ensures pending { OnOk result (IsPending arcs.now flows.now layers.new.level.items queue.new.items (place + 1)) }
 {

@@ -21,4 +21,4 @@ mod tests;
 
 pub use dinic::max_flow;
 pub use laws::{cut_bounds_flow, equal_is_best};
-pub use network::{Arc, Flow, MAX_ARCS, MAX_NODES, MAX_ROOM};
+pub use network::{Arc, Flow};

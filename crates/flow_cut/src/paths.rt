@@ -1,7 +1,7 @@
 // Ways from the source to the target through the layers, and what is sent over them (Dinic 1970).
 ghost use Rattle.std.specs.Prelude.{◌≡◌, ◌≢◌, ℕ, ◌+◌, ◌<◌, ◌≤◌, ◌↔◌, length, slice_index, slice_index_or, sum, IsTrue, IfSome};
 ghost use Rattle.flow_cut.specs.Flows.{IsNetwork, IsNode, IsWithinRooms};
-ghost use Rattle.flow_cut.specs.Residual.{Brings, tail_of, head_of};
+ghost use Rattle.flow_cut.specs.Residual.{Brings, residual_tail, residual_head};
 ghost use Rattle.flow_cut.specs.Adjacency.{IsAdjacency, residual_at};
 ghost use Rattle.flow_cut.specs.Layers.{FitsTo, IsLayered, IsOpen, IsUntried, LeadsOn, to_try};
 

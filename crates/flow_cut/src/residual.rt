@@ -2,7 +2,7 @@
 ghost use Rattle.std.specs.Prelude.{◌≡◌, ◌<◌, ◌≤◌, length};
 ghost use Rattle.std.specs.List.{All};
 ghost use Rattle.flow_cut.specs.Flows.{HasFineRoom, IsWithinRooms};
-ghost use Rattle.flow_cut.specs.Residual.{tail_of, head_of, left_on, IsPushed};
+ghost use Rattle.flow_cut.specs.Residual.{residual_tail, residual_head, left_on, IsPushed};
 
 use crate::Arc;
 
@@ -18,7 +18,7 @@ pub(crate) struct ResidualArc {
 /// The node where a residual arc begins.
 pub(crate) fn tail(arcs: &[Arc], r: ResidualArc) -> u32
     requires { r.arc < length arcs.now }
-    ensures { result ≡ tail_of arcs.now r }
+    ensures { result ≡ residual_tail arcs.now r }
 {
     let arc = arcs[r.arc as usize];
     if r.forward { arc.from } else { arc.to }
@@ -27,7 +27,7 @@ pub(crate) fn tail(arcs: &[Arc], r: ResidualArc) -> u32
 /// The node where a residual arc ends.
 pub(crate) fn head(arcs: &[Arc], r: ResidualArc) -> u32
     requires { r.arc < length arcs.now }
-    ensures { result ≡ head_of arcs.now r }
+    ensures { result ≡ residual_head arcs.now r }
 {
     let arc = arcs[r.arc as usize];
     if r.forward { arc.to } else { arc.from }

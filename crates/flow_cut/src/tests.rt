@@ -2,9 +2,14 @@
 ghost use Rattle.std.specs.Prelude.{◌≡◌, ◌<◌, length, IfOk, IfSome, IsTrue};
 ghost use Rattle.flow_cut.specs.Flows.{HasEnds, HasFineRoom, IsNetwork};
 
-use crate::{Arc, MAX_ARCS, MAX_NODES, MAX_ROOM, max_flow};
+use crate::{Arc, max_flow};
 use carp_base::Memory;
 use std::alloc::Global;
+
+// The limits of a network.
+const MAX_NODES: u32 = 10_000;
+const MAX_ARCS: usize = 40_000;
+const MAX_ROOM: u64 = 1_000_000_000_000_000_000;
 
 // A beginning, an end and a room.
 type Row = (u32, u32, u64);

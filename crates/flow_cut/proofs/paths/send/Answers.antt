@@ -1,6 +1,6 @@
 use Rattle.std.proofs.Common.{◌≡◌, ◌<◌, ◌≤◌, length, arith}
 use Rattle.std.proofs.lemmas.List.{get_or_read}
-use Rattle.flow_cut.specs.Residual.{IsPushed, tail_of, left_on}
+use Rattle.flow_cut.specs.Residual.{IsPushed, residual_tail, left_on}
 use Rattle.flow_cut.specs.Adjacency.{no_residual, residual_at}
 use Rattle.flow_cut.proofs.Ways.{carries_last, carries_on, fits_on, reached_in}
 use Rattle.flow_cut.proofs.paths.send.Goals as goal
@@ -28,7 +28,7 @@ loop-v-preserved c =
     let below : v < length via = omega (arith, reached_in level v c.loop-v.invariant.reached, c.requires.layered.level_len, c.requires.layered.via_len) in
     let item = get_or_read via v c.index-r.result.now below c.index-r.ensures no_residual in
     let here = c.requires.layered.reached v c.loop-v-test.true c.loop-v.invariant.reached in
-    let before : c.tail-v.result ≡ tail_of arcs (residual_at via v) = rw item at c.tail-v.ensures in
+    let before : c.tail-v.result ≡ residual_tail arcs (residual_at via v) = rw item at c.tail-v.ensures in
     let pushed : IsPushed arcs (residual_at via v) c.args.amount c.loop-v.flows c.push.new.flows = rw item at c.push.ensures in
     record {
       rooms = c.push.ensures.rooms;
