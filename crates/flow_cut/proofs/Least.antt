@@ -7,7 +7,7 @@ use Rattle.flow_cut.specs.declared.residual.ResidualArc.{ResidualArc}
 use Rattle.flow_cut.specs.Flows.{IsFlow, IsNetwork, IsNode, IsSide, cut_room, is_on, leaves, no_arc}
 use Rattle.flow_cut.specs.Residual.{Brings}
 use Rattle.flow_cut.specs.Adjacency.{residual}
-use Rattle.flow_cut.specs.Layers.{IsClosed, IsLayered, IsOpen}
+use Rattle.flow_cut.specs.Layers.{IsClosed, IsEnded, IsLayered, IsOpen}
 use Rattle.flow_cut.proofs.OnArcs.{flow_on-empty}
 use Rattle.flow_cut.proofs.Cuts.{enters, full_cut}
 
@@ -43,7 +43,7 @@ brings_none arcs s t =
           );
     }
 
-flow_from : (arcs : List Arc) (s t value : ℕ) (flows : List ℕ) → s ≢ t → Brings arcs s t value flows → IsFlow arcs s t value flows
+pub flow_from : (arcs : List Arc) (s t value : ℕ) (flows : List ℕ) → s ≢ t → Brings arcs s t value flows → IsFlow arcs s t value flows
 flow_from arcs s t value flows apart brings = record {
   rooms = brings.rooms;
   balanced = λ v not_s not_t.
@@ -82,17 +82,17 @@ off_reached n level v long node off = eqb-true (slice_index level v) 0 (not-fals
 
 module _ (arcs : List Arc) (flows : List ℕ) (n s t value : ℕ) (level : List ℕ) (via : List ResidualArc)
     (network : IsNetwork n arcs) (source : IsNode n s) (target : IsNode n t) (apart : s ≢ t) (brings : Brings arcs s t value flows)
-    (searched : IsSearched arcs flows n s t level via) (ended : slice_index level t ≡ 0) where
+    (ended : IsEnded arcs flows n s t level via) where
   pub ended_flow : IsFlow arcs s t value flows
   ended_flow = flow_from arcs s t value flows apart brings
 
   pub ended_len : length (reached_nodes level) ≡ n
-  ended_len = omega (arith, length-map (drop 1 level) (λ depth. not (eqb depth 0)), length-drop 1 level, searched.layered.level_len)
+  ended_len = omega (arith, length-map (drop 1 level) (λ depth. not (eqb depth 0)), length-drop 1 level, ended.layered.level_len)
 
   pub ended_side : IsSide (reached_nodes level) s t
   ended_side = record {
-    source = on_side n level s searched.layered.level_len source ∙ ap (λ depth. not (eqb depth 0)) searched.layered.source;
-    target = on_side n level t searched.layered.level_len target ∙ ap (λ depth. not (eqb depth 0)) ended;
+    source = on_side n level s ended.layered.level_len source ∙ ap (λ depth. not (eqb depth 0)) ended.layered.source;
+    target = on_side n level t ended.layered.level_len target ∙ ap (λ depth. not (eqb depth 0)) ended.unreached;
   }
 
   -- nothing is left on an arc that leaves the side, and nothing flows on one that enters it
@@ -101,9 +101,9 @@ module _ (arcs : List Arc) (flows : List ℕ) (n s t value : ℕ) (level : List 
       let arc = get_or arcs i no_arc in
       let ends = network.ends i no_arc here in
       let p = and_parts (is_on (reached_nodes level) arc.from) (not (is_on (reached_nodes level) arc.to)) out in
-      let from = on_reached n level arc.from searched.layered.level_len ends.from_in p.0 in
-      let to = off_reached n level arc.to searched.layered.level_len ends.to_in (not-true (is_on (reached_nodes level) arc.to) p.1) in
-      let none : 1 ≤ arc.room - get_or flows i 0 → ⊥ = λ left. searched.closed ended arc.from from (residual i true) here refl left to in
+      let from = on_reached n level arc.from ended.layered.level_len ends.from_in p.0 in
+      let to = off_reached n level arc.to ended.layered.level_len ends.to_in (not-true (is_on (reached_nodes level) arc.to) p.1) in
+      let none : 1 ≤ arc.room - get_or flows i 0 → ⊥ = λ left. ended.closed arc.from from (residual i true) here refl left to in
       elim (cases_lt (get_or flows i 0) arc.room) [
         | inl less ↦ absurd (none (omega (arith, less)))
         | inr more ↦ omega (arith, more, brings.rooms.within i)
@@ -114,9 +114,9 @@ module _ (arcs : List Arc) (flows : List ℕ) (n s t value : ℕ) (level : List 
       let arc = get_or arcs i no_arc in
       let ends = network.ends i no_arc here in
       let p = and_parts (is_on (reached_nodes level) arc.to) (not (is_on (reached_nodes level) arc.from)) into in
-      let to = on_reached n level arc.to searched.layered.level_len ends.to_in p.0 in
-      let from = off_reached n level arc.from searched.layered.level_len ends.from_in (not-true (is_on (reached_nodes level) arc.from) p.1) in
-      let none : 1 ≤ get_or flows i 0 → ⊥ = λ left. searched.closed ended arc.to to (residual i false) here refl left from in
+      let to = on_reached n level arc.to ended.layered.level_len ends.to_in p.0 in
+      let from = off_reached n level arc.from ended.layered.level_len ends.from_in (not-true (is_on (reached_nodes level) arc.from) p.1) in
+      let none : 1 ≤ get_or flows i 0 → ⊥ = λ left. ended.closed arc.to to (residual i false) here refl left from in
       elim (cases_lt 0 (get_or flows i 0)) [
         | inl some ↦ absurd (none (omega (arith, some)))
         | inr zeroth ↦ omega (arith, zeroth)
@@ -124,9 +124,3 @@ module _ (arcs : List Arc) (flows : List ℕ) (n s t value : ℕ) (level : List 
 
   pub ended_cut : cut_room arcs (reached_nodes level) ≡ value
   ended_cut = full_cut arcs s t value flows (reached_nodes level) ended_flow ended_side leaving_full entering_empty
-
--- the same search, at flows that are the same
-pub searched_by : (arcs : List Arc) (was flows : List ℕ) (n s t : ℕ) (level : List ℕ) (via : List ResidualArc) → was ≡ flows → IsLayered arcs n s level via → IsOpen arcs was s level via →
-    (slice_index level t ≡ 0 → IsClosed arcs was level) → IsSearched arcs flows n s t level via
-searched_by arcs was flows n s t level via same layered each closed = let P : List ℕ → Type 0 = λ xs. IsSearched arcs xs n s t level via in
-    subst P same (record { layered = layered; open_yet = each; closed = closed })

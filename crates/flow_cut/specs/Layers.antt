@@ -71,6 +71,12 @@ pub record IsProgress (level queue level' queue' : List ℕ) : Type 0 where
 abbrev pub IsClosed : List Arc → List ℕ → List ℕ → Type 0
 IsClosed arcs flows level = (v : ℕ) → slice_index level v ≢ 0 → IsExplored arcs flows level v
 
+-- a search that does not reach the target
+pub record IsEnded (arcs : List Arc) (flows : List ℕ) (n s t : ℕ) (level : List ℕ) (via : List ResidualArc) : Type 0 where
+  pub layered : IsLayered arcs n s level via
+  pub unreached : slice_index level t ≡ 0
+  pub closed : IsClosed arcs flows level
+
 -- the residual arc leads one level further, and something is left on it
 pub record LeadsOn (arcs : List Arc) (flows level : List ℕ) (r : ResidualArc) : Type 0 where
   pub further : slice_index level (residual_head arcs r) ≡ slice_index level (residual_tail arcs r) + 1
