@@ -1,7 +1,7 @@
 -- A flow after a search that does not reach the target.
 use Rattle.std.proofs.Common.{◌≡◌, ◌≢◌, ℕ, zero, suc, ◌+◌, ◌-◌, ◌<◌, ◌≤◌, Bool, true, false, not, cond, eqb, List, length, get_or, slice_index, map, drop, replicate, refl, sym, ap, subst, ◌∙◌, arith, inl, inr}
 use Rattle.std.proofs.lemmas.Bool.{and_parts, cases_lt, eq-eqb, ne_eqb, eqb-true, eqb-false, not-true, not-false}
-use Rattle.std.proofs.lemmas.List.{get_or-drop, get_or-map, get_or-replicate, get_or_past, length-drop, length-map, length-replicate}
+use Rattle.std.proofs.lemmas.List.{get_or-drop, get_or-map, get_or-replicate, get_or_past, length-drop, length-replicate}
 use Rattle.flow_cut.specs.declared.network.Arc.{Arc}
 use Rattle.flow_cut.specs.declared.residual.ResidualArc.{ResidualArc}
 use Rattle.flow_cut.specs.Flows.{IsFlow, IsNetwork, IsNode, IsSide, cut_room, is_on, leaves, no_arc}
@@ -85,9 +85,6 @@ module _ (arcs : List Arc) (flows : List ℕ) (n s t value : ℕ) (level : List 
     (ended : IsEnded arcs flows n s t level via) where
   pub ended_flow : IsFlow arcs s t value flows
   ended_flow = flow_from arcs s t value flows apart brings
-
-  pub ended_len : length (reached_nodes level) ≡ n
-  ended_len = omega (arith, length-map (drop 1 level) (λ depth. not (eqb depth 0)), length-drop 1 level, ended.layered.level_len)
 
   pub ended_side : IsSide (reached_nodes level) s t
   ended_side = record {

@@ -92,3 +92,8 @@ spent_at_end None old new starts v s end spent kept there low = elim (cases_eq v
   | inr other ↦ spent other
 ]
 spent_at_end (Some w) old new starts v s end spent kept there low = tt
+
+-- the same, where the search went back from another node than the source
+pub spent_now : (o : Option ℕ) (P Q : Type 0) → P → IfNone o (P → Q) → IfNone o Q
+spent_now None P Q here spent = spent here
+spent_now (Some w) P Q here spent = tt

@@ -83,7 +83,15 @@ fn send_greatest(
     let size = ends.nodes as usize + 1;
     let mut untried = vec![in alloc; 0; size]?;
     let mut queue = Vec::with_capacity(alloc, size)?;
-    send_all(arcs, flows, adjacency, ends, layers, &mut untried, &mut queue)
+    send_all(
+        arcs,
+        flows,
+        adjacency,
+        ends,
+        layers,
+        &mut untried,
+        &mut queue,
+    )
 }
 
 /// Which nodes were reached, by their levels.

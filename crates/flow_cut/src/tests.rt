@@ -8,7 +8,9 @@ use std::alloc::Global;
 
 // The limits of a network.
 const MAX_NODES: u32 = 10_000;
+
 const MAX_ARCS: usize = 40_000;
+
 const MAX_ROOM: u64 = 1_000_000_000_000_000_000;
 
 // A beginning, an end and a room.
