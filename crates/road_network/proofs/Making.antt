@@ -36,5 +36,5 @@ edge_there p starts laid lists v i start e within below is_start is_e =
     ∙ sym (get_or-drop (get_or starts v 0) laid i 0)
     ∙ sym (get_or-take (length list) (drop (get_or starts v 0) laid) i 0 below)
     ∙ ap (λ xs. get_or xs i 0) (lists.lists v within) in
-    let found = incident_is p.edges (length p.edges) v i below in
+    let found = incident_is p v (length p.edges) i below in
     subst (λ n. IsEdgeNumber p n × (has_end v (edge_at p n) ≡ true)) (sym is) (record { from_one = found.0; in_range = found.1 }, found.2)

@@ -132,7 +132,7 @@ path_marked p reached closed a (t ∷ path) b leads marked =
 module _ (p : Problem) (valid : IsValid p) (v : ℕ) (es : List ℕ) (es_is : es ≡ incident p v) (k : ℕ) (in_range : k < length es) where
   at_place : (1 ≤ get_or es k 0) × (get_or es k 0 ≤ length p.edges) × (has_end v (edge_at p (get_or es k 0)) ≡ true)
   at_place = subst (λ xs. (1 ≤ get_or xs k 0) × (get_or xs k 0 ≤ length p.edges) × (has_end v (edge_at p (get_or xs k 0)) ≡ true)) (sym es_is)
-      (incident_is p.edges (length p.edges) v k (subst (λ xs. k < length xs) es_is in_range))
+      (incident_is p v (length p.edges) k (subst (λ xs. k < length xs) es_is in_range))
 
   pub number_at : IsEdgeNumber p (get_or es k 0)
   number_at = record { from_one = at_place.0; in_range = at_place.1 }
@@ -175,7 +175,7 @@ pub reaches_all : (p : Problem) (v : ℕ) (es : List ℕ) → es ≡ incident p 
     ((i : ℕ) (forward : Bool) → i < length es → tail_of (edge_at p (get_or es i 0)) forward ≡ v → get_or reached (head_of (edge_at p (get_or es i 0)) forward) false ≡ true) →
     ReachesAll p reached v
 reaches_all p v es es_is reached joined e forward number tail =
-    let at = subst (λ xs. Contains xs e) (sym es_is) (incident_has p.edges v e (length p.edges) number.from_one number.in_range (has_tail (edge_at p e) v forward tail)) in
+    let at = subst (λ xs. Contains xs e) (sym es_is) (incident_has p v e (length p.edges) number.from_one number.in_range (has_tail (edge_at p e) v forward tail)) in
     let here : get_or es at.0 0 ≡ e = get_or_default es at.0 0 e at.1 ∙ at.2 in
     subst (λ n. get_or reached (head_of (edge_at p n) forward) false ≡ true) here
     (joined at.0 forward at.1 (subst (λ n. tail_of (edge_at p n) forward ≡ v) (sym here) tail))

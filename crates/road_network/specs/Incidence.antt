@@ -1,6 +1,5 @@
 -- The edges at a vertex.
-use Rattle.std.specs.Prelude.{ℕ, ◌-◌, Bool, ◌==◌, ◌||◌, List, length, filter, count_by, nat_le, slice_index_or, if◌then◌else◌}
-use Rattle.std.specs.List.{range_with_len}
+use Rattle.std.specs.Prelude.{ℕ, zero, suc, Bool, ◌==◌, ◌||◌, List, [], ◌∷◌, ◌++◌, length, count_by, nat_le, slice_index_or, if◌then◌else◌}
 use Rattle.carp_base.specs.declared.edge.Edge.{Edge}
 use Rattle.carp_base.specs.Problem.{Problem, no_edge}
 
@@ -12,9 +11,10 @@ has_end v x = (x.u == v) || (x.v == v)
 abbrev pub far_end : ℕ → Edge → ℕ
 far_end v x = if x.u == v then x.v else x.u
 
--- of the first k edges, the numbers of those with an end at the vertex, rising
+-- of the first k edges, the numbers of those with an end at the vertex, rising; the edge at place k has the number k + 1
 abbrev pub incident_among : List Edge → ℕ → ℕ → List ℕ
-incident_among edges k v = filter (λ e. has_end v (slice_index_or edges (e - 1) no_edge)) (range_with_len 1 k)
+incident_among edges zero v = []
+incident_among edges (suc k) v = incident_among edges k v ++ (if has_end v (slice_index_or edges k no_edge) then suc k ∷ [] else [])
 
 -- the numbers of the edges with an end at the vertex, rising
 abbrev pub incident : Problem → ℕ → List ℕ

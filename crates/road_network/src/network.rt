@@ -23,13 +23,13 @@ pub struct Network {
 
 impl Model for Network {
     ghost use Rattle.carp_base.specs.Problem.{Problem};
-    ghost use Rattle.road_network.specs.Lists.{IsNetwork};
+    ghost use Rattle.road_network.specs.Lists.{IsLaidOut};
 
     ghost Value = { Problem };
 
     ghost view = { λ n. n.inst };
 
-    ghost invariant = { λ n. IsNetwork n.inst n.starts.items n.incident.items n.required_degrees.items n.reached.items };
+    ghost invariant = { λ n. IsLaidOut n.inst n.starts.items n.incident.items n.required_degrees.items n.reached.items };
 }
 
 impl Network {

@@ -1,6 +1,6 @@
 use Rattle.std.proofs.Common.{arith, subst, sym}
 use Rattle.std.proofs.lemmas.List.Elements.{All-take}
-use Rattle.road_network.specs.Lists.{AreJoining, IsNetwork}
+use Rattle.road_network.specs.Lists.{AreJoining, IsLaidOut}
 use Rattle.road_network.proofs.Incident.{joining_in}
 use Rattle.road_network.proofs.Making.{lists_same, degrees_are}
 use Rattle.road_network.proofs.network.Network.new.Goals as goal
@@ -26,7 +26,7 @@ invariant_of-result c =
     let starts = c.in_ok-starts.starts.items in
     let incident = c.in_ok-incident.incident.items in
     let degrees = c.in_ok-required_degrees.required_degrees.items in
-    subst (λ q. IsNetwork q starts incident degrees c.in_ok-reached.reached.items) (sym c.in_ok-copy.ensures)
+    subst (λ q. IsLaidOut q starts incident degrees c.in_ok-reached.reached.items) (sym c.in_ok-copy.ensures)
     (record {
       valid = valid;
       lists = lists_same _ p.vertices _ p.edges _ starts incident vertices c.edges-edges.ensures.value c.deref.ensures.value c.in_ok-incident.ensures;
