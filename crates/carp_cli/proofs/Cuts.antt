@@ -5,6 +5,7 @@ use Rattle.carp_base.specs.Problem.{Problem}
 use Rattle.carp_outside.specs.Causes.{Rose}
 use Rattle.carp_outside.specs.Told.{HoldsExactly, HoldsFront, SameContents, WroteFront}
 use Rattle.carp_cli.specs.Words.{FileNames}
+use Rattle.carp_cli.specs.Outside.{Outside}
 use Rattle.dat_text.specs.Text.{IsTextOf}
 use Rattle.carp_cli.specs.Refusals.{refusal_text}
 use Rattle.carp_cli.specs.declared.status.Status.TheVariants.{BadUsage}
@@ -25,29 +26,30 @@ exactly_from : (name bytes : List ℕ) (before mid now : List ℕ → Option (Li
 exactly_from name bytes before mid now same held = record { there = held.there; others = λ other apart. held.others other apart ∙ same other }
 
 -- a delivery that was cut short, seen from contents and counts that were the same
-pub cut_from : (p : Problem) (cert : List ℕ) (before mid now : List ℕ → Option (List ℕ)) (keeps_before keeps_mid keeps : ℕ) (written_before written : List ℕ) (faults_before faults : ℕ) →
-    SameContents before mid → keeps_mid ≡ keeps_before → IsCutDelivery p cert mid now keeps_mid keeps written_before written faults_before faults →
-    IsCutDelivery p cert before now keeps_before keeps written_before written faults_before faults
-cut_from p cert before mid now keeps_before keeps_mid keeps written_before written faults_before faults same same_keeps cut = record {
+pub cut_from : (p : Problem) (cert : List ℕ) (before mid now : Outside) → SameContents before.contents mid.contents → mid.failed_keeps ≡ before.failed_keeps →
+    mid.written ≡ before.written → mid.failed_puts ≡ before.failed_puts → IsCutDelivery p cert mid now → IsCutDelivery p cert before now
+cut_from p cert before mid now same same_keeps same_written same_puts cut = record {
   kept_text = cut.kept_text;
   report = cut.report;
   texts = cut.texts;
   left = elim cut.left [
-    | inl front ↦ inl (subst (λ n. Rose n keeps) same_keeps front.0, front_from cert cut.kept_text before mid now same front.1, front.2)
-    | inr whole ↦ inr (whole.0, exactly_from cert cut.kept_text before mid now same whole.1, whole.2)
+    | inl front ↦ inl (subst (λ n. Rose n now.failed_keeps) same_keeps front.0, front_from cert cut.kept_text before.contents mid.contents now.contents same front.1, front.2 ∙ same_written)
+    | inr whole ↦ inr (
+      subst (λ n. Rose n now.failed_puts) same_puts whole.0,
+      exactly_from cert cut.kept_text before.contents mid.contents now.contents same whole.1,
+      subst (λ w. WroteFront cut.report w now.written) same_written whole.2,
+    )
   ];
 }
 
-pub solved_in_part : (names : FileNames) (before now : List ℕ → Option (List ℕ)) (keeps_before keeps : ℕ) (written_before written : List ℕ) (faults_before faults : ℕ) (p : Problem) →
-    IsSomeAnd (before names.file) (λ bytes. IsTextOf bytes p) → IsCutDelivery p names.cert before now keeps_before keeps written_before written faults_before faults →
-    IsSolvedInPart names before now keeps_before keeps written_before written faults_before faults
-solved_in_part names before now keeps_before keeps written_before written faults_before faults p read cut =
-    with_some (before names.file) read (λ file was text. record { file = file; was = was; instance = p; read = text; cut = cut })
+pub solved_in_part : (names : FileNames) (before now : Outside) (p : Problem) →
+    IsSomeAnd (before.contents names.file) (λ bytes. IsTextOf bytes p) → IsCutDelivery p names.cert before now → IsSolvedInPart names before now
+solved_in_part names before now p read cut =
+    with_some (before.contents names.file) read (λ file was text. record { file = file; was = was; instance = p; read = text; cut = cut })
 
 -- the usage text was cut short
-pub usage_cut : (names : Option FileNames) (before : List ℕ → Option (List ℕ)) (looks : List ℕ → ℕ) (keeps : ℕ) (written_before written : List ℕ) (faults_before faults : ℕ) →
-    names ≡ None → WroteFront (refusal_text BadUsage) written_before written → Rose faults_before faults →
-    IsCutShort names before before looks looks keeps keeps written_before written faults_before faults
-usage_cut None before looks keeps written_before written faults_before faults none wrote failed =
-    record { status = BadUsage; caused = refl; kept = λ name. refl; wrote = wrote; failed = failed }
-usage_cut (Some names) before looks keeps written_before written faults_before faults none wrote failed = cc
+pub usage_cut : (names : Option FileNames) (before now : Outside) →
+    names ≡ None → SameContents before.contents now.contents → WroteFront (refusal_text BadUsage) before.written now.written → Rose before.failed_puts now.failed_puts →
+    IsCutShort names before now
+usage_cut None before now none kept wrote failed = record { status = BadUsage; caused = refl; kept = kept; wrote = wrote; failed = failed }
+usage_cut (Some names) before now none kept wrote failed = cc

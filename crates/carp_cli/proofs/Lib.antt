@@ -1,5 +1,3 @@
 mod Cuts
 mod Judged
 mod Lines
-mod Singles
-mod Ways

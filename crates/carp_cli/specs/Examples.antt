@@ -1,8 +1,9 @@
 -- Small data for the examples beside the tests.
-use Rattle.std.specs.Prelude.{ℕ, [], codes}
+use Rattle.std.specs.Prelude.{ℕ, [], ◌∷◌, None, codes}
 use Rattle.carp_base.specs.Problem.{Problem}
 use Rattle.carp_cli.specs.Certificate.{Certificate}
 use Rattle.carp_cli.specs.Words.{FileNames}
+use Rattle.carp_cli.specs.Outside.{Outside}
 
 -- an instance with nothing to serve
 abbrev pub idle : Problem
@@ -14,3 +15,14 @@ stated cost bound = record { cost = cost; bound = bound; plan = []; prices = [] 
 
 abbrev pub two_names : FileNames
 two_names = record { file = codes "f"; cert = codes "c" }
+
+-- no name holds anything, nothing was written, and no call failed
+abbrev pub empty : Outside
+empty = record { contents = λ _. None; failed_looks = λ _. 0; failed_keeps = 0; written = []; failed_puts = 0 }
+
+-- a byte was written before, and a put failed since
+abbrev pub with_output : Outside
+with_output = record { contents = λ _. None; failed_looks = λ _. 0; failed_keeps = 0; written = 1 ∷ []; failed_puts = 0 }
+
+abbrev pub with_failed_keep : Outside
+with_failed_keep = record { contents = λ _. None; failed_looks = λ _. 0; failed_keeps = 1; written = []; failed_puts = 0 }

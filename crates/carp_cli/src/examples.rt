@@ -1,9 +1,9 @@
 // Small data at which the facts of a run hold, and small data at which they do not.
 ghost use Rattle.std.specs.Prelude.{◌≢◌, [], ◌∷◌, None, Some};
-ghost use Rattle.carp_cli.specs.Singles.{AreLeastTours, IsLeastTour};
 ghost use Rattle.carp_cli.specs.Sound.{IsSound};
-ghost use Rattle.carp_cli.specs.Outcome.{IsEnding, IsSolved, IsCutShort, SameElsewhere, RoseAtFile};
-ghost use Rattle.carp_cli.specs.Examples.{idle, stated, two_names};
+ghost use Rattle.carp_cli.specs.Outside.{SameElsewhere, RoseAtFile};
+ghost use Rattle.carp_cli.specs.Outcome.{IsEnding, IsSolved, IsCutShort};
+ghost use Rattle.carp_cli.specs.Examples.{idle, stated, two_names, empty, with_output, with_failed_keep};
 
 use crate::Status;
 
@@ -13,7 +13,6 @@ fn facts_of_a_run_hold()
     ensures gap { IsEnding (stated 5 4) Status.Gap }
     ensures elsewhere { SameElsewhere (Some two_names) (λ _. None) (λ _. None) }
     ensures rose { RoseAtFile (Some two_names) (λ _. 0) (λ _. 1) }
-    ensures tours { AreLeastTours idle [] }
 {}
 
 fn facts_of_a_run_fail()
@@ -21,11 +20,9 @@ fn facts_of_a_run_fail()
     ensures bound { IsSound idle (stated 0 1) → ⊥ }
     ensures proven { IsEnding (stated 5 4) Status.Proven → ⊥ }
     ensures gap { IsEnding (stated 5 5) Status.Gap → ⊥ }
-    ensures solved { IsSolved two_names Status.Gap (λ _. None) (λ _. None) [] [] → ⊥ }
-    ensures cut { IsCutShort None (λ _. None) (λ _. None) (λ _. 0) (λ _. 0) 0 0 (1 ∷ []) [] 0 1 → ⊥ }
-    ensures no_fault { IsCutShort None (λ _. None) (λ _. None) (λ _. 0) (λ _. 0) 0 1 [] [] 0 0 → ⊥ }
-    ensures tours { AreLeastTours idle ([] ∷ []) → ⊥ }
-    ensures service { IsLeastTour idle 1 [] → ⊥ }
+    ensures solved { IsSolved two_names Status.Gap empty empty → ⊥ }
+    ensures cut { IsCutShort None with_output empty → ⊥ }
+    ensures no_fault { IsCutShort None empty with_failed_keep → ⊥ }
     ensures elsewhere { SameElsewhere None (λ _. None) (λ _. Some []) → ⊥ }
     ensures rose { RoseAtFile (Some two_names) (λ _. 1) (λ _. 1) → ⊥ }
 {}

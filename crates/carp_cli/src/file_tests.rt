@@ -15,105 +15,50 @@ fn solved(alloc: Global, file: &[u8]) -> Result<(Status, Vec<u8>), Fail> {
     Ok((status, out.written().to_vec(alloc)?))
 }
 
-// Texts of valid instances in many layouts, and the lines of their reports on cost, bound and tours.
-#[test]
-fn each_layout_is_solved(rt: HostRuntime) -> Result<(), Fail> {
-    let alloc = rt.alloc();
-    let cases: [(&[u8], Status, &[u8]); 5] = [
-        // no edge at all
-        (
-            b"VERTICES 1\nARISTAS_REQ 0\nCAPACIDAD 1\nDEPOSITO 1",
-            Status::Proven,
-            b"0 0 0",
-        ),
-        // the layout with carriage returns, small letters and a remark in no encoding
-        (
-            b"vertices : 2\r\naristas_req 1\r\n\tComentario caf\xc3\xa9\xff\r\nCapacidad: 1\r\nlista_aristas_req :\r\n\r\n(1,2)COSTE 5 Demanda 1\r\ndeposito : 1",
-            Status::Gap,
-            b"10 5 1",
-        ),
-        (
-            b"vertices : 2\r\naristas_req 1\r\nCapacidad: 1\r\nlista_aristas_req :\r\n(1,2)COSTE 5 Demanda 1\r\ndeposito : 1 central\nEND\n",
-            Status::Gap,
-            b"10 5 1",
-        ),
-        // a vehicle's load is the demand; it was more
-        (
-            b"VERTICES 2\nARISTAS_REQ 1\nCAPACIDAD 1\nLISTA_ARISTAS_REQ\n(1,2) coste 5 demanda 1\nDEPOSITO 1",
-            Status::Gap,
-            b"10 5 1",
-        ),
-        // the street with the number of vehicles of the usual layout, which is not read
-        (
-            b"NOMBRE : carp\nCOMENTARIO : none\nVERTICES : 2\nARISTAS_REQ : 1\nARISTAS_NOREQ : 0\nVEHICULOS : 2\nCAPACIDAD : 1\nTIPO_COSTES_ARISTAS : EXPLICITOS\nCOSTE_TOTAL_REQ : 5\nLISTA_ARISTAS_REQ :\n( 1, 2) coste 5 demanda 1\nLISTA_ARISTAS_NOREQ :\nDEPOSITO : 1\n",
-            Status::Gap,
-            b"10 5 1",
-        ),
-    ];
-    for (file, status, wanted) in cases {
-        let (answer, written) = solved(alloc, file)?;
-        assert_eq!(rt; numbers_of(alloc, &written)?.as_bytes(), wanted);
-        assert_eq!(rt; answer, status);
-    }
-    Ok(())
+// The text of a row, in which `~` stands for each line feed, and what stands before it.
+fn parts_of(alloc: Global, row: &str) -> Result<(String, String), Fail> {
+    let (answer, text) = row.split_once('|').unwrap_or(("", row));
+    Ok((
+        String::from_str(alloc, answer)?,
+        text.replace(alloc, "~", "\n")?,
+    ))
 }
 
-// Texts of valid instances, and the lines of their reports on cost, bound and tours.
+// Texts of valid instances: the answer, with the numbers of the report on cost, bound and tours. They are the empty instance,
+// the street in many layouts, one with a street that need not be reached, costs and service costs at their limits, a
+// triangle (5 + 5, 4 + 7 + 5 and 4 + 4), two streets in a row (3 + 3, and 3 + 4 + 4 + 3), and three streets round a far corner
+// (each tour drives 10 out and 10 home, and 1 more from the other end), for which room for two makes no difference.
+const SOLVED: &str = "\
+    proven 0 0 0|VERTICES 1~ARISTAS_REQ 0~CAPACIDAD 1~DEPOSITO 1\n\
+    gap 10 5 1|vertices : 2\r~aristas_req 1\r~\tComentario café\r~Capacidad: 1\r~lista_aristas_req :\r~\r~(1,2)COSTE 5 Demanda 1\r~deposito : 1\n\
+    gap 10 5 1|vertices : 2\r~aristas_req 1\r~Capacidad: 1\r~lista_aristas_req :\r~(1,2)COSTE 5 Demanda 1\r~deposito : 1 central~END~\n\
+    gap 10 5 1|VERTICES 2~ARISTAS_REQ 1~CAPACIDAD 1~LISTA_ARISTAS_REQ~(1,2) coste 5 demanda 1~DEPOSITO 1\n\
+    gap 10 5 1|NOMBRE : carp~COMENTARIO : none~VERTICES : 2~ARISTAS_REQ : 1~ARISTAS_NOREQ : 0~VEHICULOS : 2~CAPACIDAD : 1~TIPO_COSTES_ARISTAS : EXPLICITOS~COSTE_TOTAL_REQ : 5~LISTA_ARISTAS_REQ :~( 1, 2) coste 5 demanda 1~LISTA_ARISTAS_NOREQ :~DEPOSITO : 1~\n\
+    gap 2 1 1|VERTICES 4~ARISTAS_REQ 1~ARISTAS_NOREQ 1~CAPACIDAD 1~LISTA_ARISTAS_REQ~(1,2) coste 1 demanda 1~LISTA_ARISTAS_NOREQ~(3,4) coste 1~DEPOSITO 1\n\
+    gap 2000000 1000000 1|VERTICES 2~ARISTAS_REQ 1~CAPACIDAD 1~LISTA_ARISTAS_REQ~(1,2) coste 1000000 demanda 1~DEPOSITO 1\n\
+    gap 14 9 1|VERTICES 2~ARISTAS_REQ 1~CAPACIDAD 1~LISTA_ARISTAS_REQ~(1,2) coste 5 demanda 1 servicio 9~DEPOSITO 1\n\
+    gap 5 0 1|VERTICES 2~ARISTAS_REQ 1~CAPACIDAD 1~LISTA_ARISTAS_REQ~(1,2) coste 5 demanda 1 servicio 0~DEPOSITO 1\n\
+    gap 34 16 3|VERTICES 3~ARISTAS_REQ 3~CAPACIDAD 3~LISTA_ARISTAS_REQ~(1,2) coste 5 demanda 1~(2,3) coste 7 demanda 1~(1,3) coste 4 demanda 1~DEPOSITO 1\n\
+    gap 20 7 2|VERTICES 3~ARISTAS_REQ 2~CAPACIDAD 2~LISTA_ARISTAS_REQ~(1,2) coste 3 demanda 2~(2,3) coste 4 demanda 2~DEPOSITO 1\n\
+    gap 67 3 3|VERTICES 4~ARISTAS_REQ 3~ARISTAS_NOREQ 1~CAPACIDAD 3~LISTA_ARISTAS_REQ~(2,3) coste 1 demanda 2~(3,4) coste 1 demanda 2~(4,2) coste 1 demanda 2~LISTA_ARISTAS_NOREQ~(1,2) coste 10~DEPOSITO 1\n\
+    gap 67 3 3|VERTICES 4~ARISTAS_REQ 3~ARISTAS_NOREQ 1~CAPACIDAD 5~LISTA_ARISTAS_REQ~(2,3) coste 1 demanda 2~(3,4) coste 1 demanda 2~(4,2) coste 1 demanda 2~LISTA_ARISTAS_NOREQ~(1,2) coste 10~DEPOSITO 1";
+
 #[test]
 fn each_valid_file_is_solved(rt: HostRuntime) -> Result<(), Fail> {
     let alloc = rt.alloc();
-    let cases: [(&[u8], Status, &[u8]); 8] = [
-        // the street that cannot be reached need not be served
-        (
-            b"VERTICES 4\nARISTAS_REQ 1\nARISTAS_NOREQ 1\nCAPACIDAD 1\nLISTA_ARISTAS_REQ\n(1,2) coste 1 demanda 1\nLISTA_ARISTAS_NOREQ\n(3,4) coste 1\nDEPOSITO 1",
-            Status::Gap,
-            b"2 1 1",
-        ),
-        (
-            b"VERTICES 2\nARISTAS_REQ 1\nCAPACIDAD 1\nLISTA_ARISTAS_REQ\n(1,2) coste 1000000 demanda 1\nDEPOSITO 1",
-            Status::Gap,
-            b"2000000 1000000 1",
-        ),
-        // a service cost of its own
-        (
-            b"VERTICES 2\nARISTAS_REQ 1\nCAPACIDAD 1\nLISTA_ARISTAS_REQ\n(1,2) coste 5 demanda 1 servicio 9\nDEPOSITO 1",
-            Status::Gap,
-            b"14 9 1",
-        ),
-        (
-            b"VERTICES 2\nARISTAS_REQ 1\nCAPACIDAD 1\nLISTA_ARISTAS_REQ\n(1,2) coste 5 demanda 1 servicio 0\nDEPOSITO 1",
-            Status::Gap,
-            b"5 0 1",
-        ),
-        // a triangle at the depot, one tour for each street: 5 + 5, 4 + 7 + 5 and 4 + 4
-        (
-            b"VERTICES 3\nARISTAS_REQ 3\nCAPACIDAD 3\nLISTA_ARISTAS_REQ\n(1,2) coste 5 demanda 1\n(2,3) coste 7 demanda 1\n(1,3) coste 4 demanda 1\nDEPOSITO 1",
-            Status::Gap,
-            b"34 16 3",
-        ),
-        // two streets in a row: 3 + 3, and 3 + 4 + 4 + 3
-        (
-            b"VERTICES 3\nARISTAS_REQ 2\nCAPACIDAD 2\nLISTA_ARISTAS_REQ\n(1,2) coste 3 demanda 2\n(2,3) coste 4 demanda 2\nDEPOSITO 1",
-            Status::Gap,
-            b"20 7 2",
-        ),
-        // streets of cost 1 round a far corner: each tour drives 10 out and 10 home, and 1 more from the other end
-        (
-            b"VERTICES 4\nARISTAS_REQ 3\nARISTAS_NOREQ 1\nCAPACIDAD 3\nLISTA_ARISTAS_REQ\n(2,3) coste 1 demanda 2\n(3,4) coste 1 demanda 2\n(4,2) coste 1 demanda 2\nLISTA_ARISTAS_NOREQ\n(1,2) coste 10\nDEPOSITO 1",
-            Status::Gap,
-            b"67 3 3",
-        ),
-        // the same with room for two streets in a vehicle: still one tour for each
-        (
-            b"VERTICES 4\nARISTAS_REQ 3\nARISTAS_NOREQ 1\nCAPACIDAD 5\nLISTA_ARISTAS_REQ\n(2,3) coste 1 demanda 2\n(3,4) coste 1 demanda 2\n(4,2) coste 1 demanda 2\nLISTA_ARISTAS_NOREQ\n(1,2) coste 10\nDEPOSITO 1",
-            Status::Gap,
-            b"67 3 3",
-        ),
-    ];
-    for (file, status, wanted) in cases {
-        let (answer, written) = solved(alloc, file)?;
-        assert_eq!(rt; numbers_of(alloc, &written)?.as_bytes(), wanted);
-        assert_eq!(rt; answer, status);
+    for row in SOLVED.split('\n') {
+        let (wanted, text) = parts_of(alloc, row)?;
+        let (answer, written) = solved(alloc, text.as_bytes())?;
+        let ending = if answer == Status::Proven {
+            "proven"
+        } else {
+            "gap"
+        };
+        let numbers = numbers_of(alloc, &written)?;
+        assert_eq!(rt;
+            format!(in alloc; "{ending} {numbers}")?.as_bytes(),
+            wanted.as_bytes()
+        );
     }
     Ok(())
 }
@@ -200,143 +145,34 @@ fn numbers_of(alloc: Global, report: &[u8]) -> Result<String, Fail> {
     Ok(numbers)
 }
 
-// Texts that describe no instance, and the line that is written for each.
-#[test]
-fn each_fault_of_a_text_has_its_line(rt: HostRuntime) -> Result<(), Fail> {
-    let alloc = rt.alloc();
-    let cases: [(&[u8], DatFault, &str); 8] = [
-        (
-            b"VERTICES two",
-            DatFault::Syntax(1),
-            "line 1 cannot be read",
-        ),
-        (
-            b"",
-            DatFault::MissingKey(Key::Vertices),
-            "key VERTICES is missing",
-        ),
-        (
-            b"VERTICES 2\nVERTICES 2",
-            DatFault::DoubleKey(Key::Vertices),
-            "key VERTICES stands twice",
-        ),
-        (
-            b"VERTICES 2\nARISTAS_REQ 3\nCAPACIDAD 1\nLISTA_ARISTAS_REQ\n(1,2) coste 5 demanda 1\n(1,2) coste 5 demanda 1\nDEPOSITO 1",
-            DatFault::CountDiffers {
-                key: Key::RequiredCount,
-                stated: 3,
-                found: 2,
-            },
-            "ARISTAS_REQ states 3 and the list has 2",
-        ),
-        (
-            b"\nVERTICES 1234567890123456789",
-            DatFault::NumberTooLong(2),
-            "line 2 has a number of more than 18 digits",
-        ),
-        (
-            b"DEPOSITO 1\nCAPACIDAD 1\nVERTICES 1",
-            DatFault::MissingKey(Key::RequiredCount),
-            "key ARISTAS_REQ is missing",
-        ),
-        (
-            b"VERTICES 2\nARISTAS_REQ 0\nARISTAS_NOREQ 1\nCAPACIDAD 1\nDEPOSITO 1",
-            DatFault::CountDiffers {
-                key: Key::OtherCount,
-                stated: 1,
-                found: 0,
-            },
-            "ARISTAS_NOREQ states 1 and the list has 0",
-        ),
-        (
-            b"LISTA_ARISTAS_REQ\nlista_aristas_req",
-            DatFault::DoubleKey(Key::RequiredList),
-            "key LISTA_ARISTAS_REQ stands twice",
-        ),
-    ];
-    for (file, fault, words) in cases {
-        let (answer, written) = solved(alloc, file)?;
-        assert_eq!(rt; answer, Status::BadInstance(fault), "{words}");
-        let line = format!(in alloc; "bad instance: {words}\n")?;
-        assert_eq!(rt; written.as_slice(), line.as_bytes());
-    }
-    Ok(())
-}
+// Texts that describe no instance, and the words of the line that is written for each.
+const REFUSED: &str = "\
+    line 1 cannot be read|VERTICES two\n\
+    key VERTICES is missing|\n\
+    key VERTICES stands twice|VERTICES 2~VERTICES 2\n\
+    ARISTAS_REQ states 3 and the list has 2|VERTICES 2~ARISTAS_REQ 3~CAPACIDAD 1~LISTA_ARISTAS_REQ~(1,2) coste 5 demanda 1~(1,2) coste 5 demanda 1~DEPOSITO 1\n\
+    line 2 has a number of more than 18 digits|~VERTICES 1234567890123456789\n\
+    key ARISTAS_REQ is missing|DEPOSITO 1~CAPACIDAD 1~VERTICES 1\n\
+    ARISTAS_NOREQ states 1 and the list has 0|VERTICES 2~ARISTAS_REQ 0~ARISTAS_NOREQ 1~CAPACIDAD 1~DEPOSITO 1\n\
+    key LISTA_ARISTAS_REQ stands twice|LISTA_ARISTAS_REQ~lista_aristas_req\n\
+    edge 1 has an end out of range|VERTICES 2~ARISTAS_REQ 1~CAPACIDAD 1~LISTA_ARISTAS_REQ~(1,3) coste 5 demanda 1~DEPOSITO 1\n\
+    edge 1 is a loop|VERTICES 2~ARISTAS_REQ 1~CAPACIDAD 1~LISTA_ARISTAS_REQ~(2,2) coste 5 demanda 1~DEPOSITO 1\n\
+    edge 1 has too large a cost|VERTICES 2~ARISTAS_REQ 1~CAPACIDAD 1~LISTA_ARISTAS_REQ~(1,2) coste 1000001 demanda 1~DEPOSITO 1\n\
+    required edge 1 has demand 0|VERTICES 2~ARISTAS_REQ 1~CAPACIDAD 1~LISTA_ARISTAS_REQ~(1,2) coste 5 demanda 0~DEPOSITO 1\n\
+    edge 1 has a demand above the capacity|VERTICES 2~ARISTAS_REQ 1~CAPACIDAD 1~LISTA_ARISTAS_REQ~(1,2) coste 5 demanda 2~DEPOSITO 1\n\
+    edge 2 cannot be reached|VERTICES 4~ARISTAS_REQ 2~CAPACIDAD 1~LISTA_ARISTAS_REQ~(1,2) coste 1 demanda 1~(3,4) coste 1 demanda 1~DEPOSITO 1\n\
+    edge 1 has too large a service cost|VERTICES 2~ARISTAS_REQ 1~CAPACIDAD 1~LISTA_ARISTAS_REQ~(1,2) coste 5 demanda 1 servicio 1000001~DEPOSITO 1\n\
+    1001 vertices are too many|VERTICES 1001~ARISTAS_REQ 0~CAPACIDAD 1~DEPOSITO 1\n\
+    capacity 30001 is out of range|VERTICES 2~ARISTAS_REQ 0~CAPACIDAD 30001~DEPOSITO 1\n\
+    depot 3 is out of range|VERTICES 2~ARISTAS_REQ 0~CAPACIDAD 1~DEPOSITO 3";
 
-// Texts with an edge that is not valid, and the line that is written for each.
 #[test]
-fn each_fault_of_an_edge_has_its_line(rt: HostRuntime) -> Result<(), Fail> {
+fn each_fault_has_its_line(rt: HostRuntime) -> Result<(), Fail> {
     let alloc = rt.alloc();
-    let cases: [(&[u8], DatFault, &str); 7] = [
-        (
-            b"VERTICES 2\nARISTAS_REQ 1\nCAPACIDAD 1\nLISTA_ARISTAS_REQ\n(1,3) coste 5 demanda 1\nDEPOSITO 1",
-            DatFault::Refused(InstanceFault::EndOutOfRange(1)),
-            "edge 1 has an end out of range",
-        ),
-        (
-            b"VERTICES 2\nARISTAS_REQ 1\nCAPACIDAD 1\nLISTA_ARISTAS_REQ\n(2,2) coste 5 demanda 1\nDEPOSITO 1",
-            DatFault::Refused(InstanceFault::Loop(1)),
-            "edge 1 is a loop",
-        ),
-        (
-            b"VERTICES 2\nARISTAS_REQ 1\nCAPACIDAD 1\nLISTA_ARISTAS_REQ\n(1,2) coste 1000001 demanda 1\nDEPOSITO 1",
-            DatFault::Refused(InstanceFault::CostTooLarge(1)),
-            "edge 1 has too large a cost",
-        ),
-        (
-            b"VERTICES 2\nARISTAS_REQ 1\nCAPACIDAD 1\nLISTA_ARISTAS_REQ\n(1,2) coste 5 demanda 0\nDEPOSITO 1",
-            DatFault::Refused(InstanceFault::ZeroDemand(1)),
-            "required edge 1 has demand 0",
-        ),
-        (
-            b"VERTICES 2\nARISTAS_REQ 1\nCAPACIDAD 1\nLISTA_ARISTAS_REQ\n(1,2) coste 5 demanda 2\nDEPOSITO 1",
-            DatFault::Refused(InstanceFault::Overweight(1)),
-            "edge 1 has a demand above the capacity",
-        ),
-        (
-            b"VERTICES 4\nARISTAS_REQ 2\nCAPACIDAD 1\nLISTA_ARISTAS_REQ\n(1,2) coste 1 demanda 1\n(3,4) coste 1 demanda 1\nDEPOSITO 1",
-            DatFault::Refused(InstanceFault::Unreachable(2)),
-            "edge 2 cannot be reached",
-        ),
-        (
-            b"VERTICES 2\nARISTAS_REQ 1\nCAPACIDAD 1\nLISTA_ARISTAS_REQ\n(1,2) coste 5 demanda 1 servicio 1000001\nDEPOSITO 1",
-            DatFault::Refused(InstanceFault::ServiceTooLarge(1)),
-            "edge 1 has too large a service cost",
-        ),
-    ];
-    for (file, fault, words) in cases {
-        let (answer, written) = solved(alloc, file)?;
-        assert_eq!(rt; answer, Status::BadInstance(fault), "{words}");
-        let line = format!(in alloc; "bad instance: {words}\n")?;
-        assert_eq!(rt; written.as_slice(), line.as_bytes());
-    }
-    Ok(())
-}
-
-// Texts with a number out of range, and the line that is written for each. States are tried below.
-#[test]
-fn each_fault_of_a_number_has_its_line(rt: HostRuntime) -> Result<(), Fail> {
-    let alloc = rt.alloc();
-    let cases: [(&[u8], DatFault, &str); 3] = [
-        (
-            b"VERTICES 1001\nARISTAS_REQ 0\nCAPACIDAD 1\nDEPOSITO 1",
-            DatFault::Refused(InstanceFault::TooManyVertices(1001)),
-            "1001 vertices are too many",
-        ),
-        (
-            b"VERTICES 2\nARISTAS_REQ 0\nCAPACIDAD 30001\nDEPOSITO 1",
-            DatFault::Refused(InstanceFault::CapacityOutOfRange(30_001)),
-            "capacity 30001 is out of range",
-        ),
-        (
-            b"VERTICES 2\nARISTAS_REQ 0\nCAPACIDAD 1\nDEPOSITO 3",
-            DatFault::Refused(InstanceFault::DepotOutOfRange(3)),
-            "depot 3 is out of range",
-        ),
-    ];
-    for (file, fault, words) in cases {
-        let (answer, written) = solved(alloc, file)?;
-        assert_eq!(rt; answer, Status::BadInstance(fault), "{words}");
+    for row in REFUSED.split('\n') {
+        let (words, text) = parts_of(alloc, row)?;
+        let (answer, written) = solved(alloc, text.as_bytes())?;
+        assert_eq!(rt; answer.code(), 4, "{words}");
         let line = format!(in alloc; "bad instance: {words}\n")?;
         assert_eq!(rt; written.as_slice(), line.as_bytes());
     }

@@ -14,7 +14,7 @@ use crate::solving::solve;
 use crate::status::Status;
 use carp_base::{Fail, Instance, Memory};
 use carp_outside::{ReadFault, Shelf, read_whole};
-use dat_text::{DatFault, read_dat};
+use dat_text::{DatFault, read_dat, readings_are_unique};
 use std::alloc::Global;
 
 /// The most bytes of an instance file.
@@ -93,6 +93,7 @@ fn parse(alloc: Global, bytes: &[u8]) -> Result<Instance, Stop>
     ensures refused { (fault : DatFault) → IsFaultOf bytes.now fault → (result ≡ Err (NoInstance fault)) ⊎ (result ≡ Err NoMemory) }
     ensures was_read { (result ≢ Err NotRead) × (result ≢ Err Longer) }
 {
+    readings_are_unique();
     match read_dat(alloc, bytes) {
         Ok(inst) => Ok(inst),
         Err(Fail::Memory) => Err(Stop::NoMemory),

@@ -18,7 +18,6 @@ mod gathering;
 mod refusals;
 mod report;
 mod running;
-mod single_tours;
 mod solving;
 mod status;
 mod std_sink;

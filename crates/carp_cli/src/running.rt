@@ -7,7 +7,8 @@ ghost use Rattle.dat_text.specs.Text.{IsTextOf, IsFaultOf};
 ghost use Rattle.carp_cli.specs.Words.{names_of};
 ghost use Rattle.carp_cli.specs.Files.{file_limit, IsAccepted, OfFile};
 ghost use Rattle.carp_cli.specs.Refusals.{refusal_text};
-ghost use Rattle.carp_cli.specs.Outcome.{IsDelivered, IsCutDelivery, IsSolved, IsCutShort, SameElsewhere, RoseAtFile};
+ghost use Rattle.carp_cli.specs.Outside.{Outside, SameElsewhere, RoseAtFile};
+ghost use Rattle.carp_cli.specs.Outcome.{IsDelivered, IsCutDelivery, IsSolved, IsCutShort};
 
 use crate::gathering::{FILE_LIMIT, Stop, Texts, build_texts, read_instance};
 use crate::refusals::refusal;
@@ -29,8 +30,10 @@ pub fn run<H: Shelf, O: Sink>(
     helpers: &mut Vec<Box<dyn Proposer>>,
 ) -> Status
     // The headline: where a solution is answered, the certificate is kept, the report is written, and both are true.
-    ensures solved { IsTrue H.tells → IsTrue O.tells → (result ≡ Status.Proven) ⊎ (result ≡ Status.Gap) → IsSomeAnd (names_of words.now) (λ names.
-        IsSolved names result (H.contents shelf.old) (H.contents shelf.new) (O.written out.old) (O.written out.new)) }
+    ensures solved { let before : Outside = record { contents = H.contents shelf.old; failed_looks = H.failed_looks shelf.old; failed_keeps = H.failed_keeps shelf.old; written = O.written out.old; failed_puts = O.faults out.old } in
+        let now : Outside = record { contents = H.contents shelf.new; failed_looks = H.failed_looks shelf.new; failed_keeps = H.failed_keeps shelf.new; written = O.written out.new; failed_puts = O.faults out.new } in
+        IsTrue H.tells → IsTrue O.tells → (result ≡ Status.Proven) ⊎ (result ≡ Status.Gap) → IsSomeAnd (names_of words.now) (λ names.
+        IsSolved names result before now) }
     ensures complete { IsTrue H.tells → OfFile (λ bytes. (length bytes ≤ file_limit) × IsAccepted bytes) (names_of words.now) (H.contents shelf.old)
         → (RoseAtFile (names_of words.now) (H.failed_looks shelf.old) (H.failed_looks shelf.new) → ⊥)
         → (Rose (H.failed_keeps shelf.old) (H.failed_keeps shelf.new) → ⊥) → (Rose (O.faults out.old) (O.faults out.new) → ⊥)
@@ -60,9 +63,10 @@ pub fn run<H: Shelf, O: Sink>(
         → SameContents (H.contents shelf.old) (H.contents shelf.new) }
     ensures refused { IsTrue O.tells → result ≢ Status.Proven → result ≢ Status.Gap → result ≢ Status.WriteFault
         → O.written out.new ≡ O.written out.old ++ refusal_text result }
-    ensures cut { IsTrue H.tells → IsTrue O.tells → result ≡ Status.WriteFault
-        → IsCutShort (names_of words.now) (H.contents shelf.old) (H.contents shelf.new) (H.failed_looks shelf.old) (H.failed_looks shelf.new)
-        (H.failed_keeps shelf.old) (H.failed_keeps shelf.new) (O.written out.old) (O.written out.new) (O.faults out.old) (O.faults out.new) }
+    ensures cut { let before : Outside = record { contents = H.contents shelf.old; failed_looks = H.failed_looks shelf.old; failed_keeps = H.failed_keeps shelf.old; written = O.written out.old; failed_puts = O.faults out.old } in
+        let now : Outside = record { contents = H.contents shelf.new; failed_looks = H.failed_looks shelf.new; failed_keeps = H.failed_keeps shelf.new; written = O.written out.new; failed_puts = O.faults out.new } in
+        IsTrue H.tells → IsTrue O.tells → result ≡ Status.WriteFault
+        → IsCutShort (names_of words.now) before now }
     ensures helpers { helpers.new.items ≡ helpers.old.items }
 {
     match read_words(words) {
@@ -78,8 +82,10 @@ fn solve_file<H: Shelf, O: Sink>(
     shelf: &mut H,
     out: &mut O,
 ) -> Status
-    ensures solved { IsTrue H.tells → IsTrue O.tells → (result ≡ Status.Proven) ⊎ (result ≡ Status.Gap) →
-        IsSolved (record { file = names.now.file.now; cert = names.now.cert.now }) result (H.contents shelf.old) (H.contents shelf.new) (O.written out.old) (O.written out.new) }
+    ensures solved { let before : Outside = record { contents = H.contents shelf.old; failed_looks = H.failed_looks shelf.old; failed_keeps = H.failed_keeps shelf.old; written = O.written out.old; failed_puts = O.faults out.old } in
+        let now : Outside = record { contents = H.contents shelf.new; failed_looks = H.failed_looks shelf.new; failed_keeps = H.failed_keeps shelf.new; written = O.written out.new; failed_puts = O.faults out.new } in
+        IsTrue H.tells → IsTrue O.tells → (result ≡ Status.Proven) ⊎ (result ≡ Status.Gap) →
+        IsSolved (record { file = names.now.file.now; cert = names.now.cert.now }) result before now }
     ensures complete { IsTrue H.tells → IsSomeAnd (H.contents shelf.old names.now.file.now) (λ bytes. (length bytes ≤ file_limit) × IsAccepted bytes)
         → (Rose (H.failed_looks shelf.old names.now.file.now) (H.failed_looks shelf.new names.now.file.now) → ⊥)
         → (Rose (H.failed_keeps shelf.old) (H.failed_keeps shelf.new) → ⊥) → (Rose (O.faults out.old) (O.faults out.new) → ⊥)
@@ -104,10 +110,10 @@ fn solve_file<H: Shelf, O: Sink>(
         → SameContents (H.contents shelf.old) (H.contents shelf.new) }
     ensures refused { IsTrue O.tells → result ≢ Status.Proven → result ≢ Status.Gap → result ≢ Status.WriteFault
         → O.written out.new ≡ O.written out.old ++ refusal_text result }
-    ensures cut { IsTrue H.tells → IsTrue O.tells → result ≡ Status.WriteFault
-        → IsCutShort (Some (record { file = names.now.file.now; cert = names.now.cert.now })) (H.contents shelf.old) (H.contents shelf.new)
-        (H.failed_looks shelf.old) (H.failed_looks shelf.new) (H.failed_keeps shelf.old) (H.failed_keeps shelf.new)
-        (O.written out.old) (O.written out.new) (O.faults out.old) (O.faults out.new) }
+    ensures cut { let before : Outside = record { contents = H.contents shelf.old; failed_looks = H.failed_looks shelf.old; failed_keeps = H.failed_keeps shelf.old; written = O.written out.old; failed_puts = O.faults out.old } in
+        let now : Outside = record { contents = H.contents shelf.new; failed_looks = H.failed_looks shelf.new; failed_keeps = H.failed_keeps shelf.new; written = O.written out.new; failed_puts = O.faults out.new } in
+        IsTrue H.tells → IsTrue O.tells → result ≡ Status.WriteFault
+        → IsCutShort (Some (record { file = names.now.file.now; cert = names.now.cert.now })) before now }
 {
     match read_instance(alloc, shelf, names.file) {
         Ok(inst) => solve_instance(alloc, &inst, names.cert, shelf, out),
@@ -127,12 +133,13 @@ fn solve_instance<H: Shelf, O: Sink>(
     out: &mut O,
 ) -> Status
     ensures answers { (result ≡ Status.Proven) ⊎ ((result ≡ Status.Gap) ⊎ ((result ≡ Status.Memory) ⊎ (result ≡ Status.WriteFault))) }
-    ensures solved { IsTrue H.tells → IsTrue O.tells → (result ≡ Status.Proven) ⊎ (result ≡ Status.Gap) →
-        IsDelivered inst.now cert.now result (H.contents shelf.old) (H.contents shelf.new) (O.written out.old) (O.written out.new) }
+    ensures solved { let before : Outside = record { contents = H.contents shelf.old; failed_looks = H.failed_looks shelf.old; failed_keeps = H.failed_keeps shelf.old; written = O.written out.old; failed_puts = O.faults out.old } in
+        let now : Outside = record { contents = H.contents shelf.new; failed_looks = H.failed_looks shelf.new; failed_keeps = H.failed_keeps shelf.new; written = O.written out.new; failed_puts = O.faults out.new } in
+        IsTrue H.tells → IsTrue O.tells → (result ≡ Status.Proven) ⊎ (result ≡ Status.Gap) → IsDelivered inst.now cert.now result before now }
     ensures cause { result ≡ Status.WriteFault → Rose (H.failed_keeps shelf.old) (H.failed_keeps shelf.new) ⊎ Rose (O.faults out.old) (O.faults out.new) }
-    ensures cut { IsTrue H.tells → IsTrue O.tells → result ≡ Status.WriteFault →
-        IsCutDelivery inst.now cert.now (H.contents shelf.old) (H.contents shelf.new) (H.failed_keeps shelf.old) (H.failed_keeps shelf.new)
-        (O.written out.old) (O.written out.new) (O.faults out.old) (O.faults out.new) }
+    ensures cut { let before : Outside = record { contents = H.contents shelf.old; failed_looks = H.failed_looks shelf.old; failed_keeps = H.failed_keeps shelf.old; written = O.written out.old; failed_puts = O.faults out.old } in
+        let now : Outside = record { contents = H.contents shelf.new; failed_looks = H.failed_looks shelf.new; failed_keeps = H.failed_keeps shelf.new; written = O.written out.new; failed_puts = O.faults out.new } in
+        IsTrue H.tells → IsTrue O.tells → result ≡ Status.WriteFault → IsCutDelivery inst.now cert.now before now }
     ensures elsewhere { IsTrue H.tells → (other : List ℕ) → other ≢ cert.now → H.contents shelf.new other ≡ H.contents shelf.old other }
     ensures kept_not { IsTrue H.tells → result ≡ Status.Memory → SameContents (H.contents shelf.old) (H.contents shelf.new) }
     ensures wrote_not { IsTrue O.tells → result ≡ Status.Memory → O.written out.new ≡ O.written out.old }

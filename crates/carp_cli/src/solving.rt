@@ -4,14 +4,13 @@ ghost use Rattle.carp_base.specs.Problem.{IsValid, required_edges};
 ghost use Rattle.plan_model.specs.Plans.{IsLawful, plan_cost};
 ghost use Rattle.carp_cli.specs.Certificate.{certificate_of};
 ghost use Rattle.deadhead_paths.specs.Prices.{costs_of};
-ghost use Rattle.carp_cli.specs.Singles.{AreLeastTours};
+ghost use Rattle.deadhead_paths.specs.Singles.{AreLeastTours};
 ghost use Rattle.carp_cli.specs.Sound.{IsSound};
 
 use crate::certificate::Solution;
-use crate::single_tours::single_tours;
 use carp_base::{Instance, Memory};
-use deadhead_paths::{Distances, cost_prices, distances};
-use plan_model::{JudgeRoom, Plan, Verdict, judge};
+use deadhead_paths::{Distances, cost_prices, distances, single_tours};
+use plan_model::{JudgeRoom, Plan, Verdict, judge, required_cost_is_least, verdicts_are_exact};
 use road_network::Network;
 use std::alloc::Global;
 
@@ -43,6 +42,7 @@ fn judged_cost(alloc: Global, inst: &Instance, plan: &Plan) -> Result<u128, Memo
     requires { IsLawful inst.now plan.now }
     ensures { IfOk result (λ cost. cost ≡ plan_cost inst.now plan.now) }
 {
+    verdicts_are_exact();
     let mut room = JudgeRoom::new(alloc, inst)?;
     match judge(inst, plan, &mut room) {
         Verdict::Lawful { cost } => Ok(cost),
@@ -55,6 +55,7 @@ pub(crate) fn solve(alloc: Global, inst: &Instance) -> Result<Solution, Memory>
     ensures sound { IfOk result (λ solution. IsSound inst.now (certificate_of solution)) }
     ensures tours { IfOk result (λ solution. AreLeastTours inst.now solution.plan) }
 {
+    required_cost_is_least();
     let dist = cost_distances(alloc, inst)?;
     let plan = single_tours(alloc, inst, &dist)?;
     Ok(Solution {

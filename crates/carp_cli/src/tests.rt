@@ -2,7 +2,7 @@
 ghost use Rattle.std.specs.Prelude.{◌<◌};
 
 use crate::{Status, run};
-use carp_outside::{MemShelf, MemSink};
+use carp_outside::{MemShelf, MemSink, Shelf};
 use dat_text::DatFault;
 use plan_model::Proposer;
 use std::alloc::Global;
@@ -180,84 +180,90 @@ end
     Ok(())
 }
 
-// The looks, keeps and puts that fail, the answer, what is written, and whether the certificate is kept.
+// The numbers of a text.
+fn numbers_in(alloc: Global, text: &str) -> Result<Vec<u64>, Fail> {
+    let mut numbers = Vec::new(alloc);
+    for word in text.split_ascii_whitespace() {
+        numbers.push(word.parse()?)?;
+    }
+    Ok(numbers)
+}
+
+// Each row: words (`_` is the empty one); the looks, keeps and puts that fail; the code of the answer; whether the
+// certificate is kept; and what is written, with `~` for a line feed. Puts take 16 bytes at most.
+const CALLS: &str = "\
+    solve file cert | 1 | | | 6 | no | read fault~\n\
+    solve file cert | 2 | | | 6 | no | read fault~\n\
+    solve file cert | 2 | | 1 | 7 | no |\n\
+    solve file cert | | 1 | | 7 | no |\n\
+    solve file cert | | 2 | | 1 | yes | report\n\
+    solve file cert | | | 1 | 7 | yes |\n\
+    solve file cert | | | 2 | 7 | yes | instance vertice\n\
+    solve none cert | | | | 6 | no | read fault~\n\
+    solve | | | 1 | 7 | no |\n\
+    solve | | | 2 | 7 | no | usage: carp solv\n\
+    | | | | 3 | no | usage\n\
+    solve | | | | 3 | no | usage\n\
+    solve file | | | | 3 | no | usage\n\
+    solve file file | | | | 3 | no | usage\n\
+    solve file _ | | | | 3 | no | usage\n\
+    solve -file cert | | | | 3 | no | usage\n\
+    solve file cert --turns 0 | | | | 3 | no | usage\n\
+    solve file cert --turns 1048577 | | | | 3 | no | usage\n\
+    solve file cert --turns=9 | | | | 3 | no | usage\n\
+    Solve file cert | | | | 3 | no | usage\n\
+    check file cert | | | | 3 | no | usage";
+
+// Whether a row of the table is true of the street.
+fn is_answered(alloc: Global, row: &str) -> Result<bool, Fail> {
+    let mut fields = row.split('|');
+    let mut words = Vec::new(alloc);
+    for word in fields.next().unwrap_or("").split_ascii_whitespace() {
+        words.push(if word == "_" { "" } else { word })?;
+    }
+    let looks = numbers_in(alloc, fields.next().unwrap_or(""))?;
+    let keeps = numbers_in(alloc, fields.next().unwrap_or(""))?;
+    let puts = numbers_in(alloc, fields.next().unwrap_or(""))?;
+    let code = fields.next().unwrap_or("").trim_ascii();
+    let cert = match fields.next().unwrap_or("").trim_ascii() {
+        "yes" => CERTIFICATE,
+        _ => "",
+    };
+    let mut shelf = shelf_with(alloc, STREET.as_bytes(), 64, &looks, &keeps)?;
+    let mut out = MemSink::new(alloc, REPORT_ROOM, 16, puts)?;
+    let status = run_words(alloc, &words, &mut shelf, &mut out)?;
+    let same_files = shelf.held("cert").unwrap_or(b"") == cert.as_bytes()
+        && shelf.held("other").unwrap_or(b"") == b"as it was".as_slice();
+    let written = match fields.next().unwrap_or("").trim_ascii() {
+        "report" => String::from_str(alloc, REPORT)?,
+        "usage" => String::from_str(alloc, USAGE)?,
+        text => text.replace(alloc, "~", "\n")?,
+    };
+    Ok(
+        same_files
+            && out.written() == written.as_bytes()
+            && status.code().to_string(alloc)?.as_str() == code,
+    )
+}
+
 #[test]
-fn each_failing_call_is_answered(rt: HostRuntime) -> Result<(), Fail> {
-    let alloc = rt.alloc();
-    let none: &[u64] = &[];
-    let cases: [(&[u64], &[u64], &[u64], Status, &str, bool); 6] = [
-        (&[1], none, none, Status::ReadFault, "read fault\n", false),
-        (&[2], none, none, Status::ReadFault, "read fault\n", false),
-        (&[2], none, &[1], Status::WriteFault, "", false),
-        (none, &[1], none, Status::WriteFault, "", false),
-        (none, none, &[1], Status::WriteFault, "", true),
-        (
-            none,
-            none,
-            &[2],
-            Status::WriteFault,
-            "instance vertice",
-            true,
-        ),
-    ];
-    for (looks, keeps, puts, status, written, kept) in cases {
-        let mut shelf = shelf_with(alloc, STREET.as_bytes(), 64, looks, keeps)?;
-        let mut out = MemSink::new(alloc, REPORT_ROOM, 16, puts.to_vec(alloc)?)?;
-        assert_eq!(rt;
-            run_words(alloc, &["solve", "file", "cert"], &mut shelf, &mut out)?,
-            status
-        );
-        assert_eq!(rt; out.written(), written.as_bytes());
-        let cert = if kept { CERTIFICATE } else { "" };
-        assert_eq!(rt; shelf.held("cert").unwrap_or(b""), cert.as_bytes());
-        assert_eq!(rt; shelf.held("other").unwrap_or(b""), b"as it was".as_slice());
+fn words_and_failing_calls_are_answered(rt: HostRuntime) -> Result<(), Fail> {
+    for row in CALLS.split('\n') {
+        assert!(rt; is_answered(rt.alloc(), row)?, "{row}");
     }
     Ok(())
 }
 
-// The text of a refusal cannot be written, or is cut after 16 bytes.
+// What the calls of a run were is told by the numbers of the next look and the next keep.
 #[test]
-fn a_refusal_that_is_cut_is_a_write_fault(rt: HostRuntime) -> Result<(), Fail> {
+fn bad_usage_calls_for_no_file(rt: HostRuntime) -> Result<(), Fail> {
     let alloc = rt.alloc();
-    for (puts, written) in [([1], ""), ([2], "usage: carp solv")] {
-        let mut shelf = shelf_with(alloc, STREET.as_bytes(), 64, &[], &[])?;
-        let mut out = MemSink::new(alloc, REPORT_ROOM, 16, puts.to_vec(alloc)?)?;
-        assert_eq!(rt;
-            run_words(alloc, &["solve"], &mut shelf, &mut out)?,
-            Status::WriteFault
-        );
-        assert_eq!(rt; out.written(), written.as_bytes());
-        assert!(rt; shelf.held("cert").is_none());
-    }
-    Ok(())
-}
-
-#[test]
-fn words_that_are_not_plain_are_bad_usage(rt: HostRuntime) -> Result<(), Fail> {
-    let alloc = rt.alloc();
-    let cases: [&[&str]; 11] = [
-        &[],
-        &["solve"],
-        &["solve", "file"],
-        &["solve", "file", "file"],
-        &["solve", "file", ""],
-        &["solve", "-file", "cert"],
-        &["solve", "file", "cert", "--turns", "0"],
-        &["solve", "file", "cert", "--turns", "1048577"],
-        &["solve", "file", "cert", "--turns=9"],
-        &["Solve", "file", "cert"],
-        &["check", "file", "cert"],
-    ];
-    for words in cases {
-        let mut shelf = shelf_with(alloc, STREET.as_bytes(), 64, &[], &[])?;
-        let mut out = MemSink::new(alloc, REPORT_ROOM, 64, Vec::new(alloc))?;
-        assert_eq!(rt;
-            run_words(alloc, words, &mut shelf, &mut out)?,
-            Status::BadUsage
-        );
-        assert_eq!(rt; out.written(), USAGE.as_bytes());
-        assert!(rt; shelf.held("cert").is_none());
-    }
+    let mut shelf = shelf_with(alloc, STREET.as_bytes(), 64, &[1], &[1])?;
+    let mut out = MemSink::new(alloc, REPORT_ROOM, 16, Vec::new(alloc))?;
+    let status = run_words(alloc, &["solve", "file"], &mut shelf, &mut out)?;
+    assert_eq!(rt; status, Status::BadUsage);
+    assert!(rt; shelf.look("file", 0, &mut [0; 4]).is_err());
+    assert!(rt; shelf.keep("cert", b"").is_err());
     Ok(())
 }
 

@@ -1,7 +1,7 @@
 //! The `.dat` text of an instance, the layout in which the data sets for arc routing are kept, both ways.
 //!
 //! [`read_dat`] reads any text of the grammar, or names the first fault of a text with its line: a [`DatFault`].
-//! [`write_dat`] gives one text of an instance, which [`read_dat`] reads as this instance. The module [`laws`] states what
+//! [`write_dat`] gives one text of an instance, which [`read_dat`] reads as this instance. [`readings_are_unique`] and [`written_is_read`] say what
 //! holds of all texts. What a text says is defined by whole lines, in `specs/Lines.antt` and
 //! `specs/Text.antt`, and the text that is written in `specs/DatText.antt`.
 #![tactic(auto)]
@@ -14,7 +14,7 @@ mod fault_tests;
 mod key;
 mod key_line;
 mod kind;
-pub mod laws;
+mod laws;
 mod line_texts;
 mod number;
 mod parts;
@@ -27,5 +27,6 @@ mod writing_tests;
 
 pub use fault::DatFault;
 pub use key::Key;
+pub use laws::{readings_are_unique, written_is_read};
 pub use reading::read_dat;
 pub use write::write_dat;

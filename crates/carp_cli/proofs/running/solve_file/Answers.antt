@@ -4,8 +4,8 @@ use Rattle.carp_cli.proofs.Cuts.{solved_in_part, cut_from}
 use Rattle.carp_cli.proofs.running.solve_file.Goals as goal
 
 pub returns-in-Ok-clause-cut : goal.returns-in-Ok-clause-cut
-returns-in-Ok-clause-cut g c = λ held told is. inl (solved_in_part _ _ _ _ _ _ _ _ _ c.in-Ok.inst (c.in-Ok.ensures.read held)
-    (cut_from _ _ _ _ _ _ _ _ _ _ _ _ (c.read_instance.ensures.contents held) c.read_instance.ensures.keeps (c.solve_instance.ensures.cut held told is)))
+returns-in-Ok-clause-cut g c = λ held told is. inl (solved_in_part _ _ _ c.in-Ok.inst (c.in-Ok.ensures.read held)
+    (cut_from _ _ _ _ _ (c.read_instance.ensures.contents held) c.read_instance.ensures.keeps refl refl (c.solve_instance.ensures.cut held told is)))
 
 pub returns-in-Err-NotRead-clause-cut : goal.returns-in-Err-NotRead-clause-cut
 returns-in-Err-NotRead-clause-cut g c = λ held told is. inr record {

@@ -1,6 +1,0 @@
-use Rattle.carp_cli.proofs.Singles.{AreSingles}
-use Rattle.carp_cli.proofs.single_tours.single_tours.Given as goal
-
--- the tours of the edges so far
-abbrev pub invariant-loop-e : goal.invariant-loop-e
-invariant-loop-e l = AreSingles l.inst l.e l.plan
