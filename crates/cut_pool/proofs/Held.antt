@@ -1,5 +1,5 @@
 -- What a set of keys says of a pool.
-use Rattle.std.proofs.Common.{◌≡◌, ℕ, zero, suc, ◌+◌, ◌<◌, ◌≤◌, Bool, true, false, List, [], ◌∷◌, ◌++◌, Option, Some, None, length, get_or, nat_eq, sym, ap, ◌∙◌, subst, arith, add-one, inl, inr, refl}
+use Rattle.std.proofs.Common.{◌≡◌, ℕ, zero, suc, ◌+◌, ◌<◌, true, false, List, [], ◌∷◌, ◌++◌, Some, length, get_or, nat_eq, sym, ap, ◌∙◌, arith, add-one, inl, inr, refl}
 use Rattle.std.specs.Prelude.{if◌then◌else◌}
 use Rattle.std.specs.List.{list_any, position, IsDistinct}
 use Rattle.std.specs.Cmp.Lexicographic.{pointwise, same_text, other_text}
@@ -8,7 +8,7 @@ use Rattle.std.proofs.lemmas.List.{get_or_default}
 use Rattle.std.proofs.lemmas.List.Quantifiers.{position-Some}
 use Rattle.std.proofs.lemmas.List.Folds.{list_any_at, Any-from_list_any}
 use Rattle.std.proofs.lemmas.Map.Keys.{apart_from_distinct}
-use Rattle.cut_pool.specs.Pools.{AreDifferent, Holds, IsHeldAs, IsShoreNumber, shore_at}
+use Rattle.cut_pool.specs.Pools.{AreDifferent, Holds, IsHeldAs}
 
 pointwise_refl : (xs : List ℕ) → pointwise nat_eq xs xs ≡ true
 pointwise_refl xs = elim (cases_Bool (pointwise nat_eq xs xs)) [

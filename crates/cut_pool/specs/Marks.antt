@@ -7,6 +7,6 @@ abbrev pub AreMarks : List ℕ → List Bool → Type 0
 AreMarks vertices marks = (v : ℕ) → slice_index_or marks v false ≡ is_in vertices v
 
 -- a rising list of vertices, with its marks
-pub record IsMarked (vertices : List ℕ) (marks : List Bool) : Type 0 where
+pub record KeepsShore (vertices : List ℕ) (marks : List Bool) : Type 0 where
   pub is_shore : IsShore vertices
   pub are_marks : AreMarks vertices marks

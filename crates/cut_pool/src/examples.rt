@@ -3,7 +3,7 @@ ghost use Rattle.std.specs.Prelude.{◌≡◌, [], ◌∷◌, true, false};
 ghost use Rattle.carp_base.specs.declared.fail.Fail.TheVariants.{Memory};
 ghost use Rattle.cut_pool.specs.Shores.{Belongs, IsShore, is_in, need, required_crossings, touched, touches};
 ghost use Rattle.cut_pool.specs.Pools.{IsHeldAs, IsShoreNumber, RefusesShore, shore_at};
-ghost use Rattle.cut_pool.specs.Examples.{in_a_row, side_by_side, street, two_loads};
+ghost use Rattle.cut_pool.specs.Examples.{in_a_row, loaded_street, side_by_side, two_loads};
 
 fn a_shore()
     ensures rising { IsShore (2 ∷ 3 ∷ []) }
@@ -27,7 +27,7 @@ fn required_edges_at_a_border()
     ensures required_alone { required_crossings (side_by_side 2) (is_in (2 ∷ [])) ≡ 2 }
     ensures both_ends_once { touched (in_a_row 2) (is_in (2 ∷ 3 ∷ [])) ≡ 3 }
     ensures one_end_touches { touched (in_a_row 2) (is_in (3 ∷ [])) ≡ 1 }
-    ensures touches_none { touches (is_in (3 ∷ [])) (street 1 2 1) ≡ false }
+    ensures touches_none { touches (is_in (3 ∷ [])) (loaded_street 1 2 1) ≡ false }
 {}
 
 fn what_a_set_needs()

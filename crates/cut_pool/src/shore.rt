@@ -34,13 +34,13 @@ pub struct Weighted {
 
 impl Model for Shore {
     ghost use Rattle.std.specs.Prelude.{List, ℕ};
-    ghost use Rattle.cut_pool.specs.Marks.{IsMarked};
+    ghost use Rattle.cut_pool.specs.Marks.{KeepsShore};
 
     ghost Value = { List ℕ };
 
     ghost view = { λ s. s.vertices.items };
 
-    ghost invariant = { λ s. IsMarked s.vertices.items s.marks.items };
+    ghost invariant = { λ s. KeepsShore s.vertices.items s.marks.items };
 }
 
 impl PartialEq for Shore {

@@ -188,7 +188,6 @@ fn a_helper_offers_in_turn(rt: HostRuntime) -> Result<(), Fail> {
     let mut helper = TurnHelper::new(7);
     assert_eq!(rt; helper.id(), 7);
     expect_turns(&rt, alloc, &inst, &best, &mut helper)?;
-    expect_turns(&rt, alloc, &inst, &best, &mut helper)?;
 
     let mut helpers: Vec<Box<dyn Proposer>> = Vec::new(alloc);
     helpers.push(Box::new(alloc, TurnHelper::new(8))?)?;

@@ -1,5 +1,4 @@
 use Rattle.std.proofs.Common.{◌∙◌}
-use Rattle.cut_pool.specs.Pools.{Holds}
 use Rattle.cut_pool.proofs.Held.{placed_last}
 use Rattle.cut_pool.proofs.pool.ShorePool.place.Goals as goal
 
