@@ -2,7 +2,7 @@
 ghost use Rattle.std.specs.Prelude.{◌≡◌, IfOk};
 ghost use Rattle.deadhead_paths.specs.Prices.{costs_of};
 
-use crate::{Distances, cost_prices, distances, tidy};
+use crate::{Distances, cost_prices, distances, single_tours, tidy};
 use carp_base::{Instance, Memory, RawEdge};
 use plan_model::{JudgeRoom, Plan, Step, Verdict, Walk, judge};
 use road_network::Network;
@@ -31,26 +31,27 @@ fn cost_table(alloc: Global, inst: &Instance) -> Result<Distances, Memory>
     distances(alloc, inst, &net, &prices)
 }
 
+// The cost of crossing an edge from a vertex without service, and where the step ends; `None` if it serves, or starts elsewhere.
+fn crossed(inst: &Instance, step: Step, at: u32) -> Option<(u64, u32)> {
+    if step.served || step.edge == 0 || step.edge > inst.edge_count() {
+        return None;
+    }
+    let edge = inst.edge(step.edge);
+    match step.forward {
+        true if edge.u == at => Some((edge.cost, edge.v)),
+        false if edge.v == at => Some((edge.cost, edge.u)),
+        _ => None,
+    }
+}
+
 // The cost of a walk of unserved steps from a vertex and its end; `None` if it serves, or does not chain.
 fn along(inst: &Instance, walk: &Walk, from: u32) -> Option<(u128, u32)> {
     let mut at = from;
     let mut sum: u128 = 0;
     for i in 0..walk.len() {
-        let step = walk.step(i);
-        if step.served || step.edge == 0 || step.edge > inst.edge_count() {
-            return None;
-        }
-        let edge = inst.edge(step.edge);
-        let (tail, head) = if step.forward {
-            (edge.u, edge.v)
-        } else {
-            (edge.v, edge.u)
-        };
-        if tail != at {
-            return None;
-        }
+        let (cost, head) = crossed(inst, walk.step(i), at)?;
         at = head;
-        sum = sum.saturating_add(u128::from(edge.cost));
+        sum = sum.saturating_add(u128::from(cost));
     }
     Some((sum, at))
 }
@@ -80,64 +81,61 @@ fn expect_cost(
     Ok(())
 }
 
-// Each row: the number of vertices, the edges, and the least costs from some vertices to others.
+// The least costs of an instance with these edges, from some vertices to others.
+fn expect_costs(
+    rt: &impl Abort,
+    alloc: Global,
+    vertices: u64,
+    edges: &[RawEdge],
+    wants: &[(u32, u32, Option<u128>)],
+) -> Result<(), Fail> {
+    assert!(rt; edges.len() < 10);
+    let Ok(inst) = Instance::build(alloc, vertices, 1, 1, &[], edges) else {
+        panic!(rt; "it is valid");
+    };
+    let dist = cost_table(alloc, &inst)?;
+    for &(from, to, want) in wants {
+        expect_cost(rt, alloc, &inst, &dist, (from, to), want)?;
+    }
+    Ok(())
+}
+
 #[test]
 fn tells_least_costs(rt: HostRuntime) -> Result<(), Fail> {
-    let triangle = [street(1, 2, 5), street(2, 3, 7), street(1, 3, 4)];
-    let apart = [street(1, 2, 1), street(3, 4, 1)];
-    let parallel = [street(1, 2, 9), street(1, 2, 3), street(2, 1, 5)];
-    let detour = [street(1, 2, 10), street(3, 1, 3), street(2, 3, 4)];
-    let free = [
+    let edges = [street(1, 2, 10), street(3, 1, 3), street(2, 3, 4)];
+    let wants = [
+        (1, 2, Some(7)),
+        (2, 1, Some(7)),
+        (3, 2, Some(4)),
+        (1, 1, Some(0)),
+    ];
+    expect_costs(&rt, rt.alloc(), 3, &edges, &wants)
+}
+
+#[test]
+fn takes_the_cheapest_of_parallel_edges(rt: HostRuntime) -> Result<(), Fail> {
+    let edges = [street(1, 2, 9), street(1, 2, 3), street(2, 1, 5)];
+    let wants = [(1, 2, Some(3)), (2, 1, Some(3))];
+    expect_costs(&rt, rt.alloc(), 2, &edges, &wants)
+}
+
+#[test]
+fn tells_where_no_steps_lead(rt: HostRuntime) -> Result<(), Fail> {
+    let edges = [street(1, 2, 1), street(3, 4, 1)];
+    let wants = [(1, 3, None), (4, 3, Some(1)), (4, 2, None)];
+    expect_costs(&rt, rt.alloc(), 4, &edges, &wants)
+}
+
+#[test]
+fn goes_over_free_edges(rt: HostRuntime) -> Result<(), Fail> {
+    let edges = [
         street(1, 2, 0),
         street(2, 3, 0),
         street(3, 1, 0),
         street(3, 4, 2),
     ];
-    let rows: [(u64, &[RawEdge], &[(u32, u32, Option<u128>)]); 6] = [
-        (
-            3,
-            &triangle,
-            &[
-                (2, 3, Some(7)),
-                (3, 2, Some(7)),
-                (1, 1, Some(0)),
-                (2, 1, Some(5)),
-            ],
-        ),
-        (
-            4,
-            &apart,
-            &[(1, 3, None), (4, 3, Some(1)), (4, 2, None), (2, 1, Some(1))],
-        ),
-        (2, &parallel, &[(1, 2, Some(3)), (2, 1, Some(3))]),
-        (
-            3,
-            &detour,
-            &[(1, 2, Some(7)), (2, 1, Some(7)), (3, 2, Some(4))],
-        ),
-        (
-            4,
-            &free,
-            &[
-                (1, 3, Some(0)),
-                (2, 1, Some(0)),
-                (1, 4, Some(2)),
-                (4, 2, Some(2)),
-            ],
-        ),
-        (1, &[], &[(1, 1, Some(0))]),
-    ];
-    for (vertices, edges, wants) in rows {
-        assert!(rt; edges.len() < 10);
-        let Ok(inst) = Instance::build(rt.alloc(), vertices, 1, 1, &[], edges) else {
-            panic!(rt; "it is valid");
-        };
-        let dist = cost_table(rt.alloc(), &inst)?;
-        for (from, to, want) in wants {
-            expect_cost(&rt, rt.alloc(), &inst, &dist, (*from, *to), *want)?;
-        }
-    }
-    Ok(())
+    let wants = [(1, 3, Some(0)), (2, 1, Some(0)), (4, 2, Some(2))];
+    expect_costs(&rt, rt.alloc(), 4, &edges, &wants)
 }
 
 // The next word of a generator of Knuth's.
@@ -271,39 +269,71 @@ fn text_of(alloc: Global, plan: &Plan) -> Result<Vec<u8>, AllocError> {
     Ok(text)
 }
 
-// Each row: a plan, the tidied plan, and the costs of the two.
-#[test]
-fn tidies_plans(rt: HostRuntime) -> Result<(), Fail> {
+// Three edges to serve, round a triangle, and a dead end.
+fn triangle(rt: &impl Abort, alloc: Global) -> Instance {
     let required = [street(1, 2, 5), street(2, 3, 7), street(1, 3, 4)];
     let others = [street(3, 4, 1)];
-    let Ok(inst) = Instance::build(rt.alloc(), 4, 1, 3, &required, &others) else {
+    let Ok(inst) = Instance::build(alloc, 4, 1, 3, &required, &others) else {
         panic!(rt; "it is valid");
     };
-    let dist = cost_table(rt.alloc(), &inst)?;
-    let rows = [
-        (";>1<1;+1>2<2+2>4<4-3;", "+1+2-3;", 42, 16),
-        (">1+2<2<1;+1<1;>3-3;", ">1+2<3;+1<1;>3-3;", 42, 34),
-        ("+3-2-1;", "+3-2-1;", 16, 16),
-        (">1>2-3;+1+2<3;", ">3-3;+1+2<3;", 32, 24),
-    ];
-    for (before, after, cost, least) in rows {
-        let mut room = JudgeRoom::new(rt.alloc(), &inst)?;
-        let plan = plan_of(rt.alloc(), before)?;
-        let Verdict::Lawful { cost: found } = judge(&inst, &plan, &mut room) else {
-            panic!(rt; "it is lawful");
-        };
-        assert_eq!(rt; found, cost, "of {before}");
-        let tidied = tidy(rt.alloc(), &inst, &dist, &plan)?;
-        assert_eq!(rt;
-            text_of(rt.alloc(), &tidied)?.as_slice(),
-            after.as_bytes(),
-            "of {before}"
-        );
-        assert_eq!(rt;
-            judge(&inst, &tidied, &mut room),
-            Verdict::Lawful { cost: least },
-            "of {before}"
-        );
-    }
+    inst
+}
+
+// A plan is lawful, and costs this much.
+fn expect_lawful(
+    rt: &impl Abort,
+    alloc: Global,
+    inst: &Instance,
+    plan: &Plan,
+    cost: u128,
+) -> Result<(), Fail> {
+    let mut room = JudgeRoom::new(alloc, inst)?;
+    assert_eq!(rt; judge(inst, plan, &mut room), Verdict::Lawful { cost });
     Ok(())
+}
+
+// A plan that costs this much is tidied to another, which costs the least.
+fn expect_tidied(
+    rt: &impl Abort,
+    alloc: Global,
+    before: (&str, u128),
+    after: (&str, u128),
+) -> Result<(), Fail> {
+    let inst = triangle(rt, alloc);
+    let dist = cost_table(alloc, &inst)?;
+    let plan = plan_of(alloc, before.0)?;
+    let mut room = JudgeRoom::new(alloc, &inst)?;
+    let Verdict::Lawful { cost } = judge(&inst, &plan, &mut room) else {
+        panic!(rt; "it is lawful");
+    };
+    assert_eq!(rt; cost, before.1);
+    let tidied = tidy(alloc, &inst, &dist, &plan)?;
+    assert_eq!(rt; text_of(alloc, &tidied)?.as_slice(), after.0.as_bytes());
+    expect_lawful(rt, alloc, &inst, &tidied, after.1)
+}
+
+#[test]
+fn tidies_plans(rt: HostRuntime) -> Result<(), Fail> {
+    let alloc = rt.alloc();
+    expect_tidied(&rt, alloc, (";>1<1;+1>2<2+2>4<4-3;", 42), ("+1+2-3;", 16))?;
+    expect_tidied(
+        &rt,
+        alloc,
+        (">1+2<2<1;+1<1;>3-3;", 42),
+        (">1+2<3;+1<1;>3-3;", 34),
+    )?;
+    expect_tidied(&rt, alloc, (">1>2-3;+1+2<3;", 32), (">3-3;+1+2<3;", 24))
+}
+
+#[test]
+fn serves_each_edge_in_a_tour(rt: HostRuntime) -> Result<(), Fail> {
+    let alloc = rt.alloc();
+    let inst = triangle(&rt, alloc);
+    let dist = cost_table(alloc, &inst)?;
+    let plan = single_tours(alloc, &inst, &dist)?;
+    assert_eq!(rt;
+        text_of(alloc, &plan)?.as_slice(),
+        b"+1<1;>1+2<3;+3<3;".as_slice()
+    );
+    expect_lawful(&rt, alloc, &inst, &plan, 34)
 }
