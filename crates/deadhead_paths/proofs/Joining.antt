@@ -1,5 +1,5 @@
 -- Services of a walk that are joined by least paths, one step of the walk further.
-use Rattle.std.proofs.Common.{◌≡◌, ℕ, zero, suc, ◌+◌, ◌-◌, ◌*◌, ◌<◌, ◌≤◌, Bool, true, false, cond, List, [], ◌∷◌, ◌++◌, length, get_or, take, drop, refl, sym, ap, ◌∙◌, arith, subst}
+use Rattle.std.proofs.Common.{◌≡◌, ℕ, zero, suc, ◌+◌, ◌*◌, ◌<◌, ◌≤◌, Bool, true, false, cond, List, [], ◌∷◌, ◌++◌, length, get_or, take, drop, refl, sym, ap, ◌∙◌, arith, subst}
 use Rattle.std.specs.Prelude.{if◌then◌else◌}
 use Rattle.std.specs.List.{sum_by}
 use Rattle.std.proofs.lemmas.List.{append-nil, length-append, length-map, length_push, get_or-map, append_assoc, drop_more, take_more}
@@ -9,9 +9,9 @@ use Rattle.carp_base.specs.declared.edge.Edge.{Edge}
 use Rattle.carp_base.specs.Problem.{Problem, IsValid, IsVertex, IsEdgeNumber, no_edge, edge_at, tail_of, head_of}
 use Rattle.plan_model.specs.Plans.{Leads, IsWalk, no_step, step_cost, walk_cost}
 use Rattle.plan_model.specs.declared.step.Step.{Step}
-use Rattle.deadhead_paths.specs.Prices.{Priced, price_of, costs_of, ArePrices, NoneServed, IsLeastPrice, IsLeastPath, AddsPath, NoneLead}
+use Rattle.deadhead_paths.specs.Prices.{Priced, price_of, costs_of, ArePrices, NoneServed, IsLeastPrice, IsLeastPath, NoneLead}
 use Rattle.deadhead_paths.specs.Tidy.{served_steps, GoByLeastPaths}
-use Rattle.deadhead_paths.specs.Join.{IsJoined, AddsService}
+use Rattle.deadhead_paths.specs.Join.{AddsPath, IsJoined, AddsService}
 use Rattle.deadhead_paths.proofs.Following.{Leads-more}
 
 -- lists of steps that are joined, or split
@@ -25,14 +25,10 @@ Leads-split p a (s ∷ xs) ys b leads =
     let rest = Leads-split p (head_of (edge_at p s.edge) s.forward) xs ys b leads.2 in
     (rest.0, (leads.0, leads.1, rest.1), rest.2)
 
--- the edge of a number stands at the place before it
-edge_place : (p : Problem) (k : ℕ) → get_or p.edges k no_edge ≡ edge_at p (suc k)
-edge_place p k = let back : suc k - 1 ≡ k = omega arith in cc
-
 -- what unserved steps cost
 pub cost_price : (p : Problem) (e : ℕ) → IsEdgeNumber p e → price_of (costs_of p) e ≡ (edge_at p e).cost
 cost_price p zero number = absurd (omega (arith, number.from_one))
-cost_price p (suc k) number = get_or-map (λ (x : Edge). x.cost) p.edges k no_edge 0 (omega (arith, number.in_range)) ∙ ap (λ (x : Edge). x.cost) (edge_place p k)
+cost_price p (suc k) number = get_or-map (λ (x : Edge). x.cost) p.edges k no_edge 0 (omega (arith, number.in_range))
 
 pub costs_fit : (p : Problem) → IsValid p → ArePrices p (costs_of p)
 costs_fit p valid = record {

@@ -1,7 +1,8 @@
 // A table of the least prices between all pairs of vertices.
 ghost use Rattle.std.specs.Prelude.{◌≡◌, ◌+◌, ◌-◌, ◌*◌, ◌^◌, ◌<◌, ◌≤◌, length, IfOk, IfSome, OnOk, MatchOption};
 ghost use Rattle.carp_base.specs.Problem.{IsVertex};
-ghost use Rattle.deadhead_paths.specs.Prices.{IsLeastPrice, IsLeastPath, AddsPath, NoneLead, edge_price};
+ghost use Rattle.deadhead_paths.specs.Prices.{IsLeastPrice, IsLeastPath, NoneLead, edge_price};
+ghost use Rattle.deadhead_paths.specs.Join.{AddsPath};
 
 use crate::search::{PRICE_UNIT, UNREACHED};
 use carp_base::{Instance, Memory};
