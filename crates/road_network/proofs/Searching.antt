@@ -195,3 +195,12 @@ pub all_closed : (p : Problem) (reached : List Bool) (found : List ℕ) (next : 
 all_closed p reached found next so_far all closed v marked =
     let at = so_far.listed v marked in
     subst (ReachesAll p reached) (get_or_default found at.0 0 v at.1 ∙ at.2) (closed at.0 (omega (arith, at.1)))
+
+-- the vertices before the next place, after one more vertex
+pub closed_more : (p : Problem) (reached : List Bool) (found : List ℕ) (reached' : List Bool) (found' : List ℕ) (next v : ℕ) → Grows reached found reached' found' →
+    next < length found → v ≡ get_or found next 0 → ReachesAll p reached' v → ((k : ℕ) → k < next → ReachesAll p reached (get_or found k 0)) →
+    (k : ℕ) → k < next + 1 → ReachesAll p reached' (get_or found' k 0)
+closed_more p reached found reached' found' next v grows in_range v_is all closed k below = elim (cases_eq k next) [
+  | inl same ↦ rw (same, grows.places next in_range, sym v_is) all
+  | inr other ↦ rw (grows.places k (omega arith)) (λ e forward number tail. grows.marks (head_of (edge_at p e) forward) (closed k (omega arith) e forward number tail))
+]

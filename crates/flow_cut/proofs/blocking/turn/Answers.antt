@@ -1,4 +1,4 @@
-use Rattle.std.proofs.Common.{◌≤◌, slice_index, sum, arith}
+use Rattle.std.proofs.Common.{slice_index, sum, arith}
 use Rattle.flow_cut.proofs.Trying.{some_fewer, spent_now}
 use Rattle.flow_cut.proofs.blocking.turn.Goals as goal
 
