@@ -30,6 +30,7 @@ fn no_flow()
 fn no_side()
     ensures without_the_source { IsSide (false ∷ true ∷ false ∷ []) 1 3 → ⊥ }
     ensures with_the_target { IsSide (true ∷ true ∷ true ∷ []) 1 3 → ⊥ }
+    ensures from_no_node { IsSide first_two 0 3 → ⊥ }
 {}
 
 fn not_best()
