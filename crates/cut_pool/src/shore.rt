@@ -68,9 +68,9 @@ impl Hash for Shore {
 }
 
 impl Shore {
-    /// The set of these vertices.
+    /// The set of the vertices of a list that is not empty and rises strictly.
     ///
-    /// It takes memory and time in proportion to the greatest vertex.
+    /// It takes memory and time in proportion to the greatest vertex; `Memory` says only that memory was not to be had.
     pub fn from_list(alloc: Global, list: &[u32]) -> Result<Shore, Memory>
         requires { IsShore list.now }
         ensures { IfOk result (λ shore. shore ≡ list.now) }
