@@ -29,7 +29,7 @@ fn no_layers(alloc: Global, nodes: u32) -> Result<Layers, Memory>
     })
 }
 
-/// Sends over shortest ways, and then over longer ones, until none leads to the target. Answers what was sent.
+/// Sends over shortest ways, and then over longer ones, until none leads to the target. Answers how much was sent.
 fn send_all(
     arcs: &[Arc],
     flows: &mut [u64],
@@ -60,7 +60,7 @@ fn send_all(
     Ok(value)
 }
 
-/// The same, with the memory that it takes.
+/// Sends as much as can be sent, in memory of its own. Answers how much that is.
 fn send_greatest(
     alloc: Global,
     arcs: &[Arc],
