@@ -22,6 +22,10 @@ use std::alloc::Global;
 
 /// Runs the command that the words name: `solve FILE CERT` reads the instance of FILE, keeps a certificate at CERT and
 /// writes a report. All other words are bad usage. The helpers are left as they are.
+///
+/// What the clauses say of the contents of names and of what was written holds where the shelf and the sink tell it, as
+/// [`carp_outside::MemShelf`] and [`carp_outside::MemSink`] do. Over [`crate::DirShelf`] and [`crate::StdSink`] only `usage`,
+/// `usage_only`, `read`, `write`, `too_long` and `helpers` say something.
 pub fn run<H: Shelf, O: Sink>(
     alloc: Global,
     words: &[String],

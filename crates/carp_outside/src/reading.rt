@@ -22,7 +22,10 @@ pub enum ReadFault {
 const PIECE: usize = 65_536;
 
 /// Reads all bytes of a name, where these are at most `limit`. It looks for pieces of 64 KiB at most until a look finds
-/// the end, and answers `Fault` at the first look that fails. Whatever it answers, the shelf holds what it held.
+/// the end, and answers `Fault` at the first look that fails. Whatever it answers, no count of the shelf falls.
+///
+/// Where the shelf tells its contents, these are all bytes of the name, `TooLong` comes exactly where there are more than
+/// `limit` and no look failed, and the shelf holds what it held.
 pub fn read_whole<H: Shelf>(
     alloc: Global,
     shelf: &mut H,
@@ -76,7 +79,8 @@ fn zeros(alloc: Global, count: usize) -> Result<Vec<u8>, Memory>
     Ok(vec![in alloc; 0u8; count]?)
 }
 
-/// Writes all bytes, or answers the first failure of the sink; a front of the bytes was written then.
+/// Writes all bytes, or answers the first failure of the sink. Where the sink tells what was written, that is all bytes, or
+/// after a failure a front of them.
 pub fn put_all<O: Sink>(out: &mut O, bytes: &[u8]) -> Result<(), SinkFault>
     ensures written { IsTrue O.tells → OnOk result (O.written out.new ≡ O.written out.old ++ bytes.now) }
     ensures front { IsTrue O.tells → OnErr result (WroteFront bytes.now (O.written out.old) (O.written out.new)) }
