@@ -7,9 +7,9 @@ use Rattle.deadhead_paths.specs.Table.{unreached}
 use Rattle.route_pricing.specs.declared.grid.Grid.{Grid}
 use Rattle.route_pricing.specs.declared.table.Rate.{Rate}
 use Rattle.route_pricing.specs.declared.through.Pair.{Pair}
-use Rattle.route_pricing.specs.Partial.{IsGrid, start_of, end_of, demand_of, adds_of, between, IsFirst, Reaches, IsCell}
+use Rattle.route_pricing.specs.Partial.{IsGrid, task_start, task_end, demand_of, adds_of, between, IsFirst, Reaches, IsCell}
 use Rattle.route_pricing.specs.Values.{Pricing, IsPriced, IsServed, load_of, weighed, IsLeastThrough, AttainsThrough}
-use Rattle.route_pricing.specs.Ends.{IsGridOf, rate}
+use Rattle.route_pricing.specs.Ends.{IsGridOf, lift}
 use Rattle.route_pricing.specs.Retracing.{turned}
 use Rattle.route_pricing.specs.Through.{weight_of, overweight_of, IsPair, IsPairWeight, IsOfCells, IsLeastPair, IsPairTour, IsPricedThrough}
 use Rattle.route_pricing.proofs.Partials.{load_one}
@@ -27,21 +27,21 @@ halves b c q d adds k v j w load home k_in j_in d_in loads homes =
     omega (arith, ap (λ n. c * n) left, ap (λ n. b * n) homes)
 
 -- the weight of a tour by its number in the table
-weighed_is : (b c load home : ℕ) (value a : ℤ) → pos home ≡ value +ℤ pos (rate * load) → pos c ≡ a +ℤ pos (rate * b) →
+weighed_is : (b c load home : ℕ) (value a : ℤ) → pos home ≡ value +ℤ pos (lift * load) → pos c ≡ a +ℤ pos (lift * b) →
     (value *ℤ pos b) -ℤ (a *ℤ pos load) ≡ pos (home * b) -ℤ pos (c * load)
 weighed_is b c load home value a home_is c_is =
-    let v_is : pos home -ℤ pos (rate * load) ≡ value = omega (arith, ints, home_is) in
-    let a_is : pos c -ℤ pos (rate * b) ≡ a = omega (arith, ints, c_is) in
+    let v_is : pos home -ℤ pos (lift * load) ≡ value = omega (arith, ints, home_is) in
+    let a_is : pos c -ℤ pos (lift * b) ≡ a = omega (arith, ints, c_is) in
     subst (λ v. (v *ℤ pos b) -ℤ (a *ℤ pos load) ≡ pos (home * b) -ℤ pos (c * load)) v_is
-    (subst (λ z. ((pos home -ℤ pos (rate * load)) *ℤ pos b) -ℤ (z *ℤ pos load) ≡ pos (home * b) -ℤ pos (c * load)) a_is
-    (omega (arith, ints, sub_times home (rate * load) b, sub_times c (rate * b) load)))
+    (subst (λ z. ((pos home -ℤ pos (lift * load)) *ℤ pos b) -ℤ (z *ℤ pos load) ≡ pos (home * b) -ℤ pos (c * load)) a_is
+    (omega (arith, ints, sub_times home (lift * load) b, sub_times c (lift * b) load)))
 
 -- there is a tour through the task
 module _ (g : Grid) (grid : IsGrid g) (t : Task) (t_in : IsRequired g.inst t.edge) (b c : ℕ) (few : b ≤ 30000) (c_small : c ≤ 2 ^ 100) (p : Pair) (least : IsLeastPair g b c t p) where
   pub demand_in : demand_of g t ≤ g.inst.capacity
   demand_in = (grid.valid.tasks t.edge t_in).demand_fits
 
-  alone : (s : Task) → IsRequired g.inst s.edge → Reaches g s (demand_of g s) (between g g.inst.depot (start_of g s) + adds_of g s)
+  alone : (s : Task) → IsRequired g.inst s.edge → Reaches g s (demand_of g s) (between g g.inst.depot (task_start g s) + adds_of g s)
   alone s s_in = record { before = []; partial = record { required = s_in; load_is = refl; value_is = refl } }
 
   pub pair_reached : p.weight < unreached
@@ -56,7 +56,7 @@ module _ (g : Grid) (grid : IsGrid g) (t : Task) (t_in : IsRequired g.inst t.edg
   pub cells_of : IsOfCells g b c t p
   cells_of = least.attained pair_reached
 
-module _ (x : Pricing) (g : Grid) (of : IsGridOf x g) (t : Task) (t_in : IsRequired g.inst t.edge) (r : Rate) (c : ℕ) (few : r.load ≤ 30000) (c_small : c ≤ 2 ^ 100) (c_is : pos c ≡ r.value +ℤ pos (rate * r.load))
+module _ (x : Pricing) (g : Grid) (of : IsGridOf x g) (t : Task) (t_in : IsRequired g.inst t.edge) (r : Rate) (c : ℕ) (few : r.load ≤ 30000) (c_small : c ≤ 2 ^ 100) (c_is : pos c ≡ r.value +ℤ pos (lift * r.load))
     (p : Pair) (least : IsLeastPair g r.load c t p) where
   abbrev pub over : ℕ
   over = r.load * adds_of g t + c * (g.inst.capacity - demand_of g t + g.inst.capacity)
@@ -72,7 +72,7 @@ module _ (x : Pricing) (g : Grid) (of : IsGridOf x g) (t : Task) (t_in : IsRequi
   above other n v priced served =
       let it = comes_home x g of other n v priced in
       let load_is : it.0 ≡ load_of x other = it.3 ∙ sym (load_same x g of other) in
-      let home_is : pos it.1 ≡ v +ℤ pos (rate * load_of x other) = omega (arith, ints, it.5, load_is) in
+      let home_is : pos it.1 ≡ v +ℤ pos (lift * load_of x other) = omega (arith, ints, it.5, load_is) in
       let pair = serving_pair x g of t (load_of x other) it.1 (record { tasks = other; deadhead = n; value = v; priced = priced; served = served; loaded = refl; home_is = home_is }) in
       let fits : pair.k + pair.j ≤ g.inst.capacity + demand_of g t = omega (arith, pair.load_is, it.4, load_is) in
       let one = load_one g of.grid t pair.v pair.k pair.reaches.before pair.reaches.partial in
@@ -82,7 +82,7 @@ module _ (x : Pricing) (g : Grid) (of : IsGridOf x g) (t : Task) (t_in : IsRequi
       omega (arith, ints, most, sum, weighed_is r.load c (load_of x other) it.1 v r.value home_is c_is)
 
   -- the weight of the tour of the pair
-  same : (load home k v j w : ℕ) (value : ℤ) (m : ℕ) → load ≡ m → p.first ≡ k → p.back ≡ j → k + j ≡ load + demand_of g t → v + w ≡ home + adds_of g t → pos home ≡ value +ℤ pos (rate * load) →
+  same : (load home k v j w : ℕ) (value : ℤ) (m : ℕ) → load ≡ m → p.first ≡ k → p.back ≡ j → k + j ≡ load + demand_of g t → v + w ≡ home + adds_of g t → pos home ≡ value +ℤ pos (lift * load) →
       p.weight ≡ weight_of g r.load c k v + weight_of g r.load c j w → pos p.weight -ℤ pos over ≡ weighed r value m
   same load home k v j w value m m_is k_is j_is loads homes home_is weight =
       let sum = halves r.load c g.inst.capacity (demand_of g t) (adds_of g t) k v j w load home (omega (arith, cells.first_in, k_is)) (omega (arith, cells.back_in, j_is)) fits_alone loads homes in

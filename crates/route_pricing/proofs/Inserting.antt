@@ -3,7 +3,7 @@ use Rattle.std.proofs.Common.{◌≡◌, ◌≢◌, ℕ, ◌+◌, ◌<◌, ◌�
 use Rattle.std.proofs.lemmas.Bool.{cases_eq, cases_lt}
 use Rattle.deadhead_paths.specs.Table.{unreached}
 use Rattle.route_pricing.specs.declared.labels.Labels.{Labels}
-use Rattle.route_pricing.specs.Labels.{AreTwo, IsBounded, IsFrom, IsInserted, IsFromEither, IsJoined, Passes}
+use Rattle.route_pricing.specs.Labels.{AreTwo, IsBounded, IsFrom, IsInserted, IsFromEither, AreLabelsJoined, Passes}
 
 module _ (x : Labels) (value edge : ℕ) (two : AreTwo x) where
   pub kept_above : x.second ≤ value → IsInserted x value edge x
@@ -98,7 +98,7 @@ module _ (x old mid new : Labels) (n first second : ℕ) (own : AreTwo x) (first
         ];
       }
 
-  pub joined_are : IsJoined x n old new
+  pub joined_are : AreLabelsJoined x n old new
   joined_are = record {
     two = other.two;
     first_falls = omega (arith, one.first_falls, other.first_falls);

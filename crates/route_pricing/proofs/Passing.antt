@@ -9,8 +9,8 @@ use Rattle.carp_base.specs.Problem.{Problem, IsValid, IsVertex, IsReached, IsReq
 use Rattle.deadhead_paths.specs.Table.{unreached}
 use Rattle.route_pricing.specs.declared.grid.Grid.{Grid}
 use Rattle.route_pricing.specs.declared.labels.Labels.{Labels}
-use Rattle.route_pricing.specs.Partial.{IsGrid, width, task_of, start_of, end_of, between, crossed, may_follow, Reaches, IsCell, IsJoin, IsLeastJoin}
-use Rattle.route_pricing.specs.Labels.{no_labels, labels_at, AreTwo, IsBounded, IsInserted, IsFromEither, IsJoined, Passes, IsLayer, IsCarried, IsSoundAt, IsSound, Keeps, BoundsEnds, label_sum, IsSettled, AreSettled, AreSpread}
+use Rattle.route_pricing.specs.Partial.{IsGrid, width, column_task, task_start, task_end, between, crossed, may_follow, Reaches, IsCell, IsJoin, IsLeastJoin}
+use Rattle.route_pricing.specs.Labels.{no_labels, labels_at, AreTwo, IsBounded, IsInserted, IsFromEither, AreLabelsJoined, Passes, IsLayer, IsCarried, AreSoundAt, AreLabelsSound, Keeps, BoundsEnds, label_sum, IsStreetSettled, AreStreetsSettled, AreSpread}
 use Rattle.route_pricing.proofs.Partials.{leads_more, column_of, task_is, column_in, reaches_required, reaches_small, not_both, head_reached, tail_reached}
 use Rattle.route_pricing.proofs.Copies.{reached_in}
 
@@ -53,10 +53,10 @@ module _ (g : Grid) (grid : IsGrid g) where
         own = c.own;
         reaches = c.reaches;
         edge_is = c.edge_is;
-        most = omega (arith, c.most, most, grid.triangle (end_of g c.last) from to (head_reached g.inst c.last.edge c.last.forward grid.valid required) c.vertex to_in);
+        most = omega (arith, c.most, most, grid.triangle (task_end g c.last) from to (head_reached g.inst c.last.edge c.last.forward grid.valid required) c.vertex to_in);
       }
 
-  module _ (load from to n : ℕ) (x old new : Labels) (joined : IsJoined x n old new) (reached : IsReached g.inst from → IsReached g.inst to × (between g from to ≤ n)) (here : IsSoundAt g load to old) (there : IsSoundAt g load from x) where
+  module _ (load from to n : ℕ) (x old new : Labels) (joined : AreLabelsJoined x n old new) (reached : IsReached g.inst from → IsReached g.inst to × (between g from to ≤ n)) (here : AreSoundAt g load to old) (there : AreSoundAt g load from x) where
     label_sound : (v e : ℕ) → v < unreached → IsFromEither old x n v e → IsCarried g load to e v
     label_sound v e less (inl is) = subst (IsCarried g load to e) (sym is.0) (subst (λ d. IsCarried g load to d old.first) (sym is.1) (here.first (omega (arith, less, is.0))))
     label_sound v e less (inr (inl is)) = subst (IsCarried g load to e) (sym is.0) (subst (λ d. IsCarried g load to d old.second) (sym is.1) (here.second (omega (arith, less, is.0))))
@@ -69,7 +69,7 @@ module _ (g : Grid) (grid : IsGrid g) where
         let r = reached c.vertex in
         subst (IsCarried g load to e) (sym is.0) (subst (λ d. IsCarried g load to d (x.second + n)) (sym is.1) (carried_on load from to n x.second_edge x.second r.0 r.1 c))
 
-    pub joined_sound : IsSoundAt g load to new
+    pub joined_sound : AreSoundAt g load to new
     joined_sound = record { first = λ less. label_sound new.first new.first_edge less (joined.first_from less); second = λ less. label_sound new.second new.second_edge less (joined.second_from less) }
 
   -- the ends of a street
@@ -88,22 +88,22 @@ module _ (g : Grid) (grid : IsGrid g) where
       (u_in, omega (arith, is, grid.lengths e number, grid.both_ways (edge_at g.inst e).u (edge_at g.inst e).v u_in v_in))
 
   pub still_both : (layer mid new : List Labels) (e n : ℕ) (x : Edge) → x ≡ edge_at g.inst e → n ≡ slice_index g.lengths.items (e - 1) →
-      (mid ≡ layer) × Passes (labels_at layer x.u) n (labels_at layer x.v) → (new ≡ mid) × Passes (labels_at mid x.v) n (labels_at mid x.u) → (new ≡ layer) × IsSettled g layer e
+      (mid ≡ layer) × Passes (labels_at layer x.u) n (labels_at layer x.v) → (new ≡ mid) × Passes (labels_at mid x.v) n (labels_at mid x.u) → (new ≡ layer) × IsStreetSettled g layer e
   still_both layer mid new e n x x_is n_is p q =
       let back : Passes (labels_at layer x.v) n (labels_at layer x.u) = subst (λ l. Passes (labels_at l x.v) n (labels_at l x.u)) p.0 q.1 in
       let settled = λ (y : Edge) (k : ℕ). Passes (labels_at layer y.u) k (labels_at layer y.v) × Passes (labels_at layer y.v) k (labels_at layer y.u) in
       let both : settled (edge_at g.inst e) (slice_index g.lengths.items (e - 1)) = subst (λ y. settled y (slice_index g.lengths.items (e - 1))) x_is (subst (settled x) n_is (p.1, back)) in
       (q.0 ∙ p.0, record { there = both.0; back = both.1 })
 
-  pub sweep_still : (layer new : List Labels) (number : ℕ) → (new ≡ layer) × IsSettled g layer number → ((e : ℕ) → IsEdgeNumber g.inst e → e < number → IsSettled g layer e) →
-      (e : ℕ) → IsEdgeNumber g.inst e → e < number + 1 → IsSettled g new e
-  sweep_still layer new number one each e e_in before = subst (λ l. IsSettled g l e) (sym one.0) (elim (cases_eq e number) [
-    | inl same ↦ subst (IsSettled g layer) (sym same) one.1
+  pub sweep_still : (layer new : List Labels) (number : ℕ) → (new ≡ layer) × IsStreetSettled g layer number → ((e : ℕ) → IsEdgeNumber g.inst e → e < number → IsStreetSettled g layer e) →
+      (e : ℕ) → IsEdgeNumber g.inst e → e < number + 1 → IsStreetSettled g new e
+  sweep_still layer new number one each e e_in before = subst (λ l. IsStreetSettled g l e) (sym one.0) (elim (cases_eq e number) [
+    | inl same ↦ subst (IsStreetSettled g layer) (sym same) one.1
     | inr other ↦ each e e_in (omega (arith, before, other))
   ])
 
   -- what is bounded at one vertex is bounded at the end of a way from there
-  module _ (layer : List Labels) (settled : AreSettled g layer) where
+  module _ (layer : List Labels) (settled : AreStreetsSettled g layer) where
     one_on : (e : ℕ) (f : Bool) (edge v : ℕ) → IsEdgeNumber g.inst e → IsReached g.inst (tail_of (edge_at g.inst e) f) → IsBounded (labels_at layer (tail_of (edge_at g.inst e) f)) edge v →
         IsBounded (labels_at layer (head_of (edge_at g.inst e) f)) edge (v + between g (tail_of (edge_at g.inst e) f) (head_of (edge_at g.inst e) f))
     one_on e true edge v number tail bound =
@@ -119,14 +119,14 @@ module _ (g : Grid) (grid : IsGrid g) where
     bound_on (t ∷ path) a b edge v a_in leads bound =
         let tail_in = subst (IsReached g.inst) (sym leads.1) a_in in
         let one = one_on t.edge t.forward edge v leads.0 tail_in (subst (λ h. IsBounded (labels_at layer h) edge v) (sym leads.1) bound) in
-        let rest = bound_on path (end_of g t) b edge (v + between g (start_of g t) (end_of g t)) (ends_reached t.edge t.forward leads.0 tail_in) leads.2 one in
-        let same : v + between g (start_of g t) (end_of g t) + crossed g path ≡ v + (between g (start_of g t) (end_of g t) + crossed g path) = omega arith in
+        let rest = bound_on path (task_end g t) b edge (v + between g (task_start g t) (task_end g t)) (ends_reached t.edge t.forward leads.0 tail_in) leads.2 one in
+        let same : v + between g (task_start g t) (task_end g t) + crossed g path ≡ v + (between g (task_start g t) (task_end g t) + crossed g path) = omega arith in
         subst (IsBounded (labels_at layer b) edge) same rest
 
   bounded_more : (x : Labels) (e v w : ℕ) → v ≤ w → IsBounded x e v → IsBounded x e w
   bounded_more x e v w more b = record { first = omega (arith, more, b.first); second = λ other. omega (arith, more, b.second other) }
 
-  pub spread_all : (load : ℕ) (layer : List Labels) → IsLayer g layer → IsSound g load layer → BoundsEnds g load (width g) layer → AreSettled g layer → AreSpread g load layer
+  pub spread_all : (load : ℕ) (layer : List Labels) → IsLayer g layer → AreLabelsSound g load layer → BoundsEnds g load (width g) layer → AreStreetsSettled g layer → AreSpread g load layer
   spread_all load layer is sound ends settled = record {
     layer = is;
     sound = sound;
@@ -134,46 +134,48 @@ module _ (g : Grid) (grid : IsGrid g) where
         let required = reaches_required g grid last load w reaches in
         let end_in = head_reached g.inst last.edge last.forward grid.valid required in
         let column = task_is last required.from_one in
-        let own : IsBounded (labels_at layer (end_of g last)) last.edge w =
-        subst (λ t. IsBounded (labels_at layer (end_of g t)) t.edge w) column (ends (column_of last) w (column_in g last required) (subst (λ t. Reaches g t load w) (sym column) reaches)) in
-        let led = grid.led (end_of g last) h end_in h_in in
-        bounded_more (labels_at layer h) last.edge (w + crossed g led.path) (w + between g (end_of g last) h) (omega (arith, led.most))
-        (bound_on layer settled led.path (end_of g last) h last.edge w end_in led.leads own);
+        let own : IsBounded (labels_at layer (task_end g last)) last.edge w =
+        subst (λ t. IsBounded (labels_at layer (task_end g t)) t.edge w) column (ends (column_of last) w (column_in g last required) (subst (λ t. Reaches g t load w) (sym column) reaches)) in
+        let led = grid.led (task_end g last) h end_in h_in in
+        bounded_more (labels_at layer h) last.edge (w + crossed g led.path) (w + between g (task_end g last) h) (omega (arith, led.most))
+        (bound_on layer settled led.path (task_end g last) h last.edge w end_in led.leads own);
   }
 
   -- the labels of the partial tours that end at a vertex
-  pub ends_more : (load column value : ℕ) (layer : List Labels) (new : Labels) → IsLayer g layer → IsCell g load (task_of column) value → column < width g →
-      end_of g (task_of column) ≤ g.inst.vertices → IsInserted (labels_at layer (end_of g (task_of column))) value (task_of column).edge new →
-      BoundsEnds g load column layer → BoundsEnds g load (column + 1) (slice_set layer (end_of g (task_of column)) new)
+  pub ends_more : (load column value : ℕ) (layer : List Labels) (new : Labels) → IsLayer g layer → IsCell g load (column_task column) value → column < width g →
+      task_end g (column_task column) ≤ g.inst.vertices → IsInserted (labels_at layer (task_end g (column_task column))) value (column_task column).edge new →
+      BoundsEnds g load column layer → BoundsEnds g load (column + 1) (slice_set layer (task_end g (column_task column)) new)
   ends_more load column value layer new is cell column_in at_in inserted ends c w before reaches = elim (cases_eq c column) [
     | inl same ↦
-        let at = end_of g (task_of column) in
-        let own : IsBounded new (task_of column).edge w = bounded_more new (task_of column).edge value w (cell.least w (subst (λ d. Reaches g (task_of d) load w) same reaches)) inserted.bounds in
-        subst (λ d. IsBounded (labels_at (slice_set layer at new) (end_of g (task_of d))) (task_of d).edge w) (sym same)
-        (subst (λ x. IsBounded x (task_of column).edge w) (sym (set_here g layer at new is at_in)) own)
+        let at = task_end g (column_task column) in
+        let own : IsBounded new (column_task column).edge w = bounded_more new (column_task column).edge value w (cell.least w (subst (λ d. Reaches g (column_task d) load w) same reaches)) inserted.bounds in
+        subst (λ d. IsBounded (labels_at (slice_set layer at new) (task_end g (column_task d))) (column_task d).edge w) (sym same)
+        (subst (λ x. IsBounded x (column_task column).edge w) (sym (set_here g layer at new is at_in)) own)
     | inr other ↦
         let earlier : c < column = omega (arith, before, other) in
-        let c_reached = reaches_required g grid (task_of c) load w reaches in
-        let at = reached_in g.inst (end_of g (task_of c)) grid.valid (head_reached g.inst (task_of c).edge (task_of c).forward grid.valid c_reached) in
-        set_keeps g layer (end_of g (task_of column)) new is at_in inserted.keeps (end_of g (task_of c)) (task_of c).edge w at.in_range (ends c w earlier reaches)
+        let c_reached = reaches_required g grid (column_task c) load w reaches in
+        let at = reached_in g.inst (task_end g (column_task c)) grid.valid (head_reached g.inst (column_task c).edge (column_task c).forward grid.valid c_reached) in
+        set_keeps g layer (task_end g (column_task column)) new is at_in inserted.keeps (task_end g (column_task c)) (column_task c).edge w at.in_range (ends c w earlier reaches)
   ]
 
-  pub inserted_sound : (load column value : ℕ) (old new : Labels) → column < width g → IsCell g load (task_of column) value → IsInserted old value (task_of column).edge new →
-      IsReached g.inst (end_of g (task_of column)) → IsSoundAt g load (end_of g (task_of column)) old → IsSoundAt g load (end_of g (task_of column)) new
+  pub inserted_sound : (load column value : ℕ) (old new : Labels) → column < width g → IsCell g load (column_task column) value → IsInserted old value (column_task column).edge new →
+      IsReached g.inst (task_end g (column_task column)) → AreSoundAt g load (task_end g (column_task column)) old → AreSoundAt g load (task_end g (column_task column)) new
   inserted_sound load column value old new column_in cell inserted at_in sound =
       record { first = λ less. one new.first new.first_edge less inserted.first_from; second = λ less. one new.second new.second_edge less inserted.second_from }
     where
       at : ℕ
-      at = end_of g (task_of column)
-      own : value < unreached → IsCarried g load (end_of g (task_of column)) (task_of column).edge value
-      own less = record { vertex = at_in; last = task_of column; own = value; reaches = cell.attained less; edge_is = refl; most = omega (arith, grid.stay (end_of g (task_of column)) at_in) }
-      one : (v e : ℕ) → v < unreached → ((v ≡ old.first) × (e ≡ old.first_edge)) ⊎ (((v ≡ old.second) × (e ≡ old.second_edge)) ⊎ ((v ≡ value) × (e ≡ (task_of column).edge))) → IsCarried g load (end_of g (task_of column)) e v
-      one v e less (inl is) = subst (IsCarried g load (end_of g (task_of column)) e) (sym is.0) (subst (λ d. IsCarried g load (end_of g (task_of column)) d old.first) (sym is.1) (sound.first (omega (arith, less, is.0))))
-      one v e less (inr (inl is)) = subst (IsCarried g load (end_of g (task_of column)) e) (sym is.0) (subst (λ d. IsCarried g load (end_of g (task_of column)) d old.second) (sym is.1) (sound.second (omega (arith, less, is.0))))
-      one v e less (inr (inr is)) = subst (IsCarried g load (end_of g (task_of column)) e) (sym is.0) (subst (λ d. IsCarried g load (end_of g (task_of column)) d value) (sym is.1) (own (omega (arith, less, is.0))))
+      at = task_end g (column_task column)
+
+      own : value < unreached → IsCarried g load (task_end g (column_task column)) (column_task column).edge value
+      own less = record { vertex = at_in; last = column_task column; own = value; reaches = cell.attained less; edge_is = refl; most = omega (arith, grid.stay (task_end g (column_task column)) at_in) }
+
+      one : (v e : ℕ) → v < unreached → ((v ≡ old.first) × (e ≡ old.first_edge)) ⊎ (((v ≡ old.second) × (e ≡ old.second_edge)) ⊎ ((v ≡ value) × (e ≡ (column_task column).edge))) → IsCarried g load (task_end g (column_task column)) e v
+      one v e less (inl is) = subst (IsCarried g load (task_end g (column_task column)) e) (sym is.0) (subst (λ d. IsCarried g load (task_end g (column_task column)) d old.first) (sym is.1) (sound.first (omega (arith, less, is.0))))
+      one v e less (inr (inl is)) = subst (IsCarried g load (task_end g (column_task column)) e) (sym is.0) (subst (λ d. IsCarried g load (task_end g (column_task column)) d old.second) (sym is.1) (sound.second (omega (arith, less, is.0))))
+      one v e less (inr (inr is)) = subst (IsCarried g load (task_end g (column_task column)) e) (sym is.0) (subst (λ d. IsCarried g load (task_end g (column_task column)) d value) (sym is.1) (own (omega (arith, less, is.0))))
 
   -- the best that a task may follow is one of the two labels where it starts, or both are excluded
-  module _ (load : ℕ) (layer : List Labels) (are : AreSpread g load layer) (t : Task) (t_in : IsRequired g.inst t.edge) (at : ℕ) (at_is : at ≡ start_of g t) where
+  module _ (load : ℕ) (layer : List Labels) (are : AreSpread g load layer) (t : Task) (t_in : IsRequired g.inst t.edge) (at : ℕ) (at_is : at ≡ task_start g t) where
     abbrev here : Labels
     here = labels_at layer at
 
@@ -188,7 +190,7 @@ module _ (g : Grid) (grid : IsGrid g) where
 
     bound : (m : ℕ) (j : IsJoin g load t m) → IsBounded here j.last.edge m
     bound m j =
-        let sum : m ≡ j.value + between g (end_of g j.last) at = j.sum ∙ ap (λ h. j.value + between g (end_of g j.last) h) (sym at_is) in
+        let sum : m ≡ j.value + between g (task_end g j.last) at = j.sum ∙ ap (λ h. j.value + between g (task_end g j.last) h) (sym at_is) in
         subst (IsBounded here j.last.edge) (sym sum) (are.bounds j.last j.value at j.reaches at_reached)
 
     abbrev pub may_edge : ℕ → Bool
@@ -197,14 +199,14 @@ module _ (g : Grid) (grid : IsGrid g) where
     -- a label whose edge may precede is that of a join
     label_join : (v e : ℕ) → IsCarried g load at e v → may_edge e ≡ true → ((m : ℕ) (j : IsJoin g load t m) → j.last.edge ≡ e → v ≤ m) → IsJoin g load t v
     label_join v e c allowed least =
-        let j : IsJoin g load t (c.own + between g (end_of g c.last) (start_of g t)) = record {
+        let j : IsJoin g load t (c.own + between g (task_end g c.last) (task_start g t)) = record {
           last = c.last;
           value = c.own;
           reaches = c.reaches;
           allowed = subst (λ d. may_edge d ≡ true) (sym c.edge_is) allowed;
           sum = refl;
         } in
-        let same : c.own + between g (end_of g c.last) (start_of g t) ≡ v = omega (arith, c.most, least _ j c.edge_is, ap (between g (end_of g c.last)) at_is) in
+        let same : c.own + between g (task_end g c.last) (task_start g t) ≡ v = omega (arith, c.most, least _ j c.edge_is, ap (between g (task_end g c.last)) at_is) in
         subst (IsJoin g load t) same j
 
     carried_required : (v e : ℕ) → IsCarried g load at e v → IsRequired g.inst e

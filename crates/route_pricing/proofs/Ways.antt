@@ -9,7 +9,7 @@ use Rattle.plan_model.specs.Plans.{Leads}
 use Rattle.plan_model.specs.declared.step.Step.{Step}
 use Rattle.deadhead_paths.specs.Prices.{IsLeastPrice, Deadheads, NoneServed}
 use Rattle.route_pricing.specs.declared.grid.Grid.{Grid}
-use Rattle.route_pricing.specs.Partial.{start_of, end_of, between, crossed, IsLedBy}
+use Rattle.route_pricing.specs.Partial.{task_start, task_end, between, crossed, IsLedBy}
 use Rattle.route_pricing.proofs.Partials.{leads_more}
 
 pub tail_not : (e : Edge) (f : Bool) → tail_of e (not f) ≡ head_of e f
@@ -62,8 +62,7 @@ after : (p : Problem) (q : ℕ → ℕ) (a b c m n : ℕ) (steps more : List Ste
 after p q a b c m n [] more d e = (more, record { unserved = e.unserved; leads = subst (λ v. Leads p v more c) (sym d.leads) e.leads; costs = omega (arith, d.costs, e.costs) })
 after p q a b c m n (s ∷ steps) more d e =
     let rest : Deadheads p q (head_of (edge_at p s.edge) s.forward) b (sum_by (λ (y : Step). q y.edge) steps) steps = record { unserved = d.unserved.1; leads = d.leads.2; costs = refl } in
-    let r = after p q (head_of (edge_at p s.edge) s.forward) b c _ n steps more rest e in
-    (
+    let r = after p q (head_of (edge_at p s.edge) s.forward) b c _ n steps more rest e in (
       s ∷ r.0,
       record {
         unserved = (d.unserved.0, r.1.unserved);
@@ -91,8 +90,7 @@ module _ (g : Grid) (q : ℕ → ℕ) (least : (a b : ℕ) → IsReached g.inst 
       let tail = subst (IsReached g.inst) (sym leads.1) a_in in
       let head : IsReached g.inst (head_of (edge_at g.inst s.edge) s.forward) =
       record { path = tail.path ++ record { edge = s.edge; forward = s.forward } ∷ []; leads = leads_more g.inst g.inst.depot (tail_of (edge_at g.inst s.edge) s.forward) tail.path (record { edge = s.edge; forward = s.forward }) tail.leads leads.0 refl } in
-      let rest = along steps (head_of (edge_at g.inst s.edge) s.forward) b head leads.2 free.1 in
-      (
+      let rest = along steps (head_of (edge_at g.inst s.edge) s.forward) b head leads.2 free.1 in (
         record { edge = s.edge; forward = s.forward } ∷ rest.0,
         (leads.0, leads.1, rest.1),
         omega (arith, rest.2, street_most s leads.0 free.0 tail head, sum_by-cons (λ (y : Step). q y.edge) s steps),

@@ -2,7 +2,7 @@
 ghost use Rattle.std.specs.Prelude.{◌≡◌, ◌+◌, ◌<◌, ◌≤◌, ◌-◌, ℕ, true, false, length, slice_index};
 ghost use Rattle.carp_base.specs.Problem.{IsVertex, IsEdgeNumber, IsReached, edge_at};
 ghost use Rattle.route_pricing.specs.Partial.{IsGrid, between};
-ghost use Rattle.route_pricing.specs.Labels.{IsLayer, IsSound, Keeps, Passes, IsSettled, AreSettled, labels_at, label_sum};
+ghost use Rattle.route_pricing.specs.Labels.{IsLayer, AreLabelsSound, Keeps, Passes, IsStreetSettled, AreStreetsSettled, labels_at, label_sum};
 
 use crate::grid::Grid;
 use crate::labels::Labels;
@@ -14,7 +14,7 @@ impl Grid {
         requires from { IsVertex self.now.inst from }
         requires to { IsVertex self.now.inst to }
         ensures layer { IsLayer self.now layer.new }
-        ensures sound { (load : ℕ) → IsGrid self.now → (IsReached self.now.inst from → IsReached self.now.inst to × (between self.now from to ≤ length)) → IsSound self.now load layer.old → IsSound self.now load layer.new }
+        ensures sound { (load : ℕ) → IsGrid self.now → (IsReached self.now.inst from → IsReached self.now.inst to × (between self.now from to ≤ length)) → AreLabelsSound self.now load layer.old → AreLabelsSound self.now load layer.new }
         ensures keeps { Keeps self.now layer.old layer.new }
         ensures falls { label_sum layer.new ≤ label_sum layer.old }
         ensures fewer { result ≡ true → label_sum layer.new < label_sum layer.old }
@@ -35,11 +35,11 @@ impl Grid {
         requires layer { IsLayer self.now layer.old }
         requires number { IsEdgeNumber self.now.inst number }
         ensures layer { IsLayer self.now layer.new }
-        ensures sound { (load : ℕ) → IsSound self.now load layer.old → IsSound self.now load layer.new }
+        ensures sound { (load : ℕ) → AreLabelsSound self.now load layer.old → AreLabelsSound self.now load layer.new }
         ensures keeps { Keeps self.now layer.old layer.new }
         ensures falls { label_sum layer.new ≤ label_sum layer.old }
         ensures fewer { result ≡ true → label_sum layer.new < label_sum layer.old }
-        ensures still { result ≡ false → (layer.new ≡ layer.old) × IsSettled self.now layer.old number }
+        ensures still { result ≡ false → (layer.new ≡ layer.old) × IsStreetSettled self.now layer.old number }
     {
         let edge = self.inst.edge(number);
         let length = self.lengths[number as usize - 1];
@@ -53,11 +53,11 @@ impl Grid {
         requires grid { IsGrid self.now }
         requires layer { IsLayer self.now layer.old }
         ensures layer { IsLayer self.now layer.new }
-        ensures sound { (load : ℕ) → IsSound self.now load layer.old → IsSound self.now load layer.new }
+        ensures sound { (load : ℕ) → AreLabelsSound self.now load layer.old → AreLabelsSound self.now load layer.new }
         ensures keeps { Keeps self.now layer.old layer.new }
         ensures falls { label_sum layer.new ≤ label_sum layer.old }
         ensures fewer { result ≡ true → label_sum layer.new < label_sum layer.old }
-        ensures still { result ≡ false → AreSettled self.now layer.new }
+        ensures still { result ≡ false → AreStreetsSettled self.now layer.new }
     {
         let mut changed = false;
         for number in 1..self.inst.edge_count() + 1 {
@@ -73,9 +73,9 @@ impl Grid {
         requires grid { IsGrid self.now }
         requires layer { IsLayer self.now layer.old }
         ensures layer { IsLayer self.now layer.new }
-        ensures sound { (load : ℕ) → IsSound self.now load layer.old → IsSound self.now load layer.new }
+        ensures sound { (load : ℕ) → AreLabelsSound self.now load layer.old → AreLabelsSound self.now load layer.new }
         ensures keeps { Keeps self.now layer.old layer.new }
-        ensures settled { AreSettled self.now layer.new }
+        ensures settled { AreStreetsSettled self.now layer.new }
     {
         let mut changed = true;
         while changed {

@@ -1,6 +1,6 @@
 use Rattle.std.proofs.Common.{◌≡◌, ◌≤◌, arith, subst, sym, refl, ap}
 use Rattle.route_pricing.specs.declared.labels.Labels.{Labels}
-use Rattle.route_pricing.specs.Labels.{labels_at, IsSoundAt, Passes}
+use Rattle.route_pricing.specs.Labels.{labels_at, AreSoundAt, Passes}
 use Rattle.route_pricing.proofs.Passing.{set_layer_is, set_keeps, set_sum, set_all, joined_sound}
 use Rattle.route_pricing.proofs.grid.Grid.pass.Goals as goal
 
@@ -11,7 +11,7 @@ returns-then-new-old-clause-sound c = λ load grid reached sound.
     let layer = c.args.layer.now in
     let new = joined_sound g grid load c.args.from at c.args.length (labels_at layer c.args.from) (labels_at layer at) c.joined-new.result c.joined-new.ensures reached
     (sound at c.requires.to.in_range) (sound c.args.from c.requires.from.in_range) in
-    set_all g layer at c.joined-new.result c.requires.layer c.requires.to.in_range (IsSoundAt g load) sound new
+    set_all g layer at c.joined-new.result c.requires.layer c.requires.to.in_range (AreSoundAt g load) sound new
 
 pub returns-then-new-old-clause-keeps : goal.returns-then-new-old-clause-keeps
 returns-then-new-old-clause-keeps c =

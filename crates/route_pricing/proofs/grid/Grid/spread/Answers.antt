@@ -1,5 +1,5 @@
 use Rattle.std.proofs.Common.{arith}
-use Rattle.route_pricing.specs.Partial.{task_of, end_of}
+use Rattle.route_pricing.specs.Partial.{column_task, task_end}
 use Rattle.route_pricing.proofs.Partials.{column_required, head_reached}
 use Rattle.route_pricing.proofs.Copies.{reached_in}
 use Rattle.route_pricing.proofs.Passing.{spread_all}
@@ -11,7 +11,7 @@ returns c =
     let grid = c.requires.grid in
     spread_all g grid c.args.load c.carry.new.layer c.carry.ensures.layer (c.carry.ensures.sound c.args.load c.set_layer.ensures.sound)
     (λ d w below reaches.
-        let t = task_of d in
-        let at = reached_in g.inst (end_of g t) grid.valid (head_reached g.inst t.edge t.forward grid.valid (column_required g grid d below)) in
-        c.carry.ensures.keeps (end_of g t) t.edge w at.in_range (c.set_layer.ensures.bounds d w below reaches))
+    let t = column_task d in
+    let at = reached_in g.inst (task_end g t) grid.valid (head_reached g.inst t.edge t.forward grid.valid (column_required g grid d below)) in
+    c.carry.ensures.keeps (task_end g t) t.edge w at.in_range (c.set_layer.ensures.bounds d w below reaches))
     c.carry.ensures.settled

@@ -4,7 +4,7 @@ use mir.Syntax.{w128}
 use mir.Val.{SFits, to_z, of_z}
 use Rattle.carp_base.specs.declared.edge.Task.{Task}
 use Rattle.carp_base.specs.Problem.{IsRequired}
-use Rattle.route_pricing.specs.Partial.{task_of}
+use Rattle.route_pricing.specs.Partial.{column_task}
 use Rattle.route_pricing.specs.Values.{IsLeastThrough}
 use Rattle.route_pricing.specs.Through.{IsLeastPair, overweight_of}
 use Rattle.route_pricing.proofs.Crossing.{pair_reached, least_through}
@@ -13,7 +13,7 @@ use Rattle.route_pricing.proofs.table.Table.through.Goals as goal
 pub difference-requires-clause-a : goal.difference-requires-clause-a
 difference-requires-clause-a c =
     let g = c.args.self.now.grid in
-    let t = task_of c.column-column.result in
+    let t = column_task c.column-column.result in
     let scale = c.scale_of-scale in
     let edge_is = ap (λ (s : Task). s.edge) c.column-column.ensures.task in
     let t_in = subst (IsRequired g.inst) (sym edge_is) c.requires.edge in
@@ -24,7 +24,7 @@ pub returns : goal.returns
 returns c = λ x filled.
     let g = c.args.self.now.grid in
     let r = c.args.rate in
-    let t = task_of c.column-column.result in
+    let t = column_task c.column-column.result in
     let scale = c.scale_of-scale in
     let edge_is = ap (λ (s : Task). s.edge) c.column-column.ensures.task in
     let t_in = subst (IsRequired g.inst) (sym edge_is) c.requires.edge in

@@ -1,7 +1,7 @@
 use Rattle.std.proofs.Common.{◌≡◌, ◌≤◌, arith, ap, ◌∙◌, subst, sym}
 use Rattle.carp_base.specs.declared.edge.Task.{Task}
 use Rattle.carp_base.specs.Problem.{IsRequired}
-use Rattle.route_pricing.specs.Partial.{task_of}
+use Rattle.route_pricing.specs.Partial.{column_task}
 use Rattle.route_pricing.specs.Values.{AttainsThrough}
 use Rattle.route_pricing.specs.Through.{IsLeastPair}
 use Rattle.route_pricing.proofs.Crossing.{cells_of, attains_through}
@@ -10,7 +10,7 @@ use Rattle.route_pricing.proofs.table.Table.tour_through.Goals as goal
 pub retrace_pair-requires-clause-pair : goal.retrace_pair-requires-clause-pair
 retrace_pair-requires-clause-pair c =
     let g = c.args.self.now.grid in
-    let t = task_of c.column-column.result in
+    let t = column_task c.column-column.result in
     let scale = c.scale_of-scale in
     let edge_is = ap (λ (s : Task). s.edge) c.column-column.ensures.task in
     let t_in = subst (IsRequired g.inst) (sym edge_is) c.requires.edge in
@@ -21,7 +21,7 @@ pub returns : goal.returns
 returns c = λ x filled.
     let g = c.args.self.now.grid in
     let r = c.args.rate in
-    let t = task_of c.column-column.result in
+    let t = column_task c.column-column.result in
     let scale = c.scale_of-scale in
     let edge_is = ap (λ (s : Task). s.edge) c.column-column.ensures.task in
     let t_in = subst (IsRequired g.inst) (sym edge_is) c.requires.edge in
