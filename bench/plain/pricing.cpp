@@ -1,0 +1,212 @@
+// The least relaxed tour of a made town by a table over load and last task, with two labels a vertex that are carried over the streets.
+//
+// usage: pricing COLUMNS ROWS REQUIRED CAPACITY FILLS
+//
+// The town: COLUMNS * ROWS corners, numbered from 1 along the rows, with a street from each to the next of its row and to that
+// below. x starts at 1, and each draw sets x to 6364136223846793005 * x + 1442695040888963407 modulo 2^64 and gives x / 2^33. First
+// as many streets as are to be served, and then the others, in the order in which places are drawn: of the streets that are left,
+// in the order of their making, the one at a place drawn modulo their number goes next, and the last one moves to its place. Then
+// each street draws a cost of 10 to 99 and a demand of 1 to 10. The depot is corner 1. In fill number i, from 0, the price of each
+// service is its cost, and for each unit of demand 7 + i mod 5, and a draw modulo 20. It prints the sum of the least values.
+#include <algorithm>
+#include <cstdint>
+#include <cstdio>
+#include <cstdlib>
+#include <queue>
+#include <vector>
+
+using Wide = unsigned __int128;
+constexpr Wide NEVER = ~Wide(0);
+constexpr int64_t LIFT = 1000000000000000;
+
+static uint64_t state = 1;
+static uint64_t draw() {
+  state = state * 6364136223846793005u + 1442695040888963407u;
+  return state >> 33;
+}
+
+struct Street {
+  uint32_t u, v;
+  int64_t cost, demand;
+};
+
+struct Labels {
+  Wide first, second;
+  uint32_t first_edge, second_edge;
+};
+
+static Wide longer(Wide value, Wide length) {
+  Wide sum = value + length;
+  return sum < value ? NEVER : sum;
+}
+
+static Labels inserted(Labels x, Wide value, uint32_t edge) {
+  if (value >= x.second) return x;
+  if (edge == x.first_edge) {
+    x.first = std::min(x.first, value);
+  } else if (value < x.first) {
+    x = {value, x.first, edge, x.first_edge};
+  } else {
+    x.second = value;
+    x.second_edge = edge;
+  }
+  return x;
+}
+
+class Town {
+public:
+  uint32_t corners;
+  std::vector<Street> streets;
+
+  Town(uint32_t columns, uint32_t rows) : corners(columns * rows) {
+    std::vector<Street> made;
+    for (uint32_t y = 0; y < rows; y++) {
+      for (uint32_t x = 0; x < columns; x++) {
+        uint32_t at = y * columns + x;
+        if (x + 1 < columns) made.push_back({at, at + 1, 0, 0});
+        if (y + 1 < rows) made.push_back({at, at + columns, 0, 0});
+      }
+    }
+    while (!made.empty()) {
+      size_t i = draw() % made.size();
+      streets.push_back(made[i]);
+      made[i] = made.back();
+      made.pop_back();
+    }
+    for (Street &street : streets) {
+      street.cost = static_cast<int64_t>(10 + draw() % 90);
+      street.demand = static_cast<int64_t>(1 + draw() % 10);
+    }
+  }
+
+  std::vector<Wide> distances() const {
+    std::vector<std::vector<std::pair<uint32_t, int64_t>>> ways(corners);
+    for (const Street &s : streets) {
+      ways[s.u].push_back({s.v, s.cost});
+      ways[s.v].push_back({s.u, s.cost});
+    }
+    std::vector<Wide> all(size_t(corners) * corners, NEVER);
+    using Item = std::pair<Wide, uint32_t>;
+    for (uint32_t from = 0; from < corners; from++) {
+      Wide *row = &all[size_t(from) * corners];
+      std::priority_queue<Item, std::vector<Item>, std::greater<Item>> queue;
+      row[from] = 0;
+      queue.push({0, from});
+      while (!queue.empty()) {
+        Item next = queue.top();
+        queue.pop();
+        if (next.first > row[next.second]) continue;
+        for (auto [to, cost] : ways[next.second]) {
+          Wide sum = next.first + Wide(cost);
+          if (sum < row[to]) {
+            row[to] = sum;
+            queue.push({sum, to});
+          }
+        }
+      }
+    }
+    return all;
+  }
+};
+
+class Table {
+public:
+  Table(const Town &town, uint32_t required, size_t capacity, const std::vector<Wide> &distances)
+      : town(town), required(required), capacity(capacity), distances(distances), cells((capacity + 1) * 2 * required), layer(town.corners), adds(required) {
+    for (const Street &s : town.streets) lengths.push_back(between(s.u, s.v));
+  }
+
+  void fill(const std::vector<int64_t> &prices) {
+    for (uint32_t e = 0; e < required; e++) {
+      const Street &s = town.streets[e];
+      adds[e] = Wide(s.cost + LIFT * s.demand - prices[e]);
+    }
+    std::fill(cells.begin(), cells.end(), NEVER);
+    for (uint32_t c = 0; c < 2 * required; c++) cell(size_t(town.streets[c / 2].demand), c) = between(0, start(c)) + adds[c / 2];
+    for (size_t load = 1; load <= capacity; load++) extend(load);
+  }
+
+  __int128 least() {
+    __int128 best = 0;
+    bool found = false;
+    for (size_t load = 1; load <= capacity; load++) {
+      for (uint32_t c = 0; c < 2 * required; c++) {
+        Wide value = cell(load, c);
+        if (value == NEVER) continue;
+        __int128 whole = __int128(value + between(end(c), 0)) - __int128(LIFT) * __int128(load);
+        if (!found || whole < best) best = whole;
+        found = true;
+      }
+    }
+    return best;
+  }
+
+private:
+  const Town &town;
+  uint32_t required;
+  size_t capacity;
+  const std::vector<Wide> &distances;
+  std::vector<Wide> cells;
+  std::vector<Labels> layer;
+  std::vector<Wide> adds, lengths;
+
+  Wide &cell(size_t load, uint32_t c) { return cells[load * 2 * required + c]; }
+  Wide between(uint32_t a, uint32_t b) const { return distances[size_t(a) * town.corners + b]; }
+  uint32_t start(uint32_t c) const { return c % 2 == 0 ? town.streets[c / 2].u : town.streets[c / 2].v; }
+  uint32_t end(uint32_t c) const { return c % 2 == 0 ? town.streets[c / 2].v : town.streets[c / 2].u; }
+
+  bool pass(uint32_t from, uint32_t to, Wide length) {
+    const Labels &x = layer[from];
+    Labels &old = layer[to];
+    Labels now = inserted(inserted(old, longer(x.first, length), x.first_edge), longer(x.second, length), x.second_edge);
+    bool less = now.first < old.first || now.second < old.second;
+    if (less) old = now;
+    return less;
+  }
+
+  bool sweep() {
+    bool changed = false;
+    for (size_t i = 0; i < town.streets.size(); i++) {
+      const Street &s = town.streets[i];
+      bool there = pass(s.u, s.v, lengths[i]);
+      bool back = pass(s.v, s.u, lengths[i]);
+      changed = changed || there || back;
+    }
+    return changed;
+  }
+
+  void extend(size_t load) {
+    std::fill(layer.begin(), layer.end(), Labels{NEVER, NEVER, UINT32_MAX, UINT32_MAX});
+    for (uint32_t c = 0; c < 2 * required; c++) layer[end(c)] = inserted(layer[end(c)], cell(load, c), c / 2);
+    while (sweep()) {
+    }
+    for (uint32_t c = 0; c < 2 * required; c++) {
+      size_t next = load + size_t(town.streets[c / 2].demand);
+      if (next > capacity) continue;
+      const Labels &x = layer[start(c)];
+      Wide best = x.first_edge != c / 2 ? x.first : x.second;
+      cell(next, c) = best == NEVER ? NEVER : best + adds[c / 2];
+    }
+  }
+};
+
+int main(int argc, char **argv) {
+  if (argc != 6) {
+    std::fprintf(stderr, "usage: pricing COLUMNS ROWS REQUIRED CAPACITY FILLS\n");
+    return 3;
+  }
+  auto number = [&](int i) { return static_cast<uint32_t>(std::strtoul(argv[i], nullptr, 10)); };
+  uint32_t required = number(3);
+  Town town(number(1), number(2));
+  std::vector<Wide> distances = town.distances();
+  Table table(town, required, number(4), distances);
+  __int128 sum = 0;
+  for (uint32_t i = 0; i < number(5); i++) {
+    std::vector<int64_t> prices;
+    for (uint32_t e = 0; e < required; e++) prices.push_back(town.streets[e].cost + town.streets[e].demand * int64_t(7 + i % 5) + int64_t(draw() % 20));
+    table.fill(prices);
+    sum += table.least();
+  }
+  std::printf("value %lld\n", static_cast<long long>(sum));
+  return 0;
+}
