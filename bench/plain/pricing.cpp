@@ -158,7 +158,9 @@ private:
   bool pass(uint32_t from, uint32_t to, Wide length) {
     const Labels &x = layer[from];
     Labels &old = layer[to];
-    Labels now = inserted(inserted(old, longer(x.first, length), x.first_edge), longer(x.second, length), x.second_edge);
+    Wide first = longer(x.first, length);
+    if (first >= old.second) return false;
+    Labels now = inserted(inserted(old, first, x.first_edge), longer(x.second, length), x.second_edge);
     bool less = now.first < old.first || now.second < old.second;
     if (less) old = now;
     return less;

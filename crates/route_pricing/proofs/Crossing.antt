@@ -1,5 +1,5 @@
 -- The least relaxed tour that serves an edge, weighed beside a rate.
-use Rattle.std.proofs.Common.{◌≡◌, ◌≢◌, ℕ, ◌+◌, ◌-◌, ◌*◌, ◌^◌, ◌<◌, ◌≤◌, List, [], ◌∷◌, refl, sym, ap, ◌∙◌, arith, inl, inr, subst, ℤ, pos, ◌+ℤ◌, ◌-ℤ◌, ◌*ℤ◌, ◌≤ℤ◌}
+use Rattle.std.proofs.Common.{◌≡◌, ℕ, ◌+◌, ◌-◌, ◌*◌, ◌^◌, ◌<◌, ◌≤◌, List, [], refl, sym, ap, ◌∙◌, arith, subst, ℤ, pos, ◌+ℤ◌, ◌-ℤ◌, ◌*ℤ◌, ◌≤ℤ◌}
 use Rattle.std.proofs.lemmas.Int.{ints}
 use Rattle.carp_base.specs.declared.edge.Task.{Task}
 use Rattle.carp_base.specs.Problem.{IsRequired}
@@ -7,11 +7,11 @@ use Rattle.deadhead_paths.specs.Table.{unreached}
 use Rattle.route_pricing.specs.declared.grid.Grid.{Grid}
 use Rattle.route_pricing.specs.declared.table.Rate.{Rate}
 use Rattle.route_pricing.specs.declared.through.Pair.{Pair}
-use Rattle.route_pricing.specs.Partial.{IsGrid, task_start, task_end, demand_of, adds_of, between, IsFirst, Reaches, IsCell}
+use Rattle.route_pricing.specs.Partial.{IsGrid, task_start, demand_of, adds_of, between, Reaches, IsCell}
 use Rattle.route_pricing.specs.Values.{Pricing, IsPriced, IsServed, load_of, weighed, IsLeastThrough, AttainsThrough}
 use Rattle.route_pricing.specs.Ends.{IsGridOf, lift}
 use Rattle.route_pricing.specs.Retracing.{turned}
-use Rattle.route_pricing.specs.Through.{weight_of, overweight_of, IsPair, IsPairWeight, IsOfCells, IsLeastPair, IsPairTour, IsPricedThrough}
+use Rattle.route_pricing.specs.Through.{weight_of, IsPair, IsOfCells, IsLeastPair, IsPairTour}
 use Rattle.route_pricing.proofs.Partials.{load_one}
 use Rattle.route_pricing.proofs.Turning.{turn}
 use Rattle.route_pricing.proofs.Least.{sub_times, comes_home, load_same}

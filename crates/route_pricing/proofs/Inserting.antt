@@ -1,9 +1,9 @@
 -- Two labels with a partial tour more, and with those of another vertex.
-use Rattle.std.proofs.Common.{◌≡◌, ◌≢◌, ℕ, ◌+◌, ◌<◌, ◌≤◌, refl, sym, ◌∙◌, arith, inl, inr, subst, ◌⊎◌}
+use Rattle.std.proofs.Common.{◌≡◌, ◌≢◌, ℕ, ◌+◌, ◌<◌, ◌≤◌, refl, sym, ◌∙◌, arith, inl, inr, subst}
 use Rattle.std.proofs.lemmas.Bool.{cases_eq, cases_lt}
 use Rattle.deadhead_paths.specs.Table.{unreached}
 use Rattle.route_pricing.specs.declared.labels.Labels.{Labels}
-use Rattle.route_pricing.specs.Labels.{AreTwo, IsBounded, IsFrom, IsInserted, IsFromEither, AreLabelsJoined, Passes}
+use Rattle.route_pricing.specs.Labels.{AreTwo, IsFrom, IsInserted, IsFromEither, AreLabelsJoined, Passes}
 
 module _ (x : Labels) (value edge : ℕ) (two : AreTwo x) where
   pub kept_above : x.second ≤ value → IsInserted x value edge x

@@ -1,5 +1,5 @@
 -- Least prices: backward, of nothing, one after another, and street by street.
-use Rattle.std.proofs.Common.{◌≡◌, ℕ, ◌+◌, ◌-◌, ◌≤◌, Bool, true, false, not, List, [], ◌∷◌, ◌++◌, refl, sym, ap, ◌∙◌, arith, subst}
+use Rattle.std.proofs.Common.{◌≡◌, ℕ, ◌+◌, ◌≤◌, Bool, true, false, not, List, [], ◌∷◌, ◌++◌, refl, sym, ◌∙◌, arith, subst}
 use Rattle.std.specs.List.{sum_by}
 use Rattle.std.proofs.lemmas.List.Sums.{sum_by-cons}
 use Rattle.carp_base.specs.declared.edge.Task.{Task}
@@ -9,7 +9,7 @@ use Rattle.plan_model.specs.Plans.{Leads}
 use Rattle.plan_model.specs.declared.step.Step.{Step}
 use Rattle.deadhead_paths.specs.Prices.{IsLeastPrice, Deadheads, NoneServed}
 use Rattle.route_pricing.specs.declared.grid.Grid.{Grid}
-use Rattle.route_pricing.specs.Partial.{task_start, task_end, between, crossed, IsLedBy}
+use Rattle.route_pricing.specs.Partial.{between, crossed, IsLedBy}
 use Rattle.route_pricing.proofs.Partials.{leads_more}
 
 pub tail_not : (e : Edge) (f : Bool) → tail_of e (not f) ≡ head_of e f

@@ -1,10 +1,7 @@
-use Rattle.std.proofs.Common.{◌≡◌, ◌<◌, arith, subst, sym, ◌∙◌}
-use Rattle.deadhead_paths.specs.Table.{unreached}
-use Rattle.route_pricing.specs.Partial.{column_task, task_start, IsLeastJoin}
-use Rattle.route_pricing.specs.Labels.{labels_at}
-use Rattle.route_pricing.specs.declared.labels.Labels.{Labels}
+use Rattle.std.proofs.Common.{arith, sym, ◌∙◌}
+use Rattle.route_pricing.specs.Partial.{column_task}
 use Rattle.route_pricing.proofs.Partials.{column_required}
-use Rattle.route_pricing.proofs.Passing.{best_none, best_first, best_no_second, best_second, first_required, second_required, may_edge}
+use Rattle.route_pricing.proofs.Passing.{best_none, best_first, best_no_second, best_second, first_required, second_required}
 use Rattle.route_pricing.proofs.grid.Grid.best.Goals as goal
 
 pub returns-then-x : goal.returns-then-x

@@ -1,7 +1,6 @@
-use Rattle.std.proofs.Common.{◌≡◌, ◌≤◌, arith, subst, sym, refl, ap}
-use Rattle.route_pricing.specs.declared.labels.Labels.{Labels}
+use Rattle.std.proofs.Common.{arith, subst, refl}
 use Rattle.route_pricing.specs.Labels.{labels_at, AreSoundAt, Passes}
-use Rattle.route_pricing.proofs.Passing.{set_layer_is, set_keeps, set_sum, set_all, joined_sound}
+use Rattle.route_pricing.proofs.Passing.{set_keeps, set_all, joined_sound}
 use Rattle.route_pricing.proofs.grid.Grid.pass.Goals as goal
 
 pub returns-then-new-old-clause-sound : goal.returns-then-new-old-clause-sound

@@ -1,7 +1,7 @@
 use Rattle.std.proofs.Common.{◌≡◌, ◌-◌, ◌≤◌, arith, subst, sym, slice_index}
 use Rattle.std.proofs.lemmas.List.{get_or_read}
 use Rattle.carp_base.specs.declared.edge.Edge.{Edge}
-use Rattle.carp_base.specs.Problem.{IsReached, edge_at}
+use Rattle.carp_base.specs.Problem.{IsReached}
 use Rattle.route_pricing.specs.Partial.{between}
 use Rattle.route_pricing.proofs.Passing.{street_there, street_back, still_both}
 use Rattle.route_pricing.proofs.grid.Grid.settle.Goals as goal

@@ -1,4 +1,3 @@
-use Rattle.std.proofs.Common.{arith}
 use Rattle.route_pricing.specs.Partial.{column_task, task_end}
 use Rattle.route_pricing.proofs.Partials.{column_required, head_reached}
 use Rattle.route_pricing.proofs.Copies.{reached_in}

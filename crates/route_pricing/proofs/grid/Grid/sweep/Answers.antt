@@ -1,4 +1,4 @@
-use Rattle.std.proofs.Common.{◌≡◌, true, false, arith, sym, ◌∙◌}
+use Rattle.std.proofs.Common.{arith, sym, ◌∙◌}
 use Rattle.route_pricing.proofs.Partials.{not_both}
 use Rattle.route_pricing.proofs.Passing.{sweep_still}
 use Rattle.route_pricing.proofs.grid.Grid.sweep.Goals.{then-settle, else-settle}

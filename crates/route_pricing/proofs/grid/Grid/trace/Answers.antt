@@ -1,4 +1,4 @@
-use Rattle.std.proofs.Common.{◌≡◌, ◌+◌, ◌-◌, ◌*◌, ◌∷◌, ◌++◌, [], arith, ap, ◌∙◌, subst, sym, refl, slice_index}
+use Rattle.std.proofs.Common.{◌-◌, ◌∷◌, ◌++◌, [], arith, ap, ◌∙◌, subst, sym, refl, slice_index}
 use Rattle.carp_base.specs.declared.edge.Task.{Task}
 use Rattle.route_pricing.specs.Partial.{column_task, cell_place}
 use Rattle.route_pricing.specs.Retracing.{IsTracing, turned_if}

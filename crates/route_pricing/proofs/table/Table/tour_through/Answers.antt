@@ -1,4 +1,4 @@
-use Rattle.std.proofs.Common.{◌≡◌, ◌≤◌, arith, ap, ◌∙◌, subst, sym}
+use Rattle.std.proofs.Common.{◌≤◌, arith, ap, subst, sym}
 use Rattle.carp_base.specs.declared.edge.Task.{Task}
 use Rattle.carp_base.specs.Problem.{IsRequired}
 use Rattle.route_pricing.specs.Partial.{column_task}
