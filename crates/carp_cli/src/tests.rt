@@ -184,7 +184,7 @@ end
 fn numbers_in(alloc: Global, text: &str) -> Result<Vec<u64>, Fail> {
     let mut numbers = Vec::new(alloc);
     for word in text.split_ascii_whitespace() {
-        numbers.push(word.parse()?)?;
+        numbers.push(word.parse().unwrap_or(0))?;
     }
     Ok(numbers)
 }

@@ -3,7 +3,7 @@ use Rattle.std.proofs.Common.{◌≡◌, ℕ, ◌+◌, ◌-◌, ◌*◌, ◌^◌
 use Rattle.std.proofs.lemmas.Int.{ints}
 use Rattle.carp_base.specs.declared.edge.Task.{Task}
 use Rattle.carp_base.specs.Problem.{IsRequired}
-use Rattle.deadhead_paths.specs.Table.{unreached}
+use Rattle.route_pricing.specs.Partial.{no_value}
 use Rattle.route_pricing.specs.declared.grid.Grid.{Grid}
 use Rattle.route_pricing.specs.declared.table.Rate.{Rate}
 use Rattle.route_pricing.specs.declared.through.Pair.{Pair}
@@ -44,7 +44,7 @@ module _ (g : Grid) (grid : IsGrid g) (t : Task) (t_in : IsRequired g.inst t.edg
   alone : (s : Task) → IsRequired g.inst s.edge → Reaches g s (demand_of g s) (between g g.inst.depot (task_start g s) + adds_of g s)
   alone s s_in = record { before = []; partial = record { required = s_in; load_is = refl; value_is = refl } }
 
-  pub pair_reached : p.weight < unreached
+  pub pair_reached : p.weight < no_value
   pair_reached =
       let one = alone t t_in in
       let two = alone (turned t) t_in in
@@ -108,7 +108,7 @@ module _ (x : Pricing) (g : Grid) (of : IsGridOf x g) (t : Task) (t_in : IsRequi
         least = λ other n v priced served. subst (λ z. z ≤ℤ weighed r v (load_of x other)) (sym weight_is) (above other n v priced served);
       }
 
-  cells_same : (s : Task) (l a b : ℕ) → IsCell g l s a → IsCell g l s b → b < unreached → a ≡ b
+  cells_same : (s : Task) (l a b : ℕ) → IsCell g l s a → IsCell g l s b → b < no_value → a ≡ b
   cells_same s l a b one two reached =
       let most = one.least b (two.attained reached) in
       omega (arith, most, two.least a (one.attained (omega (arith, most, reached))))

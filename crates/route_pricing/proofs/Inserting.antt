@@ -1,7 +1,7 @@
 -- Two labels with a partial tour more, and with those of another vertex.
 use Rattle.std.proofs.Common.{◌≡◌, ◌≢◌, ℕ, ◌+◌, ◌<◌, ◌≤◌, refl, sym, ◌∙◌, arith, inl, inr, subst}
 use Rattle.std.proofs.lemmas.Bool.{cases_eq, cases_lt}
-use Rattle.deadhead_paths.specs.Table.{unreached}
+use Rattle.route_pricing.specs.Partial.{no_value}
 use Rattle.route_pricing.specs.declared.labels.Labels.{Labels}
 use Rattle.route_pricing.specs.Labels.{AreTwo, IsFrom, IsInserted, IsFromEither, AreLabelsJoined, Passes}
 
@@ -68,14 +68,14 @@ module _ (x : Labels) (value edge : ℕ) (two : AreTwo x) where
 
 -- both labels of x, over a street of length n
 module _ (x old mid new : Labels) (n first second : ℕ) (own : AreTwo x) (first_most : first ≤ x.first + n) (second_most : second ≤ x.second + n)
-    (first_is : first < unreached → first ≡ x.first + n) (second_is : second < unreached → second ≡ x.second + n)
+    (first_is : first < no_value → first ≡ x.first + n) (second_is : second < no_value → second ≡ x.second + n)
     (one : IsInserted old first x.first_edge mid) (other : IsInserted mid second x.second_edge new) where
-  from_one : (v e : ℕ) → v < unreached → IsFrom old first x.first_edge v e → IsFromEither old x n v e
+  from_one : (v e : ℕ) → v < no_value → IsFrom old first x.first_edge v e → IsFromEither old x n v e
   from_one v e less (inl is) = inl is
   from_one v e less (inr (inl is)) = inr (inl is)
   from_one v e less (inr (inr is)) = inr (inr (inl (is.0 ∙ first_is (omega (arith, is.0, less)), is.1)))
 
-  from_both : (v e : ℕ) → v < unreached → IsFrom mid second x.second_edge v e → IsFromEither old x n v e
+  from_both : (v e : ℕ) → v < no_value → IsFrom mid second x.second_edge v e → IsFromEither old x n v e
   from_both v e less (inl is) = subst (λ k. IsFromEither old x n k e) (sym is.0) (subst (IsFromEither old x n mid.first) (sym is.1) (from_one mid.first mid.first_edge (omega (arith, is.0, less)) one.first_from))
   from_both v e less (inr (inl is)) = subst (λ k. IsFromEither old x n k e) (sym is.0) (subst (IsFromEither old x n mid.second) (sym is.1) (from_one mid.second mid.second_edge (omega (arith, is.0, less)) one.second_from))
   from_both v e less (inr (inr is)) = inr (inr (inr (is.0 ∙ second_is (omega (arith, is.0, less)), is.1)))
@@ -90,7 +90,7 @@ module _ (x old mid new : Labels) (n first second : ℕ) (own : AreTwo x) (first
           | inr apart ↦ omega (arith, f.second apart, first_most, b.first)
           | inl is ↦ elim (cases_eq x.second_edge new.first_edge) [
             | inr apart ↦ omega (arith, s.second apart, second_most, b.second (λ same. differs (same ∙ is)))
-            | inl also ↦ elim (cases_lt x.second unreached) [
+            | inl also ↦ elim (cases_lt x.second no_value) [
               | inl less ↦ absurd (own.differ less (is ∙ sym also))
               | inr more ↦ omega (arith, more, b.second (λ same. differs (same ∙ is)), other.two.fits)
             ]

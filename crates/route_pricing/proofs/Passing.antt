@@ -6,7 +6,7 @@ use Rattle.std.proofs.lemmas.List.Sums.{sum_by-set}
 use Rattle.carp_base.specs.declared.edge.Task.{Task}
 use Rattle.carp_base.specs.declared.edge.Edge.{Edge}
 use Rattle.carp_base.specs.Problem.{IsReached, IsRequired, IsEdgeNumber, TasksLead, edge_at, tail_of, head_of}
-use Rattle.deadhead_paths.specs.Table.{unreached}
+use Rattle.route_pricing.specs.Partial.{no_value}
 use Rattle.route_pricing.specs.declared.grid.Grid.{Grid}
 use Rattle.route_pricing.specs.declared.labels.Labels.{Labels}
 use Rattle.route_pricing.specs.Partial.{IsGrid, width, column_task, task_start, task_end, between, crossed, Reaches, IsCell, IsJoin, IsLeastJoin}
@@ -57,7 +57,7 @@ module _ (g : Grid) (grid : IsGrid g) where
       }
 
   module _ (load from to n : ℕ) (x old new : Labels) (joined : AreLabelsJoined x n old new) (reached : IsReached g.inst from → IsReached g.inst to × (between g from to ≤ n)) (here : AreSoundAt g load to old) (there : AreSoundAt g load from x) where
-    label_sound : (v e : ℕ) → v < unreached → IsFromEither old x n v e → IsCarried g load to e v
+    label_sound : (v e : ℕ) → v < no_value → IsFromEither old x n v e → IsCarried g load to e v
     label_sound v e less (inl is) = subst (IsCarried g load to e) (sym is.0) (subst (λ d. IsCarried g load to d old.first) (sym is.1) (here.first (omega (arith, less, is.0))))
     label_sound v e less (inr (inl is)) = subst (IsCarried g load to e) (sym is.0) (subst (λ d. IsCarried g load to d old.second) (sym is.1) (here.second (omega (arith, less, is.0))))
     label_sound v e less (inr (inr (inl is))) =
@@ -166,10 +166,10 @@ module _ (g : Grid) (grid : IsGrid g) where
       at : ℕ
       at = task_end g (column_task column)
 
-      own : value < unreached → IsCarried g load (task_end g (column_task column)) (column_task column).edge value
+      own : value < no_value → IsCarried g load (task_end g (column_task column)) (column_task column).edge value
       own less = record { vertex = at_in; last = column_task column; own = value; reaches = cell.attained less; edge_is = refl; most = omega (arith, grid.stay (task_end g (column_task column)) at_in) }
 
-      one : (v e : ℕ) → v < unreached → ((v ≡ old.first) × (e ≡ old.first_edge)) ⊎ (((v ≡ old.second) × (e ≡ old.second_edge)) ⊎ ((v ≡ value) × (e ≡ (column_task column).edge))) → IsCarried g load (task_end g (column_task column)) e v
+      one : (v e : ℕ) → v < no_value → ((v ≡ old.first) × (e ≡ old.first_edge)) ⊎ (((v ≡ old.second) × (e ≡ old.second_edge)) ⊎ ((v ≡ value) × (e ≡ (column_task column).edge))) → IsCarried g load (task_end g (column_task column)) e v
       one v e less (inl is) = subst (IsCarried g load (task_end g (column_task column)) e) (sym is.0) (subst (λ d. IsCarried g load (task_end g (column_task column)) d old.first) (sym is.1) (sound.first (omega (arith, less, is.0))))
       one v e less (inr (inl is)) = subst (IsCarried g load (task_end g (column_task column)) e) (sym is.0) (subst (λ d. IsCarried g load (task_end g (column_task column)) d old.second) (sym is.1) (sound.second (omega (arith, less, is.0))))
       one v e less (inr (inr is)) = subst (IsCarried g load (task_end g (column_task column)) e) (sym is.0) (subst (λ d. IsCarried g load (task_end g (column_task column)) d value) (sym is.1) (own (omega (arith, less, is.0))))
@@ -212,22 +212,22 @@ module _ (g : Grid) (grid : IsGrid g) where
     carried_required : (v e : ℕ) → IsCarried g load at e v → IsRequired g.inst e
     carried_required v e c = subst (IsRequired g.inst) c.edge_is (reaches_required g grid c.last load c.own c.reaches)
 
-    first_below : here.first ≢ unreached → here.first < unreached
+    first_below : here.first ≢ no_value → here.first < no_value
     first_below some = omega (arith, some, are_two.ordered, are_two.fits)
 
-    second_below : here.second ≢ unreached → here.second < unreached
+    second_below : here.second ≢ no_value → here.second < no_value
     second_below some = omega (arith, some, are_two.fits)
 
-    pub first_required : here.first ≢ unreached → IsRequired g.inst here.first_edge
+    pub first_required : here.first ≢ no_value → IsRequired g.inst here.first_edge
     first_required some = carried_required here.first here.first_edge ((are.sound at here_in).first (first_below some))
 
-    pub second_required : here.second ≢ unreached → IsRequired g.inst here.second_edge
+    pub second_required : here.second ≢ no_value → IsRequired g.inst here.second_edge
     second_required some = carried_required here.second here.second_edge ((are.sound at here_in).second (second_below some))
 
-    pub best_none : unreached ≤ here.first → IsLeastJoin g load t unreached
+    pub best_none : no_value ≤ here.first → IsLeastJoin g load t no_value
     best_none none = record { attained = λ less. absurd (omega (arith, less)); least = λ m j. omega (arith, none, (bound m j).first) }
 
-    pub best_first : here.first ≢ unreached → may_edge here.first_edge ≡ true → IsLeastJoin g load t here.first
+    pub best_first : here.first ≢ no_value → may_edge here.first_edge ≡ true → IsLeastJoin g load t here.first
     best_first some allowed = record {
       attained = λ less. label_join here.first here.first_edge ((are.sound at here_in).first less) allowed (λ m j _. (bound m j).first);
       least = λ m j. (bound m j).first;
@@ -236,10 +236,10 @@ module _ (g : Grid) (grid : IsGrid g) where
     other : (m : ℕ) (j : IsJoin g load t m) → may_edge here.first_edge ≡ false → here.second ≤ m
     other m j excluded = (bound m j).second (λ same. not_both (may_edge here.first_edge) (subst (λ d. may_edge d ≡ true) same j.allowed) excluded)
 
-    pub best_no_second : may_edge here.first_edge ≡ false → unreached ≤ here.second → IsLeastJoin g load t unreached
+    pub best_no_second : may_edge here.first_edge ≡ false → no_value ≤ here.second → IsLeastJoin g load t no_value
     best_no_second excluded none = record { attained = λ less. absurd (omega (arith, less)); least = λ m j. omega (arith, none, other m j excluded) }
 
-    pub best_second : may_edge here.first_edge ≡ false → here.second ≢ unreached → may_edge here.second_edge ≡ true → IsLeastJoin g load t here.second
+    pub best_second : may_edge here.first_edge ≡ false → here.second ≢ no_value → may_edge here.second_edge ≡ true → IsLeastJoin g load t here.second
     best_second excluded some allowed = record {
       attained = λ less. label_join here.second here.second_edge ((are.sound at here_in).second less) allowed (λ m j _. other m j excluded);
       least = λ m j. other m j excluded;
