@@ -13,33 +13,36 @@ struct Border {
     demand: u64,
 }
 
-/// The number of required edges with exactly one end in the set.
+/// The number of required edges with exactly one end in the set, at most 600.
 ///
 /// It takes no memory, and time in proportion to the number of required edges.
 pub fn required_crossings(inst: &Instance, s: &Shore) -> u64
     requires { Belongs inst.now s.now }
-    ensures { result ≡ required_crossings inst.now (is_in s.now) }
+    ensures value { result ≡ required_crossings inst.now (is_in s.now) }
+    ensures small { result ≤ 600 }
 {
     border_of(inst, s).crossings
 }
 
-/// The demand of the required edges with at least one end in the set.
+/// The demand of the required edges with at least one end in the set, at most 18,000,000.
 ///
 /// It takes no memory, and time in proportion to the number of required edges.
 pub fn touched(inst: &Instance, s: &Shore) -> u64
     requires { Belongs inst.now s.now }
-    ensures { result ≡ touched inst.now (is_in s.now) }
+    ensures value { result ≡ touched inst.now (is_in s.now) }
+    ensures small { result ≤ 18000000 }
 {
     border_of(inst, s).demand
 }
 
 /// The least number of deadheads over the set that parity and the number of vehicles ask for (Belenguer and Benavent
-/// 1998): every lawful plan has as many.
+/// 1998), at most 36,000,000: every lawful plan has at least as many.
 ///
 /// It takes no memory, and time in proportion to the number of required edges.
 pub fn need(inst: &Instance, s: &Shore) -> u64
     requires { Belongs inst.now s.now }
-    ensures { result ≡ need inst.now (is_in s.now) }
+    ensures value { result ≡ need inst.now (is_in s.now) }
+    ensures small { result ≤ 36000000 }
 {
     let border = border_of(inst, s);
     let vehicles = border.demand.div_ceil(inst.capacity());
@@ -50,7 +53,8 @@ pub fn need(inst: &Instance, s: &Shore) -> u64
 fn border_of(inst: &Instance, s: &Shore) -> Border
     ensures crossings { result.crossings ≡ required_crossings inst.now (is_in s.now) }
     ensures demand { result.demand ≡ touched inst.now (is_in s.now) }
-    ensures small { result.demand ≤ 600 * 30000 }
+    ensures few { result.crossings ≤ 600 }
+    ensures small { result.demand ≤ 18000000 }
 {
     let mut crossings = 0;
     let mut demand = 0;
