@@ -16,8 +16,8 @@ pub fn least_prices_are_there()
     ensures tasks { LeastDeadheadIsThere }
 {}
 
-/// The services of a lawful walk are a relaxed tour, whose least deadhead is at most that of the walk; a walk by least paths
-/// costs just its services and their least deadhead.
+/// The services of a lawful walk that serves are a relaxed tour; the least deadhead of a walk's services is at most what its
+/// other steps cost, and a walk by least paths costs just its services and that.
 pub fn walks_are_task_tours()
     ensures tour { WalkIsTaskTour }
     ensures least { LeastDeadheadIsLeast }
