@@ -1,0 +1,16 @@
+pub mod Signed
+pub mod Bound
+pub mod Paying
+pub mod Apart
+pub mod Line
+pub mod Meeting
+pub mod Heavy
+pub mod Ruling
+pub mod Fixed
+pub mod TreeBound
+pub mod Preorder
+pub mod Reverse
+pub mod Labels
+pub mod ChainLoads
+pub mod Turns
+pub mod Symmetry

@@ -1,0 +1,5 @@
+use Rattle.branch_rules.proofs.TreeBound.{void_met_law}
+use Rattle.branch_rules.proofs.laws.void_is_met_by_none.Goals as goal
+
+pub returns : goal.returns
+returns c = void_met_law c.need_is_met.ensures.sets

@@ -1,0 +1,119 @@
+-- Trees of decisions, and the bound that they show.
+use Rattle.std.specs.Prelude.{◌≡◌, ℕ, zero, suc, ◌+◌, ◌-◌, ◌≤◌, ◌<◌, pos, ◌-ℤ◌, ◌*ℤ◌, ◌<ℤ◌, List, [], ◌∷◌, ◌++◌, length, slice_index_or, ◌⊎◌, IfSome, false}
+use Rattle.std.specs.List.{AllByRecursion}
+use Rattle.carp_base.specs.Problem.{Problem, IsValid, IsRequired}
+use Rattle.cut_pool.specs.Shores.{is_in}
+use Rattle.branch_rules.specs.Prices.{Prices, Fits, value_of}
+use Rattle.branch_rules.specs.Decisions.{rules_of, lower_of, lowest, Excluded, IsDetermined, IsVoid, IsFixed}
+use Rattle.branch_rules.specs.FixedValue.{HasFixedValue}
+use Rattle.branch_rules.specs.declared.decision.Decision.{Decision}
+use Rattle.branch_rules.specs.declared.decision.Decision.TheVariants.{Yes, No, Low, High}
+use Rattle.branch_rules.specs.declared.node.Node.{Node}
+use Rattle.branch_rules.specs.declared.node.Node.TheVariants.{Pair, Cut, Price, Void, Fixed}
+
+-- a tree: a pair or a cut with two subtrees, or a leaf
+pub data Tree : Type 0 where
+  pair : (a b : ℕ) (together apart : Tree) → Tree
+  cut : (shore k : ℕ) (below above : Tree) → Tree
+  price : (set : ℕ) → Tree
+  void : Tree
+  fixed : Tree
+
+-- the nodes of a tree, each before its children, the first child before the second
+abbrev pub preorder : Tree → List Node
+preorder (pair a b together apart) = Pair a b ∷ (preorder together ++ preorder apart)
+preorder (cut shore k below above) = Cut shore k ∷ (preorder below ++ preorder above)
+preorder (price set) = Price set ∷ []
+preorder void = Void ∷ []
+preorder fixed = Fixed ∷ []
+
+-- what a certificate has beside its tree
+pub record Support : Type 0 where
+  pub problem : Problem
+  pub pool : List (List ℕ)
+  pub sets : List Prices
+
+-- what stands where there is no price set
+abbrev pub no_prices : Prices
+no_prices = record { unit = 0; services = []; weights = [] }
+
+-- the price set of a number from 1; 0 and the numbers past the last one are of no set
+abbrev pub set_at : Support → ℕ → Prices
+set_at c zero = no_prices
+set_at c (suc k) = slice_index_or c.sets k no_prices
+
+-- fitting prices, and a value that shows the bound
+pub record PricesShow (c : Support) (branch : List Decision) (set : Prices) (bound : ℕ) : Type 0 where
+  pub fits : Fits c.problem c.pool (rules_of c.problem c.pool branch) (λ a b. ¬ (Excluded c.problem branch a b)) set
+  pub above : (pos set.unit *ℤ (pos bound -ℤ pos 1)) <ℤ value_of (rules_of c.problem c.pool branch) set
+
+-- the same for the price set of a number
+abbrev pub PriceShows : Support → List Decision → ℕ → ℕ → Type 0
+PriceShows c branch bound set = (1 ≤ set) × (set ≤ length c.sets) × PricesShow c branch (set_at c set) bound
+
+-- a fixed branch, and a fixed value that is at least the bound
+pub record FixedShows (c : Support) (branch : List Decision) (bound : ℕ) : Type 0 where
+  pub settled : IsFixed c.problem c.pool branch
+  pub value : ℕ
+  pub fixed : HasFixedValue c.problem branch value
+  pub enough : bound ≤ value
+
+-- each leaf shows the bound under the decisions on the way to it
+abbrev pub Shows : Support → List Decision → ℕ → Tree → Type 0
+Shows c branch bound (pair a b together apart) =
+    Shows c (branch ++ Yes a b ∷ []) bound together × Shows c (branch ++ No a b ∷ []) bound apart
+Shows c branch bound (cut shore k below above) =
+    Shows c (branch ++ Low shore k ∷ []) bound below × Shows c (branch ++ High shore k ∷ []) bound above
+Shows c branch bound (price set) = PriceShows c branch bound set
+Shows c branch bound void = IsVoid c.problem c.pool branch
+Shows c branch bound fixed = FixedShows c branch bound
+
+-- no split is settled beforehand, and no path has more than that many cuts
+abbrev pub IsLean : Support → List Decision → ℕ → Tree → Type 0
+IsLean c branch cuts (pair a b together apart) =
+    ¬ (IsDetermined c.problem branch a b) × IsLean c (branch ++ Yes a b ∷ []) cuts together × IsLean c (branch ++ No a b ∷ []) cuts apart
+IsLean c branch cuts (cut shore k below above) =
+    (1 ≤ cuts) × (lower_of c.problem c.pool branch shore ≤ k) × IfSome (lowest shore branch) (λ u. k < u)
+    × IsLean c (branch ++ Low shore k ∷ []) (cuts - 1) below × IsLean c (branch ++ High shore k ∷ []) (cuts - 1) above
+IsLean c branch cuts (price set) = Unit {0}
+IsLean c branch cuts void = Unit {0}
+IsLean c branch cuts fixed = Unit {0}
+
+-- 1 where the fact holds, else 0
+abbrev pub IsTest : Type 0 → ℕ → Type 0
+IsTest P n = (P × (n ≡ 1)) ⊎ (¬ P × (n ≡ 0))
+
+-- the inner nodes and the leaves that show the cost
+abbrev pub HasTurns : Support → List Decision → ℕ → Tree → ℕ → Type 0
+HasTurns c branch cost (pair a b together apart) n =
+    (i j : ℕ) × HasTurns c (branch ++ Yes a b ∷ []) cost together i × HasTurns c (branch ++ No a b ∷ []) cost apart j × (n ≡ i + j + 1)
+HasTurns c branch cost (cut shore k below above) n =
+    (i j : ℕ) × HasTurns c (branch ++ Low shore k ∷ []) cost below i × HasTurns c (branch ++ High shore k ∷ []) cost above j × (n ≡ i + j + 1)
+HasTurns c branch cost (price set) n = IsTest (PriceShows c branch cost set) n
+HasTurns c branch cost void n = IsTest (IsVoid c.problem c.pool branch) n
+HasTurns c branch cost fixed n = IsTest (FixedShows c branch cost) n
+
+-- the same read off a list of nodes: each node stands under the first of the branches that wait
+abbrev pub NodesShow : Support → ℕ → List Node → List (List Decision) → Type 0
+NodesShow c bound [] [] = Unit {0}
+NodesShow c bound [] (branch ∷ waiting) = ⊥
+NodesShow c bound (node ∷ nodes) [] = ⊥
+NodesShow c bound (Pair a b ∷ nodes) (branch ∷ waiting) = NodesShow c bound nodes ((branch ++ Yes a b ∷ []) ∷ (branch ++ No a b ∷ []) ∷ waiting)
+NodesShow c bound (Cut shore k ∷ nodes) (branch ∷ waiting) = NodesShow c bound nodes ((branch ++ Low shore k ∷ []) ∷ (branch ++ High shore k ∷ []) ∷ waiting)
+NodesShow c bound (Price set ∷ nodes) (branch ∷ waiting) = PriceShows c branch bound set × NodesShow c bound nodes waiting
+NodesShow c bound (Void ∷ nodes) (branch ∷ waiting) = IsVoid c.problem c.pool branch × NodesShow c bound nodes waiting
+NodesShow c bound (Fixed ∷ nodes) (branch ∷ waiting) = FixedShows c branch bound × NodesShow c bound nodes waiting
+
+-- the pairs of the tree are of required edges
+abbrev pub PairsIn : Problem → Tree → Type 0
+PairsIn p (pair a b together apart) = IsRequired p a × IsRequired p b × PairsIn p together × PairsIn p apart
+PairsIn p (cut shore k below above) = PairsIn p below × PairsIn p above
+PairsIn p (price set) = Unit {0}
+PairsIn p void = Unit {0}
+PairsIn p fixed = Unit {0}
+
+-- what the support must meet beside the tree: no shore has the depot, and each price set has a price for each required edge
+pub record IsSoundSupport (c : Support) : Type 0 where
+  pub valid : IsValid c.problem
+  pub shores : AllByRecursion (λ shore. is_in shore c.problem.depot ≡ false) c.pool
+  pub sets : (i : ℕ) → 1 ≤ i → i ≤ length c.sets → length (set_at c i).services ≡ c.problem.required

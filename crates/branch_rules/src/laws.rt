@@ -1,0 +1,79 @@
+// Laws over branches, price sets and trees, as functions whose contract is the law.
+ghost use Rattle.branch_rules.specs.Laws.{
+  ExcludedAreApart,
+  ExcludedIsSymmetric,
+  VoidIsMetByNone,
+  NumbersAreKept,
+  FixedValueBounds,
+  FixedBranchBounds,
+  ValueIsBelow,
+  PricesBound,
+  TreeBounds,
+  LeanIsSmall,
+  NodesShowTree,
+};
+
+use cut_pool::need_is_met;
+use deadhead_paths::{least_prices_are_there, walks_are_task_tours};
+use plan_model::required_edges_are_served_once;
+
+/// No excluded pair are neighbours in a lawful plan that meets the branch. The order of an excluded pair is free.
+pub fn excluded_pairs_are_apart()
+    ensures apart { ExcludedAreApart }
+    ensures symmetric { ExcludedIsSymmetric }
+{}
+
+/// No lawful plan meets a void branch.
+pub fn void_is_met_by_none()
+    ensures { VoidIsMetByNone }
+{
+    need_is_met();
+}
+
+/// A lawful plan that meets a branch keeps between the lower and the upper number of each shore.
+pub fn numbers_are_kept()
+    ensures { NumbersAreKept }
+{
+    need_is_met();
+}
+
+/// A lawful plan whose neighbours are just the yes pairs costs at least the fixed value, and so does every lawful plan that
+/// meets a fixed branch.
+pub fn fixed_value_bounds()
+    ensures spelt { FixedValueBounds }
+    ensures met { FixedBranchBounds }
+{
+    required_edges_are_served_once();
+}
+
+/// The value of a price set that fits under a branch is at most its denominator times the cost of each lawful plan that meets
+/// the branch; where it is above the denominator times a bound less 1, the plan costs at least the bound.
+pub fn prices_bound()
+    ensures below { ValueIsBelow }
+    ensures bound { PricesBound }
+{
+    required_edges_are_served_once();
+    need_is_met();
+    least_prices_are_there();
+    walks_are_task_tours();
+}
+
+/// A tree that shows a bound shows it for every lawful plan.
+pub fn tree_bounds()
+    ensures { TreeBounds }
+{
+    required_edges_are_served_once();
+    need_is_met();
+    least_prices_are_there();
+    walks_are_task_tours();
+}
+
+/// A lean tree has few turns.
+pub fn lean_trees_are_small()
+    ensures { LeanIsSmall }
+{}
+
+/// A list of nodes in preorder shows a bound exactly where its tree does.
+pub fn nodes_show_their_tree()
+    ensures { NodesShowTree }
+{}
