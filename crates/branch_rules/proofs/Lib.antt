@@ -9,8 +9,9 @@ pub mod Ruling
 pub mod Fixed
 pub mod TreeBound
 pub mod Preorder
-pub mod Reverse
 pub mod Labels
 pub mod ChainLoads
 pub mod Turns
 pub mod Symmetry
+pub mod Small
+pub mod SmallTrees

@@ -1,0 +1,7 @@
+use Rattle.std.proofs.Common.{refl, inl, lit≤, arith}
+use Rattle.std.proofs.lemmas.Int.{ints}
+use Rattle.branch_rules.proofs.SmallTrees.{town_shows}
+use Rattle.branch_rules.proofs.examples.a_lean_tree.Goals as goal
+
+pub returns-clause-closed : goal.returns-clause-closed
+returns-clause-closed c = inl (town_shows, refl)
