@@ -1,4 +1,7 @@
 pub mod Signed
+pub mod EdgeCosts
+pub mod ShoreNumbers
+pub mod Needs
 pub mod Bound
 pub mod Paying
 pub mod Apart

@@ -5,12 +5,13 @@ use Rattle.std.specs.List.{AllByRecursion, sum_by, list_any}
 use Rattle.std.proofs.lemmas.Bool.{eqb-true, or_cases, or_left, or_right}
 use Rattle.carp_base.specs.Problem.{Problem, IsValid, IsRequired, edge_at}
 use Rattle.plan_model.specs.Plans.{IsLawful, deadheads_over}
+use Rattle.plan_model.specs.Offers.{smaller}
 use Rattle.plan_model.specs.declared.step.Step.{Step}
 use Rattle.cut_pool.specs.Shores.{is_in}
 use Rattle.cut_pool.specs.Laws.{NeedIsMet}
 use Rattle.branch_rules.specs.Neighbours.{AreNeighbours}
 use Rattle.cut_pool.specs.Pools.{shore_at}
-use Rattle.branch_rules.specs.Decisions.{MeetsAll, says_yes, IsYes, YesPath, AreJoined, Detour, highest, lowest, least_of, to_parity, lower_of, Excluded, IsVoid, IsFixed, Spells, same, said_no, first_full, second_full, closes, heavy, three, cycle, heavy_chain, crossed}
+use Rattle.branch_rules.specs.Decisions.{MeetsAll, says_yes, IsYes, YesPath, AreJoined, Detour, highest, lowest, to_parity, lower_of, Excluded, IsVoid, IsFixed, Spells, same, said_no, first_full, second_full, closes, heavy, three, cycle, heavy_chain, crossed}
 use Rattle.branch_rules.specs.declared.decision.Decision.{Decision}
 use Rattle.branch_rules.specs.declared.decision.Decision.TheVariants.{Yes, No, Low, High}
 use Rattle.branch_rules.proofs.Line.{neighbours_required}
@@ -45,7 +46,7 @@ detour_of branch a b x (z ∷ path) y never joined = (
 )
 
 -- the least of the low decisions is a bound from above, and the greatest of the high ones from below
-low_step : (b : Bool) (k n : ℕ) (o : Option ℕ) → (b ≡ true → n ≤ k) → IfSome o (λ j. n ≤ j) → IfSome (if b then least_of k o else o) (λ j. n ≤ j)
+low_step : (b : Bool) (k n : ℕ) (o : Option ℕ) → (b ≡ true → n ≤ k) → IfSome o (λ j. n ≤ j) → IfSome (if b then smaller (Some k) o else o) (λ j. n ≤ j)
 low_step true k n None here rest = here refl
 low_step true k n (Some j) here rest = omega (arith, here refl)
 low_step false k n o here rest = rest

@@ -1,8 +1,9 @@
 -- Decisions, what a plan must do to meet them, and the chains that they make.
-use Rattle.std.specs.Prelude.{◌≡◌, ◌≢◌, ℕ, ◌+◌, ◌%◌, ◌≤◌, ◌<◌, Bool, false, ◌&&◌, ◌||◌, ◌==◌, not, List, [], ◌∷◌, if◌then◌else◌, sum_by, IsTrue, ◌⊎◌, Option, Some, None, max, min}
+use Rattle.std.specs.Prelude.{◌≡◌, ◌≢◌, ℕ, ◌+◌, ◌%◌, ◌≤◌, ◌<◌, Bool, false, ◌&&◌, ◌||◌, ◌==◌, not, List, [], ◌∷◌, if◌then◌else◌, sum_by, IsTrue, ◌⊎◌, Option, Some, None, max}
 use Rattle.std.specs.List.{AllByRecursion, list_any}
 use Rattle.carp_base.specs.Problem.{Problem, IsRequired, edge_at}
 use Rattle.plan_model.specs.Plans.{deadheads_over}
+use Rattle.plan_model.specs.Offers.{smaller}
 use Rattle.plan_model.specs.declared.step.Step.{Step}
 use Rattle.cut_pool.specs.Shores.{is_in, need, required_crossings}
 use Rattle.branch_rules.specs.Neighbours.{AreNeighbours}
@@ -96,16 +97,12 @@ highest shore (No a b ∷ rest) = highest shore rest
 highest shore (Low s k ∷ rest) = highest shore rest
 highest shore (High s k ∷ rest) = if s == shore then max (k + 1) (highest shore rest) else highest shore rest
 
-abbrev pub least_of : ℕ → Option ℕ → Option ℕ
-least_of k None = Some k
-least_of k (Some n) = Some (min k n)
-
 -- the upper number of a shore: the least k of its low decisions
 abbrev pub lowest : ℕ → List Decision → Option ℕ
 lowest shore [] = None
 lowest shore (Yes a b ∷ rest) = lowest shore rest
 lowest shore (No a b ∷ rest) = lowest shore rest
-lowest shore (Low s k ∷ rest) = if s == shore then least_of k (lowest shore rest) else lowest shore rest
+lowest shore (Low s k ∷ rest) = if s == shore then smaller (Some k) (lowest shore rest) else lowest shore rest
 lowest shore (High s k ∷ rest) = lowest shore rest
 
 -- the least number of the parity of r that is at least n

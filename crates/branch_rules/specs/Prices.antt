@@ -22,18 +22,31 @@ pub record Prices : Type 0 where
   pub services : List ℤ
   pub weights : List Weight
 
+-- what stands where there is no weight
+abbrev pub no_weight : Weight
+no_weight = record { shore = 0; weight = pos 0 }
+
+-- the weight at a place from 0
+abbrev pub weight_at : Prices → ℕ → Weight
+weight_at set i = slice_index_or set.weights i no_weight
+
+-- the edge crosses the shore of a number
 abbrev pub crosses_shore : List (List ℕ) → ℕ → Edge → Bool
 crosses_shore pool i x = crosses (is_in (shore_at pool i)) x
+
+-- what a weight takes off the price of crossing an edge
+abbrev pub crossing_weight : List (List ℕ) → Edge → Weight → ℤ
+crossing_weight pool x w = if crosses_shore pool w.shore x then w.weight else pos 0
 
 -- the price of serving the edge of a number from 1; 0 and the numbers past the last price have none, which is read as 0
 abbrev pub price_in : Prices → ℕ → ℤ
 price_in set zero = pos 0
 price_in set (suc k) = slice_index_or set.services k (pos 0)
 
--- the price of crossing an edge without serving it
+-- the price of crossing an edge without serving it: its cost in units, less the weights of the shores that it crosses
 abbrev pub deadhead_price : List (List ℕ) → Prices → Edge → ℤ
 deadhead_price pool set x =
-    pos (set.unit * x.cost) -ℤ signed_sum (λ w. if crosses_shore pool w.shore x then w.weight else pos 0) set.weights
+    pos (set.unit * x.cost) -ℤ signed_sum (crossing_weight pool x) set.weights
 
 -- the price of crossing each edge without service, in the order of the edges, where none is negative
 abbrev pub crossing_prices : Problem → List (List ℕ) → Prices → List ℕ

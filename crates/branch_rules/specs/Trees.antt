@@ -27,6 +27,15 @@ preorder (price set) = Price set ∷ []
 preorder void = Void ∷ []
 preorder fixed = Fixed ∷ []
 
+-- a list of nodes, and the number of nodes for which there is memory
+pub record NodeList : Type 0 where
+  pub nodes : List Node
+  pub room : ℕ
+
+-- the node at a place from 0
+abbrev pub node_at : List Node → ℕ → Node
+node_at nodes i = slice_index_or nodes i Void
+
 -- what a certificate has beside its tree
 pub record Support : Type 0 where
   pub problem : Problem

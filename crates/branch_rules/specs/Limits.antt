@@ -1,0 +1,44 @@
+-- The limits of price sets and of decisions, under which every sum fits 128 bits.
+use Rattle.std.specs.Prelude.{◌≢◌, ℕ, ◌≤◌, ℤ, pos, neg_ℤ, ◌≤ℤ◌, List, length, map}
+use Rattle.std.specs.List.{All}
+use Rattle.std.specs.List.Sorted.{IsStrictlyIncreasing}
+use Rattle.carp_base.specs.Problem.{Problem}
+use Rattle.cut_pool.specs.Pools.{IsShoreNumber, shore_at}
+use Rattle.cut_pool.specs.Shores.{Belongs}
+use Rattle.branch_rules.specs.Prices.{Prices}
+use Rattle.branch_rules.specs.declared.weight.Weight.{Weight}
+use Rattle.branch_rules.specs.declared.decision.Decision.{Decision}
+use Rattle.branch_rules.specs.declared.decision.Decision.TheVariants.{Yes, No, Low, High}
+
+-- a price or a weight, within 10^15 either way
+pub record IsPriceNumber (z : ℤ) : Type 0 where
+  pub low : neg_ℤ (pos 1000000000000000) ≤ℤ z
+  pub high : z ≤ℤ pos 1000000000000000
+
+-- a weight that is not 0, on the shore of a number from 1
+pub record IsFineWeight (w : Weight) : Type 0 where
+  pub from_one : 1 ≤ w.shore
+  pub some : w.weight ≢ pos 0
+  pub within : IsPriceNumber w.weight
+
+-- a unit from 1 to 1,000,000, at most 600 prices, and at most 2,000 weights on shores of rising numbers
+pub record IsPriceSet (set : Prices) : Type 0 where
+  pub some_unit : 1 ≤ set.unit
+  pub unit_in : set.unit ≤ 1000000
+  pub few_services : length set.services ≤ 600
+  pub services : All IsPriceNumber set.services
+  pub few_weights : length set.weights ≤ 2000
+  pub weights : All IsFineWeight set.weights
+  pub rising : IsStrictlyIncreasing (map (λ w. w.shore) set.weights)
+
+-- the number of a cut is at most 1,000,000
+abbrev pub IsFineDecision : Decision → Type 0
+IsFineDecision (Yes a b) = Unit {0}
+IsFineDecision (No a b) = Unit {0}
+IsFineDecision (Low shore k) = k ≤ 1000000
+IsFineDecision (High shore k) = k ≤ 1000000
+
+-- the number of a shore of the pool that belongs to the instance
+pub record IsShoreOf (p : Problem) (pool : List (List ℕ)) (shore : ℕ) : Type 0 where
+  pub number : IsShoreNumber pool shore
+  pub belongs : Belongs p (shore_at pool shore)

@@ -1,0 +1,23 @@
+-- Which edge or which shore a refusal names.
+use Rattle.std.specs.Prelude.{◌≡◌, ℕ, ◌<◌, pos, ◌≤ℤ◌, ◌<ℤ◌, List}
+use Rattle.carp_base.specs.Problem.{Problem, IsEdgeNumber, edge_at}
+use Rattle.carp_base.specs.declared.fail.Fail.{Fail}
+use Rattle.carp_base.specs.declared.fail.Fail.TheVariants.{Memory, Refused}
+use Rattle.branch_rules.specs.Prices.{Prices, deadhead_price}
+use Rattle.branch_rules.specs.declared.price_set.TooHeavy.{TooHeavy}
+
+-- no deadhead price is negative
+abbrev pub NoneTooHeavy : Problem → List (List ℕ) → Prices → Type 0
+NoneTooHeavy p pool set = (e : ℕ) → IsEdgeNumber p e → pos 0 ≤ℤ deadhead_price pool set (edge_at p e)
+
+-- the least edge whose deadhead price is negative, and that price
+pub record IsTooHeavy (p : Problem) (pool : List (List ℕ)) (set : Prices) (heavy : TooHeavy) : Type 0 where
+  pub edge : IsEdgeNumber p heavy.edge
+  pub price : heavy.price ≡ deadhead_price pool set (edge_at p heavy.edge)
+  pub negative : heavy.price <ℤ pos 0
+  pub before : (e : ℕ) → IsEdgeNumber p e → e < heavy.edge → pos 0 ≤ℤ deadhead_price pool set (edge_at p e)
+
+-- a refusal names that edge
+abbrev pub RefusesHeavy : Problem → List (List ℕ) → Prices → Fail TooHeavy → Type 0
+RefusesHeavy p pool set Memory = Unit {0}
+RefusesHeavy p pool set (Refused heavy) = IsTooHeavy p pool set heavy

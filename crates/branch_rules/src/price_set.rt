@@ -1,0 +1,194 @@
+// Prices of services and weights of shores.
+ghost use Rattle.std.specs.Prelude.{◌≡◌, ◌-◌, ◌*◌, ◌+◌, ◌<◌, ◌≤◌, pos, neg_ℤ, ◌-ℤ◌, ◌≤ℤ◌, length, IfErr, IfOk, OnOk, All};
+ghost use Rattle.carp_base.specs.declared.edge.Edge.{Edge};
+ghost use Rattle.cut_pool.specs.Pools.{IsShoreNumber};
+ghost use Rattle.deadhead_paths.specs.Prices.{ArePrices};
+ghost use Rattle.branch_rules.specs.Limits.{IsFineWeight, IsPriceNumber, IsPriceSet};
+ghost use Rattle.branch_rules.specs.Prices.{Prices, crossing_prices, crossing_weight, deadhead_price, price_in, signed_sum, weight_at};
+ghost use Rattle.branch_rules.specs.Refusals.{NoneTooHeavy, RefusesHeavy};
+ghost use Rattle.branch_rules.specs.Signs.{IsBelowNothing};
+
+use crate::Weight;
+use carp_base::{Edge, Fail, Instance, Memory};
+use cut_pool::ShorePool;
+use std::alloc::Global;
+use std::marker::Model;
+
+/// The deadhead price of an edge is negative: the weights of the shores that the edge crosses are more than its cost.
+#[derive(Clone, Copy, Debug, PartialEq, Eq)]
+pub struct TooHeavy {
+    /// The least such edge, from 1.
+    pub edge: u32,
+    /// Its deadhead price.
+    pub price: i128,
+}
+
+/// A price for each required edge and weights on shores, as whole numbers of one part of a denominator (Bode and Irnich
+/// 2012, section 3).
+///
+/// All are within 10^15 either way, on at most 600 services and 2,000 shores, and the denominator is 1 to 1,000,000.
+/// Contracts see them as they are.
+#[derive(Drop)]
+pub struct PriceSet {
+    unit: u64,
+    services: Vec<i64>,
+    weights: Vec<Weight>,
+}
+
+impl Model for PriceSet {
+    ghost use Rattle.branch_rules.specs.Prices.{Prices};
+    ghost use Rattle.branch_rules.specs.Limits.{IsPriceSet};
+
+    ghost Value = { Prices };
+
+    ghost view = { λ s. record { unit = s.unit; services = s.services.items; weights = s.weights.items } };
+
+    ghost invariant = { λ s. IsPriceSet (record { unit = s.unit; services = s.services.items; weights = s.weights.items }) };
+}
+
+impl PriceSet {
+    /// The set of these prices, by the numbers of the required edges, and of these weights, which are not 0 and on shores of
+    /// rising numbers.
+    pub fn new(
+        alloc: Global,
+        unit: u64,
+        services: &[i64],
+        weights: &[Weight],
+    ) -> Result<PriceSet, Memory>
+        requires { IsPriceSet (record { unit = unit; services = services.now; weights = weights.now }) }
+        ensures { IfOk result (λ set. set ≡ record { unit = unit; services = services.now; weights = weights.now }) }
+    {
+        Ok(PriceSet {
+            unit,
+            services: Vec::from_slice(alloc, services)?,
+            weights: Vec::from_slice(alloc, weights)?,
+        })
+    }
+
+    /// The denominator, 1 to 1,000,000.
+    pub fn unit(&self) -> u64
+        ensures value { result ≡ self.now.unit }
+        ensures fine { IsPriceSet self.now }
+    {
+        self.unit
+    }
+
+    /// The price of serving the edge of a number from 1.
+    pub fn service(&self, e: u32) -> i64
+        requires from_one { 1 ≤ e }
+        requires in_range { e ≤ length self.now.services }
+        ensures { result ≡ price_in self.now e }
+    {
+        self.services[e as usize - 1]
+    }
+
+    /// The number of prices of services, 0 to 600.
+    pub fn services(&self) -> usize
+        ensures value { result ≡ length self.now.services }
+        ensures fine { IsPriceSet self.now }
+    {
+        self.services.len()
+    }
+
+    /// The number of weights, 0 to 2,000.
+    pub fn weights(&self) -> usize
+        ensures value { result ≡ length self.now.weights }
+        ensures fine { IsPriceSet self.now }
+    {
+        self.weights.len()
+    }
+
+    /// The weight at a place from 0.
+    pub fn weight(&self, i: usize) -> Weight
+        requires { i < length self.now.weights }
+        ensures { result ≡ weight_at self.now i }
+    {
+        self.weights[i]
+    }
+
+    /// The price of crossing each edge without service, in the order of the edges, in parts of the denominator: the cost of
+    /// the edge, less the weights of the shores that it crosses.
+    ///
+    /// It is refused exactly where such a price is negative. With m edges and k weights it takes time in proportion to m k.
+    pub fn edge_prices(
+        &self,
+        alloc: Global,
+        inst: &Instance,
+        pool: &ShorePool,
+    ) -> Result<Vec<u64>, Fail<TooHeavy>>
+        requires { All (λ w. IsShoreNumber pool.now w.shore) self.now.weights }
+        ensures value { IfOk result (λ prices. prices.items ≡ crossing_prices inst.now pool.now self.now) }
+        ensures fit { IfOk result (λ prices. ArePrices inst.now prices.items) }
+        ensures accepted { OnOk result (NoneTooHeavy inst.now pool.now self.now) }
+        ensures refused { IfErr result (RefusesHeavy inst.now pool.now self.now) }
+    {
+        let edges = inst.edges();
+        let mut prices = Vec::with_capacity(alloc, edges.len())?;
+        for edge in edges {
+            match self.edge_price(pool, edge) {
+                Ok(price) => prices.push(price)?,
+                Err(price) => {
+                    let edge = prices.len() as u32 + 1;
+                    return Err(Fail::Refused(TooHeavy { edge, price }));
+                }
+            }
+        }
+        Ok(prices)
+    }
+
+    // The price of crossing an edge without service; as an error, where it is negative.
+    fn edge_price(&self, pool: &ShorePool, edge: &Edge) -> Result<u64, i128>
+        requires shores { All (λ w. IsShoreNumber pool.now w.shore) self.now.weights }
+        requires cost { edge.now.cost ≤ 1000000 }
+        ensures value { IfOk result (λ price. pos price ≡ deadhead_price pool.now self.now edge.now) }
+        ensures small { IfOk result (λ price. price ≤ 4000000000000000000) }
+        ensures negative { IfErr result (IsBelowNothing (deadhead_price pool.now self.now edge.now)) }
+    {
+        let full = self.unit as u128 * edge.cost as u128;
+        unsigned(full as i128 - weights_across(&self.weights, pool, edge))
+    }
+}
+
+// A number without its sign; as an error, where it is negative.
+fn unsigned(number: i128) -> Result<u64, i128>
+    requires low { neg_ℤ (pos 4000000000000000000) ≤ℤ number }
+    requires high { number ≤ℤ pos 4000000000000000000 }
+    ensures value { IfOk result (λ size. pos size ≡ number) }
+    ensures negative { IfErr result (IsBelowNothing number) }
+{
+    if number < 0 {
+        Err(number)
+    } else {
+        Ok(number as u64)
+    }
+}
+
+// The weights of the shores that an edge crosses.
+fn weights_across(weights: &[Weight], pool: &ShorePool, edge: &Edge) -> i128
+    requires few { length weights.now ≤ 2000 }
+    requires fine { All IsFineWeight weights.now }
+    requires shores { All (λ w. IsShoreNumber pool.now w.shore) weights.now }
+    ensures value { result ≡ signed_sum (crossing_weight pool.now edge.now) weights.now }
+    ensures low { neg_ℤ (pos 2000000000000000000) ≤ℤ result }
+    ensures high { result ≤ℤ pos 2000000000000000000 }
+{
+    let mut sum: i128 = 0;
+    for weight in weights {
+        sum += weight_across(weight, pool, edge);
+    }
+    sum
+}
+
+// What a weight takes off the price of an edge.
+fn weight_across(weight: &Weight, pool: &ShorePool, edge: &Edge) -> i128
+    requires number { IsShoreNumber pool.now weight.now.shore }
+    requires within { IsPriceNumber weight.now.weight }
+    ensures value { result ≡ crossing_weight pool.now edge.now weight.now }
+    ensures within { IsPriceNumber result }
+{
+    if pool.shore(weight.shore).crosses(edge) {
+        i128::from(weight.weight)
+    } else {
+        0
+    }
+}
