@@ -1,11 +1,12 @@
 -- The need of a set is small, so that lower numbers are.
-use Rattle.std.proofs.Common.{◌≡◌, ℕ, zero, suc, ◌+◌, ◌-◌, ◌*◌, ◌%◌, ◌≤◌, ◌<◌, Bool, true, false, List, [], ◌∷◌, length, take, get_or, ap, ◌∙◌, arith, min, max, ◌/◌, inl, inr}
+use Rattle.std.proofs.Common.{◌≡◌, ℕ, zero, suc, ◌+◌, ◌-◌, ◌*◌, ◌%◌, ◌≤◌, ◌<◌, Bool, true, false, List, [], ◌∷◌, length, take, get_or, ap, ◌∙◌, subst, arith, min, max, ◌/◌, inl, inr}
 use Rattle.std.specs.Prelude.{if◌then◌else◌}
 use Rattle.std.specs.Int.{div_ceil}
-use Rattle.std.specs.List.{AllByRecursion, sum_by}
+use Rattle.std.specs.List.{All, AllByRecursion, sum_by}
+use Rattle.std.proofs.lemmas.List.{get_or_default}
 use Rattle.std.proofs.lemmas.List.Sums.{sum_by-cons}
 use Rattle.std.proofs.lemmas.Grind.{div_ceil_times}
-use Rattle.std.proofs.lemmas.Bool.{cases_lt}
+use Rattle.std.proofs.lemmas.Bool.{cases_lt, cases_eq}
 use Rattle.std.proofs.Math.Nat.{mul-le-mul_left}
 use Rattle.carp_base.specs.declared.edge.Edge.{Edge}
 use Rattle.carp_base.specs.Problem.{Problem, IsValid, IsRequired, edge_at, no_edge, required_edges}
@@ -63,3 +64,13 @@ lower_by r wanted high n h s least least_is n_is h_is s_is =
     let parts : least + (least % 2 + s % 2) % 2 ≡ least + (least + s) % 2 = omega arith in
     let same : least ≡ max wanted high = omega (arith, least_is, n_is, h_is) in
     parts ∙ ap (λ m. m + (m + s) % 2) same ∙ ap (λ m. max wanted high + (max wanted high + m) % 2) s_is
+
+-- what holds at each place below the next one
+pub one_more : (P : ℕ → Type 0) (i : ℕ) → ((k : ℕ) → k < i → P k) → P i → (k : ℕ) → k < i + 1 → P k
+one_more P i before here k less = elim (cases_eq k i) [
+  | inl last ↦ rw last here
+  | inr other ↦ before k (omega (arith, less, other))
+]
+
+pub all_at : {X : Type 0} (P : X → Type 0) (xs : List X) (d : X) → ((k : ℕ) → k < length xs → P (get_or xs k d)) → All P xs
+all_at P xs d each k e less = subst P (get_or_default xs k d e less) (each k less)

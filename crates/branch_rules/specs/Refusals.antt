@@ -1,9 +1,13 @@
 -- Which edge or which shore a refusal names.
-use Rattle.std.specs.Prelude.{◌≡◌, ℕ, ◌<◌, pos, ◌≤ℤ◌, ◌<ℤ◌, List}
+use Rattle.std.specs.Prelude.{◌≡◌, ℕ, ◌<◌, pos, ◌≤ℤ◌, ◌<ℤ◌, List, length, IsSome}
 use Rattle.carp_base.specs.Problem.{Problem, IsEdgeNumber, edge_at}
 use Rattle.carp_base.specs.declared.fail.Fail.{Fail}
 use Rattle.carp_base.specs.declared.fail.Fail.TheVariants.{Memory, Refused}
-use Rattle.branch_rules.specs.Prices.{Prices, deadhead_price}
+use Rattle.branch_rules.specs.Prices.{Prices, deadhead_price, weight_at}
+use Rattle.branch_rules.specs.Decisions.{lowest}
+use Rattle.branch_rules.specs.declared.branch.NoUpper.{NoUpper}
+use Rattle.branch_rules.specs.declared.decision.Decision.{Decision}
+use Rattle.branch_rules.specs.declared.weight.Weight.{Weight}
 use Rattle.branch_rules.specs.declared.price_set.TooHeavy.{TooHeavy}
 
 -- no deadhead price is negative
@@ -21,3 +25,15 @@ pub record IsTooHeavy (p : Problem) (pool : List (List ℕ)) (set : Prices) (hea
 abbrev pub RefusesHeavy : Problem → List (List ℕ) → Prices → Fail TooHeavy → Type 0
 RefusesHeavy p pool set Memory = Unit {0}
 RefusesHeavy p pool set (Refused heavy) = IsTooHeavy p pool set heavy
+
+-- the shore has an upper number where the weight on it is negative
+abbrev pub HasUpper : List Decision → Weight → Type 0
+HasUpper branch w = w.weight <ℤ pos 0 → IsSome (lowest w.shore branch)
+
+-- the shore of the first negative weight whose shore has no upper number
+pub record IsWithoutUpper (branch : List Decision) (set : Prices) (refusal : NoUpper) : Type 0 where
+  pub place : ℕ
+  pub in_range : place < length set.weights
+  pub shore : refusal.shore ≡ (weight_at set place).shore
+  pub lacks : ¬ (HasUpper branch (weight_at set place))
+  pub before : (k : ℕ) → k < place → HasUpper branch (weight_at set k)

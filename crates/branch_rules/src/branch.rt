@@ -1,14 +1,24 @@
 // The decisions on the way to a node.
-ghost use Rattle.std.specs.Prelude.{◌≡◌, ◌-◌, ◌+◌, ◌<◌, ◌≤◌, ◌++◌, ◌∷◌, [], length, take, All, OnOk, OnErr, IfOk, IfErr};
+ghost use Rattle.std.specs.Prelude.{◌≡◌, ◌-◌, ◌+◌, ◌<◌, ◌≤◌, ◌++◌, ◌∷◌, [], length, take, pos, neg_ℤ, ◌*ℤ◌, ◌≤ℤ◌, All, OnOk, OnErr, IfOk, IfErr, IfSome};
 ghost use Rattle.branch_rules.specs.Decisions.{lower_of, lowest, highest, rules_of};
-ghost use Rattle.branch_rules.specs.Limits.{IsFineDecision, IsShoreOf};
+ghost use Rattle.branch_rules.specs.Limits.{IsFineDecision, IsPriceNumber, IsShoreOf};
+ghost use Rattle.branch_rules.specs.Prices.{signed_sum, value_of, weight_value};
+ghost use Rattle.branch_rules.specs.Refusals.{HasUpper, IsWithoutUpper};
+ghost use Rattle.branch_rules.specs.Signs.{LacksUpper};
 ghost use Rattle.plan_model.specs.Offers.{smaller};
 
-use crate::Decision;
+use crate::{Decision, PriceSet, Weight};
 use carp_base::{Instance, Memory};
 use cut_pool::{ShorePool, need, required_crossings};
 use std::alloc::Global;
 use std::marker::Model;
+
+/// A negative weight stands on a shore without an upper number.
+#[derive(Clone, Copy, Debug, PartialEq, Eq)]
+pub struct NoUpper {
+    /// The number of the shore of the first such weight, from 1.
+    pub shore: u32,
+}
 
 /// The decisions from the root of a tree to one of its nodes. Contracts see their list.
 #[derive(Drop)]
@@ -70,8 +80,11 @@ impl Branch {
     /// It takes no memory, and time in proportion to the numbers of required edges and of decisions.
     pub fn lower(&self, inst: &Instance, pool: &ShorePool, shore: u32) -> u64
         requires { IsShoreOf inst.now pool.now shore }
-        ensures { result ≡ lower_of inst.now pool.now self.now shore }
+        ensures value { result ≡ lower_of inst.now pool.now self.now shore }
+        ensures small { result ≤ 36000001 }
     {
+        // What a read of the instance says of it bounds the need of a shore.
+        let _ = inst.required();
         let set = pool.shore(shore);
         let least = need(inst, set).max(highest_of(&self.decisions, shore));
         least + (least % 2 + required_crossings(inst, set) % 2) % 2
@@ -81,10 +94,85 @@ impl Branch {
     ///
     /// It takes no memory, and time in proportion to the number of decisions.
     pub fn upper(&self, shore: u32) -> Option<u64>
-        ensures { result ≡ lowest shore self.now }
+        ensures value { result ≡ lowest shore self.now }
+        ensures small { IfSome result (λ k. k ≤ 1000000) }
     {
         lowest_of(&self.decisions, shore)
     }
+
+    /// The value of a price set under the decisions, in parts of its denominator: the sum of the prices, plus each positive
+    /// weight times the lower number of its shore, less the size of each negative weight times the upper number.
+    ///
+    /// It is refused exactly where the shore of a negative weight has no upper number. It takes no memory; with m required
+    /// edges, d decisions and k weights it takes time in proportion to (m + d) k.
+    pub fn value_at(
+        &self,
+        inst: &Instance,
+        pool: &ShorePool,
+        set: &PriceSet,
+    ) -> Result<i128, NoUpper>
+        requires { All (λ w. IsShoreOf inst.now pool.now w.shore) set.now.weights }
+        ensures value { IfOk result (λ value. value ≡ value_of (rules_of inst.now pool.now self.now) set.now) }
+        ensures accepted { OnOk result (All (HasUpper self.now) set.now.weights) }
+        ensures refused { IfErr result (IsWithoutUpper self.now set.now) }
+    {
+        let prices = sum_of(set.prices());
+        let mut sum: i128 = 0;
+        for weight in set.shore_weights() {
+            sum += self.weight_value(inst, pool, weight)?;
+        }
+        Ok(prices + sum)
+    }
+
+    // What a weight adds to the value of a price set.
+    fn weight_value(
+        &self,
+        inst: &Instance,
+        pool: &ShorePool,
+        weight: &Weight,
+    ) -> Result<i128, NoUpper>
+        requires shore { IsShoreOf inst.now pool.now weight.now.shore }
+        requires within { IsPriceNumber weight.now.weight }
+        ensures value { IfOk result (λ value. value ≡ weight_value (rules_of inst.now pool.now self.now) weight.now) }
+        ensures low { IfOk result (λ value. neg_ℤ (pos 40000000000000000000000) ≤ℤ value) }
+        ensures high { IfOk result (λ value. value ≤ℤ pos 40000000000000000000000) }
+        ensures accepted { OnOk result (HasUpper self.now weight.now) }
+        ensures refused { IfErr result (LacksUpper self.now weight.now) }
+    {
+        let shore = weight.shore;
+        if weight.weight < 0 {
+            let upper = self.upper(shore).ok_or(NoUpper { shore })?;
+            Ok(times(weight, upper))
+        } else {
+            Ok(times(weight, self.lower(inst, pool, shore)))
+        }
+    }
+}
+
+// The sum of prices.
+fn sum_of(prices: &[i64]) -> i128
+    requires few { length prices.now ≤ 600 }
+    requires within { All IsPriceNumber prices.now }
+    ensures value { result ≡ signed_sum (λ price. price) prices.now }
+    ensures low { neg_ℤ (pos 600000000000000000) ≤ℤ result }
+    ensures high { result ≤ℤ pos 600000000000000000 }
+{
+    let mut sum: i128 = 0;
+    for price in prices {
+        sum += i128::from(*price);
+    }
+    sum
+}
+
+// A weight times a number.
+fn times(weight: &Weight, number: u64) -> i128
+    requires within { IsPriceNumber weight.now.weight }
+    requires small { number ≤ 36000001 }
+    ensures value { result ≡ weight.now.weight *ℤ pos number }
+    ensures low { neg_ℤ (pos 40000000000000000000000) ≤ℤ result }
+    ensures high { result ≤ℤ pos 40000000000000000000000 }
+{
+    i128::from(weight.weight) * i128::from(number)
 }
 
 // The greatest `k + 1` of the `High` decisions on a shore.
@@ -102,7 +190,9 @@ fn highest_of(decisions: &[Decision], shore: u32) -> u64
 
 // The least `k` of the `Low` decisions on a shore.
 fn lowest_of(decisions: &[Decision], shore: u32) -> Option<u64>
-    ensures { result ≡ lowest shore decisions.now }
+    requires { All IsFineDecision decisions.now }
+    ensures value { result ≡ lowest shore decisions.now }
+    ensures small { IfSome result (λ k. k ≤ 1000000) }
 {
     let mut least = None;
     for decision in decisions {
@@ -113,7 +203,10 @@ fn lowest_of(decisions: &[Decision], shore: u32) -> Option<u64>
 
 // The smaller of two numbers, where `None` is no number.
 fn lesser(a: Option<u64>, b: Option<u64>) -> Option<u64>
-    ensures { result ≡ smaller a b }
+    requires a { IfSome a (λ k. k ≤ 1000000) }
+    requires b { IfSome b (λ k. k ≤ 1000000) }
+    ensures value { result ≡ smaller a b }
+    ensures small { IfSome result (λ k. k ≤ 1000000) }
 {
     match (a, b) {
         (Some(x), Some(y)) => Some(x.min(y)),
@@ -135,7 +228,9 @@ fn high_of(decision: &Decision, shore: u32) -> u64
 
 // The `k` of a `Low` decision on the shore.
 fn low_of(decision: &Decision, shore: u32) -> Option<u64>
-    ensures { result ≡ lowest shore (decision.now ∷ []) }
+    requires { IsFineDecision decision.now }
+    ensures value { result ≡ lowest shore (decision.now ∷ []) }
+    ensures small { IfSome result (λ k. k ≤ 1000000) }
 {
     match *decision {
         Decision::Low { shore: s, k } if s == shore => Some(k),

@@ -136,6 +136,22 @@ impl PriceSet {
         Ok(prices)
     }
 
+    // The prices of services.
+    pub(crate) fn prices(&self) -> &[i64]
+        ensures value { result.now ≡ self.now.services }
+        ensures fine { IsPriceSet self.now }
+    {
+        &self.services
+    }
+
+    // The weights.
+    pub(crate) fn shore_weights(&self) -> &[Weight]
+        ensures value { result.now ≡ self.now.weights }
+        ensures fine { IsPriceSet self.now }
+    {
+        &self.weights
+    }
+
     // The price of crossing an edge without service; as an error, where it is negative.
     fn edge_price(&self, pool: &ShorePool, edge: &Edge) -> Result<u64, i128>
         requires shores { All (λ w. IsShoreNumber pool.now w.shore) self.now.weights }
