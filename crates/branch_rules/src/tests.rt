@@ -1,3 +1,6 @@
+ghost use Rattle.std.specs.Prelude.{◌≢◌, ◌≤◌, pos};
+ghost use Rattle.branch_rules.specs.Limits.{IsPriceNumber};
+
 use crate::{Branch, Decision, NoUpper, Node, PriceSet, TooHeavy, Tree, Weight};
 use carp_base::{Fail as Refusal, Instance, RawEdge};
 use cut_pool::{Shore, ShorePool};
@@ -33,13 +36,15 @@ fn two_shores(rt: &impl Abort, alloc: Global) -> Result<ShorePool, Fail> {
     Ok(pool)
 }
 
-#[test]
-fn edges_are_priced_less_the_weights_that_they_cross(rt: HostRuntime) -> Result<(), Fail> {
-    let alloc = rt.alloc();
+// With weights of 3 and 4 on the two sets, crossing each edge has this price.
+fn expect_prices(rt: &impl Abort, alloc: Global, unit: u64, expected: &[u64]) -> Result<(), Fail>
+    requires from_one { 1 ≤ unit }
+    requires in_range { unit ≤ 1000000 }
+{
     let inst = street(alloc)?;
-    let pool = two_shores(&rt, alloc)?;
+    let pool = two_shores(rt, alloc)?;
     let shores = pool.len();
-    assert!(&rt; shores == 2);
+    assert!(rt; shores == 2);
     let weights = [
         Weight {
             shore: 1,
@@ -50,13 +55,16 @@ fn edges_are_priced_less_the_weights_that_they_cross(rt: HostRuntime) -> Result<
             weight: 4,
         },
     ];
-    let set = PriceSet::new(alloc, 1, &[3, 4], &weights)?;
+    let set = PriceSet::new(alloc, unit, &[3, 4], &weights)?;
     let prices = set.edge_prices(alloc, &inst, &pool)?;
-    assert_eq!(&rt; prices.as_slice(), [0, 0, 2].as_slice());
-    let set = PriceSet::new(alloc, 2, &[3, 4], &weights)?;
-    let prices = set.edge_prices(alloc, &inst, &pool)?;
-    assert_eq!(&rt; prices.as_slice(), [3, 4, 11].as_slice());
+    assert_eq!(rt; prices.as_slice(), expected);
     Ok(())
+}
+
+#[test]
+fn edges_are_priced_less_the_weights_that_they_cross(rt: HostRuntime) -> Result<(), Fail> {
+    expect_prices(&rt, rt.alloc(), 1, &[0, 0, 2])?;
+    expect_prices(&rt, rt.alloc(), 2, &[3, 4, 11])
 }
 
 #[test]
@@ -131,36 +139,39 @@ fn decisions_narrow_the_numbers_of_a_shore(rt: HostRuntime) -> Result<(), Fail> 
     Ok(())
 }
 
+// Under these decisions the set of prices 3 and 4 and one weight has this value, or names a shore without an upper number.
+fn expect_value(
+    rt: &impl Abort,
+    alloc: Global,
+    branch: &Branch,
+    weight: i64,
+    expected: Result<i128, NoUpper>,
+) -> Result<(), Fail>
+    requires some { weight ≢ pos 0 }
+    requires within { IsPriceNumber weight }
+{
+    let inst = street(alloc)?;
+    let pool = two_shores(rt, alloc)?;
+    let shores = pool.len();
+    assert!(rt; shores == 2);
+    let belongs = pool.shore(2).belongs(&inst);
+    assert!(rt; belongs);
+    let set = PriceSet::new(alloc, 1, &[3, 4], &[Weight { shore: 2, weight }])?;
+    let value = branch.value_at(&inst, &pool, &set);
+    assert_eq!(rt; value, expected);
+    Ok(())
+}
+
 #[test]
 fn a_negative_weight_counts_by_the_upper_number(rt: HostRuntime) -> Result<(), Fail> {
     let alloc = rt.alloc();
-    let inst = street(alloc)?;
-    let pool = two_shores(&rt, alloc)?;
-    let shores = pool.len();
-    assert!(&rt; shores == 2);
-    let belong = pool.shore(1).belongs(&inst) && pool.shore(2).belongs(&inst);
-    assert!(&rt; belong);
     let mut branch = Branch::new(alloc);
-    let weights = [
-        Weight {
-            shore: 1,
-            weight: 3,
-        },
-        Weight {
-            shore: 2,
-            weight: -4,
-        },
-    ];
-    let set = PriceSet::new(alloc, 1, &[3, 4], &weights)?;
-    let refused = matches!(
-        branch.value_at(&inst, &pool, &set),
-        Err(NoUpper { shore: 2 })
-    );
-    assert!(&rt; refused);
+    expect_value(&rt, alloc, &branch, 5, Ok(12))?;
+    expect_value(&rt, alloc, &branch, -4, Err(NoUpper { shore: 2 }))?;
     branch.push(Decision::Low { shore: 2, k: 5 })?;
-    let value = matches!(branch.value_at(&inst, &pool, &set), Ok(-4));
-    assert!(&rt; value);
-    Ok(())
+    expect_value(&rt, alloc, &branch, -4, Ok(-13))?;
+    branch.push(Decision::High { shore: 2, k: 1 })?;
+    expect_value(&rt, alloc, &branch, 5, Ok(22))
 }
 
 #[test]
