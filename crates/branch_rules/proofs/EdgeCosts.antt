@@ -1,14 +1,7 @@
 -- What an edge of a valid instance costs, by its place.
-use Rattle.std.proofs.Common.{◌≡◌, ℕ, zero, suc, ◌+◌, ◌<◌, ◌≤◌, List, [], ◌∷◌, ◌++◌, length, take, map, get_or, refl, sym, ap, ◌∙◌, arith, add-one, inl, inr, ℤ, pos, ◌≤ℤ◌, ◌<ℤ◌, nat_abs}
-use Rattle.std.specs.List.{All}
-use Rattle.std.proofs.lemmas.List.{take_more, map-append}
-use Rattle.std.proofs.lemmas.Bool.{cases_eq}
-use Rattle.std.proofs.lemmas.Int.{ints}
+use Rattle.std.proofs.Common.{◌≡◌, ℕ, suc, ◌<◌, ◌≤◌, List, length, get_or, ap, arith}
 use Rattle.carp_base.specs.declared.edge.Edge.{Edge}
-use Rattle.carp_base.specs.Problem.{Problem, IsValid, IsEdgeNumber, edge_at, no_edge}
-use Rattle.deadhead_paths.specs.Prices.{ArePrices, price_of}
-use Rattle.branch_rules.specs.Prices.{Prices, deadhead_price}
-use Rattle.branch_rules.specs.Refusals.{NoneTooHeavy, IsTooHeavy}
+use Rattle.carp_base.specs.Problem.{Problem, IsValid, IsEdgeNumber, no_edge}
 
 -- a number from 1, as a place from 0
 number_of : (p : Problem) (k : ℕ) → k < length p.edges → IsEdgeNumber p (suc k)

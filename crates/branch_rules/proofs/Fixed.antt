@@ -8,14 +8,13 @@ use Rattle.carp_base.specs.Problem.{Problem, IsRequired}
 use Rattle.plan_model.specs.Plans.{IsLawful, IsLawfulWalk, steps_of, walk_cost, step_cost, plan_cost}
 use Rattle.plan_model.specs.declared.step.Step.{Step}
 use Rattle.plan_model.specs.Laws.{ServedOnceByNumber}
-use Rattle.plan_model.specs.Sums.{sum_to}
 use Rattle.branch_rules.specs.Neighbours.{served_edges, times}
 use Rattle.deadhead_paths.specs.Tours.{IsFollowed}
 use Rattle.branch_rules.specs.Neighbours.{AreNeighbours}
 use Rattle.branch_rules.specs.Decisions.{IsYes, YesPath, AreJoined, Spells}
 use Rattle.branch_rules.specs.FixedValue.{ServesChain, HasFixedValue}
 use Rattle.branch_rules.specs.declared.decision.Decision.{Decision}
-use Rattle.branch_rules.proofs.Apart.{map-cond, all_required}
+use Rattle.branch_rules.proofs.Services.{map-cond, all_required}
 use Rattle.branch_rules.proofs.Line.{times-cons, times-same}
 use Rattle.branch_rules.proofs.Heavy.{IsWalkOf, walk_services, path_stays}
 use Rattle.branch_rules.proofs.Ruling.{yes_turn}

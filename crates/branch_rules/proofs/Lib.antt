@@ -4,7 +4,7 @@ pub mod ShoreNumbers
 pub mod Needs
 pub mod Bound
 pub mod Paying
-pub mod Apart
+pub mod Services
 pub mod Line
 pub mod Meeting
 pub mod Heavy
@@ -12,8 +12,6 @@ pub mod Ruling
 pub mod Fixed
 pub mod TreeBound
 pub mod Preorder
-pub mod Labels
-pub mod ChainLoads
 pub mod Turns
 pub mod Symmetry
 pub mod Small

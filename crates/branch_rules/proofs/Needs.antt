@@ -1,5 +1,5 @@
 -- The need of a set is small, so that lower numbers are.
-use Rattle.std.proofs.Common.{◌≡◌, ℕ, zero, suc, ◌+◌, ◌-◌, ◌*◌, ◌%◌, ◌≤◌, ◌<◌, Bool, true, false, List, [], ◌∷◌, length, take, get_or, ap, ◌∙◌, subst, arith, min, max, ◌/◌, inl, inr}
+use Rattle.std.proofs.Common.{◌≡◌, ℕ, zero, suc, ◌+◌, ◌*◌, ◌%◌, ◌≤◌, ◌<◌, Bool, true, false, List, [], ◌∷◌, length, take, get_or, ap, ◌∙◌, subst, arith, min, max, ◌/◌, inl, inr}
 use Rattle.std.specs.Prelude.{if◌then◌else◌}
 use Rattle.std.specs.Int.{div_ceil}
 use Rattle.std.specs.List.{All, AllByRecursion, sum_by}
@@ -9,7 +9,7 @@ use Rattle.std.proofs.lemmas.Grind.{div_ceil_times}
 use Rattle.std.proofs.lemmas.Bool.{cases_lt, cases_eq}
 use Rattle.std.proofs.Math.Nat.{mul-le-mul_left}
 use Rattle.carp_base.specs.declared.edge.Edge.{Edge}
-use Rattle.carp_base.specs.Problem.{Problem, IsValid, IsRequired, edge_at, no_edge, required_edges}
+use Rattle.carp_base.specs.Problem.{Problem, IsValid, no_edge, required_edges}
 use Rattle.branch_rules.specs.Decisions.{to_parity}
 use Rattle.cut_pool.specs.Shores.{touches, demand_inside, touched, need}
 

@@ -1,7 +1,6 @@
 -- What each relaxed tour pays by least deadheads, each lawful walk pays.
-use Rattle.std.proofs.Common.{◌≡◌, ℕ, zero, suc, ◌+◌, ◌≤◌, Bool, true, false, cond, List, [], ◌∷◌, map, refl, sym, ap, ◌∙◌, arith, inl, inr, ℤ, pos, negsuc, ◌+ℤ◌, ◌≤ℤ◌, nat_abs, subst}
+use Rattle.std.proofs.Common.{◌≡◌, ℕ, zero, suc, ◌+◌, Bool, true, false, cond, List, [], ◌∷◌, map, refl, sym, ap, ◌∙◌, arith, inl, inr, ℤ, pos, negsuc, ◌+ℤ◌, ◌≤ℤ◌, nat_abs, subst}
 use Rattle.std.specs.Prelude.{if◌then◌else◌, IsTrue}
-use Rattle.std.specs.List.{AllByRecursion}
 use Rattle.std.proofs.lemmas.List.{get_or-map}
 use Rattle.std.proofs.lemmas.List.Sums.{sum_by-cons}
 use Rattle.std.proofs.lemmas.Bool.{cases_Bool, or_parts}
@@ -17,7 +16,7 @@ use Rattle.deadhead_paths.specs.Tidy.{served_steps, serves_some}
 use Rattle.deadhead_paths.specs.Tours.{IsFollowed, IsTaskTour, task_of, tasks_of, dead_price}
 use Rattle.branch_rules.specs.Neighbours.{served_edges}
 use Rattle.branch_rules.specs.Prices.{signed_sum, Prices, PaysAtLeast, task_adds, deadhead_price, crossing_prices}
-use Rattle.branch_rules.proofs.Apart.{map-cond}
+use Rattle.branch_rules.proofs.Services.{map-cond}
 use Rattle.branch_rules.proofs.Bound.{tour_price, Pays}
 
 -- the edges of the tasks of a walk are those that it serves

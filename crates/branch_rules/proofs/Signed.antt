@@ -1,6 +1,6 @@
 -- Sums of signed numbers.
 use Rattle.std.proofs.Common.{◌≡◌, ℕ, zero, suc, ◌+◌, ◌*◌, ◌≤◌, ◌<◌, List, [], ◌∷◌, ◌++◌, refl, ◌∙◌, arith, pos, negsuc, ◌+ℤ◌, ◌-ℤ◌, ◌*ℤ◌, ◌≤ℤ◌, ◌<ℤ◌, ℤ, inl, inr}
-use Rattle.std.specs.List.{AllByRecursion, sum_by}
+use Rattle.std.specs.List.{sum_by}
 use Rattle.std.proofs.lemmas.List.Sums.{sum_by-cons}
 use Rattle.std.proofs.lemmas.Int.{ints}
 use Rattle.std.proofs.lemmas.List.{take_more}
@@ -17,18 +17,6 @@ signed_sum-append f (x ∷ xs) ys = omega (arith, ints, signed_sum-append f xs y
 pub signed_sum-none : {X : Type 0} (f : X → ℤ) (xs : List X) → ((x : X) → f x ≡ pos 0) → signed_sum f xs ≡ pos 0
 signed_sum-none f [] none = refl
 signed_sum-none f (x ∷ xs) none = omega (arith, ints, none x, signed_sum-none f xs none)
-
-pub signed_sum-add : {X : Type 0} (f g h : X → ℤ) (xs : List X) → ((x : X) → f x ≡ g x +ℤ h x) → signed_sum f xs ≡ signed_sum g xs +ℤ signed_sum h xs
-signed_sum-add f g h [] each = refl
-signed_sum-add f g h (x ∷ xs) each = omega (arith, ints, each x, signed_sum-add f g h xs each)
-
-pub signed_sum-not_negative : {X : Type 0} (f : X → ℤ) (xs : List X) → AllByRecursion (λ x. pos 0 ≤ℤ f x) xs → pos 0 ≤ℤ signed_sum f xs
-signed_sum-not_negative f [] all = omega (arith, ints)
-signed_sum-not_negative f (x ∷ xs) all = omega (arith, ints, all.0, signed_sum-not_negative f xs all.1)
-
-pub signed_sum-le : {X : Type 0} (f g : X → ℤ) (xs : List X) → AllByRecursion (λ x. f x ≤ℤ g x) xs → signed_sum f xs ≤ℤ signed_sum g xs
-signed_sum-le f g [] all = omega (arith, ints)
-signed_sum-le f g (x ∷ xs) all = omega (arith, ints, all.0, signed_sum-le f g xs all.1)
 
 -- a signed sum is the difference of two sums
 pub signed_sum-split : {X : Type 0} (f : X → ℤ) (xs : List X) → signed_sum f xs +ℤ pos (sum_by (λ x. down (f x)) xs) ≡ pos (sum_by (λ x. up (f x)) xs)

@@ -1,5 +1,5 @@
 -- Facts on a row of two streets, and trees for the town of one street.
-use Rattle.std.proofs.Common.{◌≡◌, ◌≢◌, ℕ, ◌+◌, ◌≤◌, ◌<◌, Bool, true, false, List, [], ◌∷◌, ◌++◌, length, refl, sym, ap, ◌∙◌, arith, lit≤, inl, inr, ◌⊎◌, pos, length-append}
+use Rattle.std.proofs.Common.{◌≡◌, ℕ, ◌≤◌, false, List, [], ◌∷◌, length, refl, sym, ap, ◌∙◌, arith, lit≤, inl, inr, ◌⊎◌, length-append}
 use Rattle.std.specs.List.{AllByRecursion, sum_by, list_any}
 use Rattle.std.proofs.lemmas.Bool.{or_cases, cases_eq}
 use Rattle.std.proofs.lemmas.Int.{ints}
@@ -9,10 +9,10 @@ use Rattle.deadhead_paths.specs.Tours.{IsFollowed}
 use Rattle.deadhead_paths.specs.Examples.{town}
 use Rattle.cut_pool.specs.Examples.{in_a_row}
 use Rattle.branch_rules.specs.Neighbours.{AreNeighbours, times}
-use Rattle.branch_rules.specs.Decisions.{says_yes, IsYes, YesPath, AreJoined, IsHeavy, HasTwoOthers, Excluded, IsDetermined, IsVoid, Spells, same, said_no, first_full, second_full, closes, heavy, three, cycle, heavy_chain, crossed}
+use Rattle.branch_rules.specs.Decisions.{says_yes, IsYes, YesPath, AreJoined, IsHeavy, Excluded, IsDetermined, IsVoid, Spells, same, said_no, first_full, second_full, closes, heavy, three, cycle, crossed}
 use Rattle.branch_rules.specs.Trees.{Shows, price}
 use Rattle.branch_rules.specs.declared.decision.Decision.{Decision}
-use Rattle.branch_rules.specs.declared.decision.Decision.TheVariants.{Yes, No, Low, High}
+use Rattle.branch_rules.specs.declared.decision.Decision.TheVariants.{Yes, Low, High}
 use Rattle.branch_rules.specs.Examples.{one_row_tour, two_row_tours, town_plan, town_pool, town_support}
 use Rattle.branch_rules.proofs.Heavy.{covered}
 use Rattle.branch_rules.proofs.Meeting.{pair_is}

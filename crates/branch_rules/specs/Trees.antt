@@ -51,12 +51,12 @@ abbrev pub set_at : Support → ℕ → Prices
 set_at c zero = no_prices
 set_at c (suc k) = slice_index_or c.sets k no_prices
 
--- fitting prices, and a value that shows the bound
+-- the prices fit, and their value is above the denominator times the bound less 1
 pub record PricesShow (c : Support) (branch : List Decision) (set : Prices) (bound : ℕ) : Type 0 where
   pub fits : Fits c.problem c.pool (rules_of c.problem c.pool branch) (λ a b. ¬ (Excluded c.problem branch a b)) set
   pub above : (pos set.unit *ℤ (pos bound -ℤ pos 1)) <ℤ value_of (rules_of c.problem c.pool branch) set
 
--- the same for the price set of a number
+-- the same, for the price set of a number
 abbrev pub PriceShows : Support → List Decision → ℕ → ℕ → Type 0
 PriceShows c branch bound set = (1 ≤ set) × (set ≤ length c.sets) × PricesShow c branch (set_at c set) bound
 
@@ -77,7 +77,7 @@ Shows c branch bound (price set) = PriceShows c branch bound set
 Shows c branch bound void = IsVoid c.problem c.pool branch
 Shows c branch bound fixed = FixedShows c branch bound
 
--- no split is settled beforehand, and no path has more than that many cuts
+-- each pair is open where it is split, each cut lies within the numbers of its shore, and no path has more than so many cuts
 abbrev pub IsLean : Support → List Decision → ℕ → Tree → Type 0
 IsLean c branch cuts (pair a b together apart) =
     ¬ (IsDetermined c.problem branch a b) × IsLean c (branch ++ Yes a b ∷ []) cuts together × IsLean c (branch ++ No a b ∷ []) cuts apart
@@ -88,11 +88,11 @@ IsLean c branch cuts (price set) = Unit {0}
 IsLean c branch cuts void = Unit {0}
 IsLean c branch cuts fixed = Unit {0}
 
--- 1 where the fact holds, else 0
+-- n is 1 where the fact holds, and 0 where it does not
 abbrev pub IsTest : Type 0 → ℕ → Type 0
 IsTest P n = (P × (n ≡ 1)) ⊎ (¬ P × (n ≡ 0))
 
--- the inner nodes and the leaves that show the cost
+-- the turns of a tree for a cost: its inner nodes, and its leaves that show the cost by themselves
 abbrev pub HasTurns : Support → List Decision → ℕ → Tree → ℕ → Type 0
 HasTurns c branch cost (pair a b together apart) n =
     (i j : ℕ) × HasTurns c (branch ++ Yes a b ∷ []) cost together i × HasTurns c (branch ++ No a b ∷ []) cost apart j × (n ≡ i + j + 1)
@@ -121,7 +121,7 @@ PairsIn p (price set) = Unit {0}
 PairsIn p void = Unit {0}
 PairsIn p fixed = Unit {0}
 
--- what the support must meet beside the tree: no shore has the depot, and each price set has a price for each required edge
+-- what a support must meet, whatever the tree: no shore has the depot, and each price set has a price for each required edge
 pub record IsSoundSupport (c : Support) : Type 0 where
   pub valid : IsValid c.problem
   pub shores : AllByRecursion (λ shore. is_in shore c.problem.depot ≡ false) c.pool

@@ -24,7 +24,7 @@ pub struct TooHeavy {
 }
 
 /// A price for each required edge and weights on shores, as whole numbers of one part of a denominator (Bode and Irnich
-/// 2012, section 3).
+/// 2012).
 ///
 /// All are within 10^15 either way, on at most 600 services and 2,000 shores, and the denominator is 1 to 1,000,000.
 /// Contracts see them as they are.

@@ -1,5 +1,4 @@
 use Rattle.std.proofs.Common.{arith}
-use Rattle.std.proofs.Common.{refl}
 use Rattle.branch_rules.proofs.ShoreNumbers.{highest_step}
 use Rattle.branch_rules.proofs.branch.highest_of.Goals as goal
 

@@ -1,4 +1,3 @@
-use Rattle.std.proofs.Common.{refl}
 use Rattle.branch_rules.proofs.ShoreNumbers.{lowest_step}
 use Rattle.branch_rules.proofs.branch.lowest_of.Goals as goal
 

@@ -1,4 +1,4 @@
-use Rattle.std.proofs.Common.{[], ◌∷◌, arith}
+use Rattle.std.proofs.Common.{[], arith}
 use Rattle.deadhead_paths.specs.Examples.{town}
 use Rattle.branch_rules.specs.Examples.{town_plan}
 use Rattle.branch_rules.proofs.Small.{town_is_fixed, town_value}

@@ -1,5 +1,4 @@
-use Rattle.std.proofs.Common.{refl, inl, lit≤, arith}
-use Rattle.std.proofs.lemmas.Int.{ints}
+use Rattle.std.proofs.Common.{refl, inl}
 use Rattle.branch_rules.proofs.SmallTrees.{town_shows}
 use Rattle.branch_rules.proofs.examples.a_lean_tree.Goals as goal
 

@@ -1,4 +1,4 @@
-use Rattle.std.proofs.Common.{refl, arith}
+use Rattle.std.proofs.Common.{arith}
 use Rattle.branch_rules.proofs.Small.{town_is_fixed, town_value}
 use Rattle.branch_rules.proofs.SmallTrees.{crossed_now, town_shows, town_shows_above}
 use Rattle.branch_rules.proofs.examples.a_tree_that_shows_a_bound.Goals as goal

@@ -1,4 +1,4 @@
-use Rattle.branch_rules.specs.Decisions.{three, cycle, heavy_chain}
+use Rattle.branch_rules.specs.Decisions.{heavy_chain}
 use Rattle.branch_rules.proofs.Small.{town_is_not_void}
 use Rattle.branch_rules.proofs.SmallTrees.{crossed_now, three_now, cycle_now, row_chain_heavy}
 use Rattle.branch_rules.proofs.examples.a_void_branch.Goals as goal

@@ -1,4 +1,4 @@
-use Rattle.branch_rules.proofs.TreeBound.{Known, value_law, price_law}
+use Rattle.branch_rules.proofs.TreeBound.{value_law, price_law}
 use Rattle.branch_rules.proofs.laws.prices_bound.Goals as goal
 
 pub returns-clause-below : goal.returns-clause-below

@@ -1,4 +1,4 @@
-use Rattle.branch_rules.proofs.TreeBound.{Known, tree_bounds_law}
+use Rattle.branch_rules.proofs.TreeBound.{tree_bounds_law}
 use Rattle.branch_rules.proofs.laws.tree_bounds.Goals as goal
 
 pub returns : goal.returns

@@ -1,4 +1,4 @@
-use Rattle.std.proofs.Common.{arith, ap, ◌∙◌, ℕ, ◌+◌, ◌≤◌, get_or, length, subst, List}
+use Rattle.std.proofs.Common.{arith, ap, ◌∙◌, ◌+◌, ◌≤◌, get_or, length, subst, List}
 use Rattle.std.proofs.lemmas.Int.{ints}
 use Rattle.branch_rules.specs.Decisions.{rules_of}
 use Rattle.branch_rules.specs.Prices.{weight_value, weight_at, no_weight}
