@@ -1,0 +1,92 @@
+-- Walks that go by least paths over services.
+use Rattle.std.proofs.Common.{◌≡◌, ℕ, ◌+◌, ◌<◌, ◌≤◌, Bool, true, false, cond, List, [], ◌∷◌, ◌++◌, length, map, refl, sym, ap, ◌∙◌, arith, subst, append_assoc, append-nil, length-append, take, get_or}
+use Rattle.std.specs.Prelude.{IsTrue}
+use Rattle.std.specs.List.{filter, AllByRecursion}
+use Rattle.std.proofs.lemmas.List.{take_more, take_all, map-append}
+use Rattle.std.proofs.lemmas.List.Elements.{filter-append}
+use Rattle.carp_base.specs.declared.edge.Task.{Task}
+use Rattle.carp_base.specs.Problem.{Problem, IsEdgeNumber, edge_at, tail_of, head_of}
+use Rattle.plan_model.specs.declared.step.Step.{Step}
+use Rattle.plan_model.specs.Plans.{Leads}
+use Rattle.deadhead_paths.specs.Prices.{NoneServed, IsLeastPath, price_of, costs_of}
+use Rattle.deadhead_paths.specs.Tidy.{GoByLeastPaths, served_steps}
+use Rattle.deadhead_paths.specs.Tours.{task_of, tasks_of}
+use Rattle.path_scanning.specs.Walking.{AddsLeastPath, GoesOn, service_step, service_steps}
+
+-- one service more
+pub goes_more : (p : Problem) (services steps path : List Step) (a b : ℕ) (s : Step) → GoesOn p services a b steps → IsLeastPath p (price_of (costs_of p)) b (tail_of (edge_at p s.edge) s.forward) path →
+    GoesOn p (services ++ s ∷ []) a (head_of (edge_at p s.edge) s.forward) (steps ++ (path ++ s ∷ []))
+goes_more p [] steps path a b s goes least =
+    (path, [], subst (λ v. IsLeastPath p (price_of (costs_of p)) v (tail_of (edge_at p s.edge) s.forward) path) (sym goes.0) least, ap (λ xs. xs ++ (path ++ s ∷ [])) goes.1, (refl, refl))
+goes_more p (u ∷ services) steps path a b s goes least = (
+  goes.0,
+  goes.1 ++ (path ++ s ∷ []),
+  goes.2,
+  ap (λ xs. xs ++ (path ++ s ∷ [])) goes.3 ∙ append_assoc goes.0 (u ∷ goes.1) (path ++ s ∷ []),
+  goes_more p services goes.1 path (head_of (edge_at p u.edge) u.forward) b s goes.4 least,
+)
+
+-- and the way home
+pub goes_home : (p : Problem) (services steps path : List Step) (a b c : ℕ) → GoesOn p services a b steps → IsLeastPath p (price_of (costs_of p)) b c path → GoByLeastPaths p services a c (steps ++ path)
+goes_home p [] steps path a b c goes least =
+    subst (IsLeastPath p (price_of (costs_of p)) a c) (ap (λ xs. xs ++ path) (sym goes.1)) (subst (λ v. IsLeastPath p (price_of (costs_of p)) v c path) (sym goes.0) least)
+goes_home p (u ∷ services) steps path a b c goes least = (
+  goes.0,
+  goes.1 ++ path,
+  goes.2,
+  ap (λ xs. xs ++ path) goes.3 ∙ append_assoc goes.0 (u ∷ goes.1) path,
+  goes_home p services goes.1 path (head_of (edge_at p u.edge) u.forward) b c goes.4 least,
+)
+
+none_of : (steps : List Step) → NoneServed steps → served_steps steps ≡ []
+none_of [] none = refl
+none_of (s ∷ steps) none = ap (λ b. cond b (s ∷ served_steps steps) (served_steps steps)) none.0 ∙ none_of steps none.1
+
+-- its services are just these
+pub goes_served : (p : Problem) (tasks : List Task) (steps : List Step) (a b : ℕ) → GoByLeastPaths p (service_steps tasks) a b steps → served_steps steps ≡ service_steps tasks
+goes_served p [] steps a b least = none_of steps least.deadheads.unserved
+goes_served p (t ∷ tasks) steps a b goes =
+    ap served_steps goes.3 ∙ filter-append (λ s. s.served) goes.0 (service_step t ∷ goes.1)
+    ∙ ap (λ xs. xs ++ served_steps (service_step t ∷ goes.1)) (none_of goes.0 goes.2.deadheads.unserved)
+    ∙ ap (λ xs. service_step t ∷ xs) (goes_served p tasks goes.1 (head_of (edge_at p t.edge) t.forward) b goes.4)
+
+tasks_again : (tasks : List Task) → map task_of (service_steps tasks) ≡ tasks
+tasks_again [] = refl
+tasks_again (t ∷ tasks) = ap (λ ts. t ∷ ts) (tasks_again tasks)
+
+pub goes_tasks : (p : Problem) (tasks : List Task) (steps : List Step) (a b : ℕ) → GoByLeastPaths p (service_steps tasks) a b steps → tasks_of steps ≡ tasks
+goes_tasks p tasks steps a b goes = ap (map task_of) (goes_served p tasks steps a b goes) ∙ tasks_again tasks
+
+leads_append : (p : Problem) (a b c : ℕ) (xs ys : List Step) → Leads p a xs b → Leads p b ys c → Leads p a (xs ++ ys) c
+leads_append p a b c [] ys first second = subst (λ v. Leads p v ys c) (sym first) second
+leads_append p a b c (s ∷ xs) ys first second = (first.0, first.1, leads_append p (head_of (edge_at p s.edge) s.forward) b c xs ys first.2 second)
+
+-- it leads from one end to the other
+pub goes_leads : (p : Problem) (services steps : List Step) (a b : ℕ) → AllByRecursion (λ s. IsEdgeNumber p s.edge) services → GoByLeastPaths p services a b steps → Leads p a steps b
+goes_leads p [] steps a b numbers least = least.deadheads.leads
+goes_leads p (s ∷ services) steps a b numbers goes =
+    subst (λ xs. Leads p a xs b) (sym goes.3)
+    (
+      leads_append p a (tail_of (edge_at p s.edge) s.forward) b goes.0 (s ∷ goes.1) goes.2.deadheads.leads
+      (numbers.0, refl, goes_leads p services goes.1 (head_of (edge_at p s.edge) s.forward) b numbers.1 goes.4)
+    )
+
+-- the same for tasks by their places, on the way and at the end
+pub tasks_more : (p : Problem) (tasks : List Task) (i : ℕ) (d : Task) (at : ℕ) (walk followed joined : List Step) → i < length tasks → GoesOn p (service_steps (take i tasks)) p.depot at walk →
+    AddsLeastPath p at (tail_of (edge_at p (get_or tasks i d).edge) (get_or tasks i d).forward) walk followed → joined ≡ followed ++ service_step (get_or tasks i d) ∷ [] →
+    GoesOn p (service_steps (take (i + 1) tasks)) p.depot (head_of (edge_at p (get_or tasks i d).edge) (get_or tasks i d).forward) joined
+tasks_more p tasks i d at walk followed joined in_range goes adds pushed =
+    let t = get_or tasks i d in
+    let services : service_steps (take (i + 1) tasks) ≡ service_steps (take i tasks) ++ service_step t ∷ [] = ap service_steps (take_more tasks i d in_range) ∙ map-append service_step (take i tasks) (t ∷ []) in
+    let steps : joined ≡ walk ++ (adds.path ++ service_step t ∷ []) = pushed ∙ ap (λ xs. xs ++ service_step t ∷ []) adds.added ∙ append_assoc walk adds.path (service_step t ∷ []) in
+    subst (λ ss. GoesOn p ss p.depot (head_of (edge_at p t.edge) t.forward) joined) (sym services)
+    (
+      subst (GoesOn p (service_steps (take i tasks) ++ service_step t ∷ []) p.depot (head_of (edge_at p t.edge) t.forward)) (sym steps)
+      (goes_more p (service_steps (take i tasks)) walk adds.path p.depot at (service_step t) goes adds.least)
+    )
+
+pub tasks_whole : (p : Problem) (tasks : List Task) (i at : ℕ) (walk joined : List Step) → length tasks ≤ i → GoesOn p (service_steps (take i tasks)) p.depot at walk → AddsLeastPath p at p.depot walk joined →
+    GoByLeastPaths p (service_steps tasks) p.depot p.depot joined
+tasks_whole p tasks i at walk joined all goes adds =
+    subst (GoByLeastPaths p (service_steps tasks) p.depot p.depot) (sym adds.added)
+    (goes_home p (service_steps tasks) walk adds.path p.depot at p.depot (subst (λ ts. GoesOn p (service_steps ts) p.depot at walk) (take_all i tasks all) goes) adds.least)

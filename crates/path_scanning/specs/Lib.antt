@@ -1,0 +1,4 @@
+pub mod Ties
+pub mod Scans
+pub mod Choosing
+pub mod Walking

@@ -1,0 +1,14 @@
+//! Plans by path scanning: tours that go to the nearest edge that fits, with five rules for ties.
+//!
+//! [`scan`] makes the plan of one rule.
+#![tactic(auto)]
+
+mod candidate;
+mod ends;
+mod nearest;
+mod rule;
+mod scanning;
+mod walking;
+
+pub use rule::Rule;
+pub use scanning::scan;

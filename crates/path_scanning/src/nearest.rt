@@ -1,0 +1,66 @@
+// The task that a tour takes next.
+ghost use Rattle.std.specs.Prelude.{◌≡◌, ℕ, ◌≤◌, length, MatchOption};
+ghost use Rattle.carp_base.specs.Problem.{IsRequired};
+ghost use Rattle.deadhead_paths.specs.Prices.{costs_of};
+ghost use Rattle.path_scanning.specs.Scans.{FitsNext, IsFirstTask, IsMeasured, ScanMoment};
+ghost use Rattle.path_scanning.specs.Choosing.{IsStand};
+
+use crate::candidate::Candidate;
+use crate::ends::ends;
+use crate::rule::Rule;
+use carp_base::{Instance, Task};
+use deadhead_paths::{Distances, least_prices_are_there};
+
+// A task, with what it is compared by where a tour stands at a vertex.
+fn measure(inst: &Instance, dist: &Distances, at: u32, task: Task) -> Candidate
+    requires problem { dist.now.problem ≡ inst.now }
+    requires prices { dist.now.prices ≡ costs_of inst.now }
+    requires stand { IsStand inst.now at }
+    requires required { IsRequired inst.now task.edge }
+    ensures task { result.task ≡ task }
+    ensures measured { IsMeasured inst.now at result }
+{
+    least_prices_are_there();
+    let depot = inst.depot();
+    let edge = inst.edge(task.edge);
+    let (tail, head) = ends(&edge, task.forward);
+    Candidate {
+        task,
+        near: dist.get(at, tail).unwrap(),
+        home: dist.get(head, depot).unwrap(),
+        service: edge.service,
+        demand: edge.demand,
+    }
+}
+
+// The first of the tasks that a tour can take at a moment, or none where nothing fits.
+pub(crate) fn nearest(
+    inst: &Instance,
+    dist: &Distances,
+    rule: Rule,
+    served: &[bool],
+    at: u32,
+    load: u64,
+) -> Option<Candidate>
+    requires problem { dist.now.problem ≡ inst.now }
+    requires prices { dist.now.prices ≡ costs_of inst.now }
+    requires stand { IsStand inst.now at }
+    requires flags { length served.now ≡ inst.now.required }
+    requires load { load ≤ inst.now.capacity }
+    ensures { let moment : ScanMoment = record { served = served.now; at = at; load = load } in MatchOption result ((e : ℕ) → ¬ (FitsNext inst.now moment e)) (IsFirstTask inst.now rule moment) }
+{
+    let tie = rule.tie(inst.capacity(), load);
+    let mut best: Option<Candidate> = None;
+    for edge in 1..inst.required() + 1 {
+        if !served[edge as usize - 1] && load + inst.edge(edge).demand <= inst.capacity() {
+            let forward = measure(inst, dist, at, Task { edge, forward: true });
+            let backward = measure(inst, dist, at, Task { edge, forward: false });
+            let next = forward.first_of(backward, tie);
+            best = match best {
+                Some(found) => Some(found.first_of(next, tie)),
+                None => Some(next),
+            };
+        }
+    }
+    best
+}

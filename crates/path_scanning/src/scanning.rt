@@ -1,0 +1,66 @@
+// Plans that grow tour by tour.
+ghost use Rattle.std.specs.Prelude.{◌≡◌, length, IfOk, OnOk};
+ghost use Rattle.plan_model.specs.Plans.{IsLawful};
+ghost use Rattle.deadhead_paths.specs.Prices.{costs_of};
+ghost use Rattle.path_scanning.specs.Choosing.{IsGrown};
+ghost use Rattle.path_scanning.specs.Scans.{IsScanned};
+
+use crate::ends::ends;
+use crate::nearest::nearest;
+use crate::rule::Rule;
+use crate::walking::join;
+use carp_base::{Instance, Memory, Task};
+use deadhead_paths::Distances;
+use plan_model::Plan;
+use std::alloc::Global;
+
+// The tasks of one tour, which are then served.
+fn grow(
+    alloc: Global,
+    inst: &Instance,
+    dist: &Distances,
+    rule: Rule,
+    served: &mut [bool],
+) -> Result<Vec<Task>, Memory>
+    requires problem { dist.now.problem ≡ inst.now }
+    requires prices { dist.now.prices ≡ costs_of inst.now }
+    requires flags { length served.old ≡ inst.now.required }
+    ensures { IfOk result (λ tasks. IsGrown inst.now rule served.old tasks.items served.new) }
+{
+    let mut tasks = Vec::new(alloc);
+    let mut at = inst.depot();
+    let mut load = 0;
+    while let Some(next) = nearest(inst, dist, rule, served, at, load) {
+        let edge = inst.edge(next.task.edge);
+        served[next.task.edge as usize - 1] = true;
+        at = ends(&edge, next.task.forward).1;
+        load += edge.demand;
+        tasks.push(next.task)?;
+    }
+    Ok(tasks)
+}
+
+/// The plan that path scanning makes by a rule (Golden, DeArmon and Baker 1983). The distances are those by cost.
+///
+/// One tour grows at a time, from the depot. It takes next, of all tasks on unserved edges whose demand still fits, one
+/// whose start is nearest to where the tour stands; of those the one that the rule takes, then the one of the least edge
+/// number, and then the forward one. Where nothing fits it returns to the depot, and the next tour begins, until all
+/// required edges are served. The tasks are joined by least paths.
+///
+/// With m required edges it takes time in proportion to m * m, and to the steps that it writes.
+pub fn scan(alloc: Global, inst: &Instance, dist: &Distances, rule: Rule) -> Result<Plan, Memory>
+    requires problem { dist.now.problem ≡ inst.now }
+    requires prices { dist.now.prices ≡ costs_of inst.now }
+    ensures lawful { IfOk result (IsLawful inst.now) }
+    ensures scanned { IfOk result (IsScanned inst.now rule) }
+{
+    let mut served = vec![in alloc; false; inst.required() as usize]?;
+    let mut plan = Plan::new(alloc);
+    loop {
+        let tasks = grow(alloc, inst, dist, rule, &mut served)?;
+        if tasks.is_empty() {
+            return Ok(plan);
+        }
+        plan.push(join(alloc, inst, dist, &tasks)?)?;
+    }
+}
