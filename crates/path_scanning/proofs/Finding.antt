@@ -1,9 +1,9 @@
 -- The first of the candidates, edge after edge.
-use Rattle.std.proofs.Common.{◌≡◌, ℕ, zero, suc, ◌+◌, ◌<◌, ◌≤◌, Bool, true, false, ◌-◌, get_or, List, ◌⊎◌, inl, inr, refl, sym, ap, ◌∙◌, arith, subst}
+use Rattle.std.proofs.Common.{◌≡◌, ℕ, ◌+◌, ◌≤◌, Bool, true, false, ◌-◌, get_or, inl, inr, refl, sym, ap, ◌∙◌, arith, subst}
 use Rattle.std.specs.Prelude.{Option, None, Some}
 use Rattle.std.proofs.lemmas.Bool.{cases_lt}
 use Rattle.carp_base.specs.declared.edge.Task.{Task}
-use Rattle.carp_base.specs.Problem.{Problem, IsValid, IsRequired, edge_at, tail_of, head_of}
+use Rattle.carp_base.specs.Problem.{Problem, IsValid, edge_at, tail_of, head_of}
 use Rattle.deadhead_paths.specs.Prices.{IsLeastPrice, price_of, costs_of}
 use Rattle.path_scanning.specs.declared.candidate.Candidate.{Candidate}
 use Rattle.path_scanning.specs.declared.rule.Tie.{Tie}
@@ -48,7 +48,7 @@ module _ (p : Problem) (valid : IsValid p) (tie : Tie) (m : ScanMoment) (e : ℕ
     backward_can = record { fits = rw backward_task fits; measured = backward_measured }
 
     next_can : IsCandidate p m next
-    next_can = elim chosen.one [ | inl is ↦ subst (IsCandidate p m) (sym is) forward_can | inr is ↦ subst (IsCandidate p m) (sym is) backward_can ]
+    next_can = elim chosen.one [ inl is ↦ subst (IsCandidate p m) (sym is) forward_can | inr is ↦ subst (IsCandidate p m) (sym is) backward_can ]
 
     next_first : (other : Candidate) → IsCandidate p m other → other.task.edge ≡ e → TaskNoLater tie next other
     next_first other can same = one other.task.forward refl
@@ -72,7 +72,7 @@ module _ (p : Problem) (valid : IsValid p) (tie : Tie) (m : ScanMoment) (e : ℕ
 
     pub found_better : (best better : Candidate) → IsFirstBelow p tie m e best → IsFirstOf tie best next better → IsFirstBelow p tie m (e + 1) better
     found_better best better so_far of =
-        let better_can : IsCandidate p m better = elim of.one [ | inl is ↦ subst (IsCandidate p m) (sym is) so_far.can | inr is ↦ subst (IsCandidate p m) (sym is) next_can ] in
+        let better_can : IsCandidate p m better = elim of.one [ inl is ↦ subst (IsCandidate p m) (sym is) so_far.can | inr is ↦ subst (IsCandidate p m) (sym is) next_can ] in
         record {
           can = better_can;
           first = λ other can below. elim (cases_lt other.task.edge e) [

@@ -1,7 +1,6 @@
 -- Walks that go by least paths over services.
-use Rattle.std.proofs.Common.{◌≡◌, ℕ, ◌+◌, ◌<◌, ◌≤◌, Bool, true, false, cond, List, [], ◌∷◌, ◌++◌, length, map, refl, sym, ap, ◌∙◌, arith, subst, append_assoc, append-nil, length-append, take, get_or}
-use Rattle.std.specs.Prelude.{IsTrue}
-use Rattle.std.specs.List.{filter, AllByRecursion}
+use Rattle.std.proofs.Common.{◌≡◌, ℕ, ◌+◌, ◌<◌, ◌≤◌, cond, List, [], ◌∷◌, ◌++◌, length, map, refl, sym, ap, ◌∙◌, subst, append_assoc, take, get_or}
+use Rattle.std.specs.List.{AllByRecursion}
 use Rattle.std.proofs.lemmas.List.{take_more, take_all, map-append}
 use Rattle.std.proofs.lemmas.List.Elements.{filter-append}
 use Rattle.carp_base.specs.declared.edge.Task.{Task}
@@ -67,8 +66,8 @@ goes_leads p [] steps a b numbers least = least.deadheads.leads
 goes_leads p (s ∷ services) steps a b numbers goes =
     subst (λ xs. Leads p a xs b) (sym goes.3)
     (
-      leads_append p a (tail_of (edge_at p s.edge) s.forward) b goes.0 (s ∷ goes.1) goes.2.deadheads.leads
-      (numbers.0, refl, goes_leads p services goes.1 (head_of (edge_at p s.edge) s.forward) b numbers.1 goes.4)
+    leads_append p a (tail_of (edge_at p s.edge) s.forward) b goes.0 (s ∷ goes.1) goes.2.deadheads.leads
+    (numbers.0, refl, goes_leads p services goes.1 (head_of (edge_at p s.edge) s.forward) b numbers.1 goes.4)
     )
 
 -- the same for tasks by their places, on the way and at the end
@@ -81,8 +80,8 @@ tasks_more p tasks i d at walk followed joined in_range goes adds pushed =
     let steps : joined ≡ walk ++ (adds.path ++ service_step t ∷ []) = pushed ∙ ap (λ xs. xs ++ service_step t ∷ []) adds.added ∙ append_assoc walk adds.path (service_step t ∷ []) in
     subst (λ ss. GoesOn p ss p.depot (head_of (edge_at p t.edge) t.forward) joined) (sym services)
     (
-      subst (GoesOn p (service_steps (take i tasks) ++ service_step t ∷ []) p.depot (head_of (edge_at p t.edge) t.forward)) (sym steps)
-      (goes_more p (service_steps (take i tasks)) walk adds.path p.depot at (service_step t) goes adds.least)
+    subst (GoesOn p (service_steps (take i tasks) ++ service_step t ∷ []) p.depot (head_of (edge_at p t.edge) t.forward)) (sym steps)
+    (goes_more p (service_steps (take i tasks)) walk adds.path p.depot at (service_step t) goes adds.least)
     )
 
 pub tasks_whole : (p : Problem) (tasks : List Task) (i at : ℕ) (walk joined : List Step) → length tasks ≤ i → GoesOn p (service_steps (take i tasks)) p.depot at walk → AddsLeastPath p at p.depot walk joined →

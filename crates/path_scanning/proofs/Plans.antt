@@ -1,7 +1,7 @@
 -- Scanned plans are lawful.
-use Rattle.std.proofs.Common.{◌≡◌, ◌≢◌, inl, inr, ℕ, zero, suc, ◌+◌, ◌<◌, ◌≤◌, Bool, true, false, cond, ◌&&◌, ◌==◌, List, [], ◌∷◌, ◌++◌, length, map, get_or, refl, sym, ap, ◌∙◌, arith, subst, append-nil}
-use Rattle.std.specs.Prelude.{IsTrue, if◌then◌else◌}
-use Rattle.std.specs.List.{filter, sum_by, count_by, AllByRecursion}
+use Rattle.std.proofs.Common.{◌≡◌, inl, inr, ℕ, zero, suc, ◌+◌, ◌≤◌, Bool, true, false, cond, ◌==◌, List, [], ◌∷◌, ◌++◌, length, map, get_or, refl, sym, ap, ◌∙◌, arith, subst, take}
+use Rattle.std.specs.Prelude.{IsTrue, replicate}
+use Rattle.std.specs.List.{sum_by, count_by, AllByRecursion}
 use Rattle.std.proofs.Math.ListN.{set}
 use Rattle.std.proofs.lemmas.Bool.{cases_eq, eq-eqb, ne_eqb}
 use Rattle.std.proofs.lemmas.List.{get_or-set_same, get_or-set_other}
@@ -9,13 +9,14 @@ use Rattle.std.proofs.lemmas.List.Sums.{sum_by-cons, sum_by-append}
 use Rattle.carp_base.specs.declared.edge.Task.{Task}
 use Rattle.carp_base.specs.Problem.{Problem, IsValid, IsRequired, IsEdgeNumber, edge_at}
 use Rattle.plan_model.specs.declared.step.Step.{Step}
-use Rattle.plan_model.specs.Plans.{IsLawfulWalk, IsLawful, Leads, step_load, walk_load, serves, services_of, steps_of}
-use Rattle.deadhead_paths.specs.Tidy.{served_steps}
+use Rattle.plan_model.specs.Plans.{IsLawfulWalk, IsLawful, step_load, serves, services_of, steps_of}
+use Rattle.deadhead_paths.specs.Tidy.{GoByLeastPaths, served_steps}
 use Rattle.deadhead_paths.specs.Tours.{task_of, tasks_of}
 use Rattle.path_scanning.specs.declared.rule.Rule.{Rule}
 use Rattle.path_scanning.specs.Scans.{ScanMoment, FitsNext, IsNextTask, TakesNext, IsScannedTour, IsScannedFrom, moment_after, tour_start, served_after, is_served, with_served}
-use Rattle.path_scanning.specs.Choosing.{ToursScanned, open_count}
-use Rattle.path_scanning.proofs.Going.{goes_leads}
+use Rattle.path_scanning.specs.Choosing.{ToursScanned, IsGrown}
+use Rattle.path_scanning.specs.Walking.{service_steps}
+use Rattle.path_scanning.proofs.Going.{goes_leads, goes_served, goes_tasks}
 use Rattle.path_scanning.proofs.Standing.{required_number}
 use Rattle.path_scanning.proofs.Taking.{with_served_long}
 
@@ -145,3 +146,50 @@ module _ (p : Problem) (rule : Rule) where
       one : (b : Bool) → is_served served e ≡ b → b ≡ true
       one true is = refl
       one false is = absurd (none e (record { required = required; unserved = is; room = let fits = (valid.tasks e required).demand_fits in omega (arith, fits) }))
+
+  -- a grown tour, joined by least paths
+  pub grown_tour : (before after : List Bool) (tasks : List Task) (walk : List Step) → IsGrown p rule before tasks after → 1 ≤ length tasks → GoByLeastPaths p (service_steps tasks) p.depot p.depot walk →
+      IsScannedTour p rule before walk × (after ≡ served_after before (tasks_of walk))
+  grown_tour before after tasks walk grown some goes =
+      let same : tasks_of walk ≡ tasks = goes_tasks p tasks walk p.depot p.depot goes in (
+        record {
+          some = λ none. let empty : tasks ≡ [] = sym same ∙ none in absurd (omega (arith, some, ap length empty));
+          tasks = subst (TakesNext p rule (tour_start p before)) (sym same) grown.takes;
+          paths = subst (λ ss. GoByLeastPaths p ss p.depot p.depot walk) (sym (goes_served p tasks walk p.depot p.depot goes)) goes;
+        },
+        grown.served ∙ ap (served_after before) (sym same),
+      )
+
+  pub grown_long : (before after : List Bool) (tasks : List Task) → IsGrown p rule before tasks after → length after ≡ length before
+  grown_long before after tasks grown = ap length grown.served ∙ after_long before tasks
+
+  -- a tour without tasks is the end of the scan
+  pub grown_none : IsValid p → (before after : List Bool) (tasks : List Task) → IsGrown p rule before tasks after → length tasks ≡ 0 → (e : ℕ) → IsRequired p e → is_served before e ≡ true
+  grown_none valid before after [] grown none = all_served valid before grown.takes
+  grown_none valid before after (t ∷ tasks) grown none = absurd (omega (arith, none))
+
+-- at the start no edge is served
+pub none_served : (p : Problem) (e : ℕ) → IsRequired p e → is_served (replicate p.required false) e ≡ false
+none_served p zero required = absurd (omega (arith, required.from_one))
+none_served p (suc k) required = get_or-replicate_same p.required k
+  where
+    get_or-replicate_same : (n i : ℕ) → get_or (replicate n false) i false ≡ false
+    get_or-replicate_same zero i = refl
+    get_or-replicate_same (suc n) zero = refl
+    get_or-replicate_same (suc n) (suc i) = get_or-replicate_same n i
+
+-- a length that is told by a test
+pub some_long : (n : ℕ) → (n == 0) ≡ false → 1 ≤ n
+some_long zero test = absurd (let both : true ≡ false = test in cc)
+some_long (suc n) test = omega arith
+
+pub none_long : (n : ℕ) → (n == 0) ≡ true → n ≡ 0
+none_long n test = elim (cases_eq n 0) [ inl is ↦ is | inr other ↦ absurd (let both : true ≡ false = sym test ∙ ne_eqb n 0 other in cc) ]
+
+-- what is written to a whole list
+pub whole : (n : ℕ) (xs ys : List Bool) → length xs ≡ n → take n (xs ++ ys) ≡ xs
+whole n xs ys long = ap (λ k. take k (xs ++ ys)) (sym long) ∙ take-length-append xs ys
+  where
+    take-length-append : (xs ys : List Bool) → take (length xs) (xs ++ ys) ≡ xs
+    take-length-append [] ys = refl
+    take-length-append (x ∷ xs) ys = ap (λ zs. x ∷ zs) (take-length-append xs ys)

@@ -1,5 +1,5 @@
 -- The order of tasks at a moment: it goes on over a task between, and it is one for tasks of one edge.
-use Rattle.std.proofs.Common.{◌≡◌, ℕ, zero, suc, ◌+◌, ◌*◌, ◌<◌, ◌≤◌, ◌⊎◌, inl, inr, refl, sym, ap, ◌∙◌, arith, subst}
+use Rattle.std.proofs.Common.{◌≡◌, ℕ, ◌*◌, ◌<◌, ◌≤◌, ◌⊎◌, inl, inr, ap, ◌∙◌, arith}
 use Rattle.std.proofs.lemmas.Bool.{cases_lt}
 use Rattle.std.proofs.Math.Nat.{mul-le-mul_right, mul-lt-mul_of_pos_right, mul_right_comm, lt_of_mul-lt-mul_right}
 use Rattle.path_scanning.specs.declared.candidate.Candidate.{Candidate}
@@ -32,18 +32,18 @@ quotients_below : (a p b q x r : ℕ) → 1 ≤ q → 1 ≤ r → a * q < b * p 
 quotients_below a p b q x r some_q some_r less least =
     lt_of_mul-lt-mul_right q {m = a * r} {n = x * p}
     (
-      let first : a * q * r < b * p * r = mul-lt-mul_of_pos_right {m = a * q} {n = b * p} {k = r} less some_r in
-      let second : b * r * p ≤ x * q * p = mul-le-mul_right {m = b * r} {n = x * q} p least in
-      omega (arith, first, second, mul_right_comm a q r, mul_right_comm b p r, mul_right_comm x q p)
+    let first : a * q * r < b * p * r = mul-lt-mul_of_pos_right {m = a * q} {n = b * p} {k = r} less some_r in
+    let second : b * r * p ≤ x * q * p = mul-le-mul_right {m = b * r} {n = x * q} p least in
+    omega (arith, first, second, mul_right_comm a q r, mul_right_comm b p r, mul_right_comm x q p)
     )
 
 quotients_above : (a p b q x r : ℕ) → 1 ≤ q → 1 ≤ p → a * q ≤ b * p → b * r < x * q → a * r < x * p
 quotients_above a p b q x r some_q some_p least less =
     lt_of_mul-lt-mul_right q {m = a * r} {n = x * p}
     (
-      let first : a * q * r ≤ b * p * r = mul-le-mul_right {m = a * q} {n = b * p} r least in
-      let second : b * r * p < x * q * p = mul-lt-mul_of_pos_right {m = b * r} {n = x * q} {k = p} less some_p in
-      omega (arith, first, second, mul_right_comm a q r, mul_right_comm b p r, mul_right_comm x q p)
+    let first : a * q * r ≤ b * p * r = mul-le-mul_right {m = a * q} {n = b * p} r least in
+    let second : b * r * p < x * q * p = mul-lt-mul_of_pos_right {m = b * r} {n = x * q} {k = p} less some_p in
+    omega (arith, first, second, mul_right_comm a q r, mul_right_comm b p r, mul_right_comm x q p)
     )
 
 quotients_same : (a p b q x r : ℕ) → 1 ≤ q → a * q ≡ b * p → b * r ≡ x * q → a * r ≡ x * p
@@ -51,15 +51,15 @@ quotients_same a p b q x r some_q left right =
     elim (cases_lt (a * r) (x * p)) [
       | inl less ↦
           absurd (
-            let first : a * r * q < x * p * q = mul-lt-mul_of_pos_right {m = a * r} {n = x * p} {k = q} less some_q in
-            omega (arith, first, ap (λ n. n * r) left, ap (λ n. n * p) right, mul_right_comm a q r, mul_right_comm b p r, mul_right_comm x q p)
+          let first : a * r * q < x * p * q = mul-lt-mul_of_pos_right {m = a * r} {n = x * p} {k = q} less some_q in
+          omega (arith, first, ap (λ n. n * r) left, ap (λ n. n * p) right, mul_right_comm a q r, mul_right_comm b p r, mul_right_comm x q p)
           )
       | inr least ↦
           elim (cases_lt (x * p) (a * r)) [
             | inl less ↦
                 absurd (
-                  let first : x * p * q < a * r * q = mul-lt-mul_of_pos_right {m = x * p} {n = a * r} {k = q} less some_q in
-                  omega (arith, first, ap (λ n. n * r) left, ap (λ n. n * p) right, mul_right_comm a q r, mul_right_comm b p r, mul_right_comm x q p)
+                let first : x * p * q < a * r * q = mul-lt-mul_of_pos_right {m = x * p} {n = a * r} {k = q} less some_q in
+                omega (arith, first, ap (λ n. n * r) left, ap (λ n. n * p) right, mul_right_comm a q r, mul_right_comm b p r, mul_right_comm x q p)
                 )
             | inr least' ↦ omega arith
           ]

@@ -1,5 +1,5 @@
 -- From where a tour stands steps lead to each task, and home.
-use Rattle.std.proofs.Common.{◌≡◌, ℕ, Bool, true, false, ◌≤◌, length, ◌⊎◌, inl, inr, List, [], ◌∷◌, refl, sym, ap, ◌∙◌, arith, subst}
+use Rattle.std.proofs.Common.{◌≡◌, ℕ, Bool, true, false, inl, inr, List, [], ◌∷◌, refl, sym, ◌∙◌, arith, subst}
 use Rattle.std.specs.Prelude.{Option, None, Some, IsSome, MatchOption}
 use Rattle.plan_model.specs.declared.step.Step.{Step}
 use Rattle.carp_base.specs.declared.edge.Task.{Task}

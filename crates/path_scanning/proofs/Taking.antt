@@ -1,10 +1,10 @@
 -- Tasks that were taken one after another.
-use Rattle.std.proofs.Common.{◌≡◌, ℕ, zero, suc, ◌+◌, ◌-◌, ◌<◌, ◌≤◌, Bool, true, false, not, cond, List, [], ◌∷◌, ◌++◌, length, get_or, refl, sym, ap, ◌∙◌, arith, subst}
+use Rattle.std.proofs.Common.{◌≡◌, ℕ, zero, suc, ◌+◌, ◌-◌, ◌≤◌, Bool, true, false, not, cond, List, [], ◌∷◌, ◌++◌, length, get_or, refl, sym, ap, ◌∙◌, arith, subst}
 use Rattle.std.proofs.Math.ListN.{set, length-set}
-use Rattle.std.specs.List.{count_by, sum_by, AllByRecursion}
+use Rattle.std.specs.List.{sum_by, AllByRecursion}
 use Rattle.std.proofs.lemmas.List.Sums.{sum_by-set}
 use Rattle.carp_base.specs.declared.edge.Task.{Task}
-use Rattle.carp_base.specs.Problem.{Problem, IsRequired, edge_at, head_of}
+use Rattle.carp_base.specs.Problem.{Problem, edge_at, head_of}
 use Rattle.path_scanning.specs.declared.rule.Rule.{Rule}
 use Rattle.path_scanning.specs.Scans.{ScanMoment, FitsNext, IsNextTask, TakesNext, moment_after, served_after, is_served, with_served}
 use Rattle.path_scanning.specs.Choosing.{TasksTaken, open_count}

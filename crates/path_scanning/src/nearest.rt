@@ -53,8 +53,24 @@ pub(crate) fn nearest(
     let mut best: Option<Candidate> = None;
     for edge in 1..inst.required() + 1 {
         if !served[edge as usize - 1] && load + inst.edge(edge).demand <= inst.capacity() {
-            let forward = measure(inst, dist, at, Task { edge, forward: true });
-            let backward = measure(inst, dist, at, Task { edge, forward: false });
+            let forward = measure(
+                inst,
+                dist,
+                at,
+                Task {
+                    edge,
+                    forward: true,
+                },
+            );
+            let backward = measure(
+                inst,
+                dist,
+                at,
+                Task {
+                    edge,
+                    forward: false,
+                },
+            );
             let next = forward.first_of(backward, tie);
             best = match best {
                 Some(found) => Some(found.first_of(next, tie)),

@@ -1,6 +1,4 @@
-use Rattle.std.proofs.Common.{◌≡◌, ◌+◌, ◌≤◌, ℕ, sym, subst, ap, ◌∙◌, arith}
-use Rattle.std.specs.Prelude.{Option, None, Some}
-use Rattle.path_scanning.specs.declared.candidate.Candidate.{Candidate}
+use Rattle.std.proofs.Common.{◌+◌, ◌≤◌, sym, subst, ap, arith}
 use Rattle.path_scanning.specs.Choosing.{FindsFirst}
 use Rattle.path_scanning.specs.Scans.{ScanMoment}
 use Rattle.path_scanning.proofs.Finding.{found_first, found_better, found_same, fits_now, unfit_served}

@@ -1,4 +1,4 @@
-use Rattle.std.proofs.Common.{◌≡◌, ◌*◌, ◌≤◌, length, take}
+use Rattle.std.proofs.Common.{◌*◌, ◌≤◌, length, take}
 use Rattle.path_scanning.specs.Choosing.{IsStand}
 use Rattle.path_scanning.specs.Walking.{GoesOn, service_steps}
 use Rattle.path_scanning.proofs.walking.join.Given as goal
