@@ -4,3 +4,4 @@ pub mod Taking
 pub mod Standing
 pub mod Going
 pub mod Plans
+pub mod Once

@@ -41,10 +41,10 @@ services_all P (s ∷ walk) all = one s.served (services_all P walk) all
     one false onward all = let rest = onward all in (((λ is. absurd (let both : true ≡ false = sym is in cc)), rest.0), rest.1)
 
 module _ (p : Problem) (rule : Rule) where
-  next_fits : (m : ScanMoment) (t : Task) → IsNextTask p rule m t → FitsNext p m t.edge
+  pub next_fits : (m : ScanMoment) (t : Task) → IsNextTask p rule m t → FitsNext p m t.edge
   next_fits m t next = subst (λ (y : Task). FitsNext p m y.edge) next.task next.first.can.fits
 
-  taken_required : (m : ScanMoment) (ts : List Task) → TakesNext p rule m ts → AllByRecursion (λ t. IsRequired p t.edge) ts
+  pub taken_required : (m : ScanMoment) (ts : List Task) → TakesNext p rule m ts → AllByRecursion (λ t. IsRequired p t.edge) ts
   taken_required m [] takes = tt
   taken_required m (t ∷ ts) takes = ((next_fits m t takes.0).required, taken_required (moment_after p m t) ts takes.1)
 

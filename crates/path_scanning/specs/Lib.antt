@@ -2,3 +2,4 @@ pub mod Ties
 pub mod Scans
 pub mod Choosing
 pub mod Walking
+pub mod Cheapest

@@ -7,8 +7,10 @@ mod candidate;
 mod ends;
 mod nearest;
 mod rule;
+mod scanner;
 mod scanning;
 mod walking;
 
 pub use rule::Rule;
+pub use scanner::Scanner;
 pub use scanning::scan;
