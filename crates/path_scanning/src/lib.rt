@@ -9,6 +9,8 @@ mod nearest;
 mod rule;
 mod scanner;
 mod scanning;
+#[cfg(test)]
+mod tests;
 mod walking;
 
 pub use rule::Rule;
