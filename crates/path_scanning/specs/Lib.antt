@@ -3,3 +3,4 @@ pub mod Scans
 pub mod Choosing
 pub mod Walking
 pub mod Cheapest
+pub mod Examples

@@ -5,6 +5,8 @@
 
 mod candidate;
 mod ends;
+#[cfg(test)]
+mod examples;
 mod nearest;
 mod rule;
 mod scanner;
