@@ -10,11 +10,11 @@ use Rattle.plan_model.specs.Plans.{Leads}
 use Rattle.deadhead_paths.specs.Prices.{NoneServed, IsLeastPath, price_of, costs_of}
 use Rattle.deadhead_paths.specs.Tidy.{GoByLeastPaths, served_steps}
 use Rattle.deadhead_paths.specs.Tours.{task_of, tasks_of}
-use Rattle.path_scanning.specs.Walking.{AddsLeastPath, GoesOn, service_step, service_steps}
+use Rattle.path_scanning.specs.Walking.{AddsLeastPath, GoesThrough, service_step, service_steps}
 
 -- one service more
-pub goes_more : (p : Problem) (services steps path : List Step) (a b : ℕ) (s : Step) → GoesOn p services a b steps → IsLeastPath p (price_of (costs_of p)) b (tail_of (edge_at p s.edge) s.forward) path →
-    GoesOn p (services ++ s ∷ []) a (head_of (edge_at p s.edge) s.forward) (steps ++ (path ++ s ∷ []))
+pub goes_more : (p : Problem) (services steps path : List Step) (a b : ℕ) (s : Step) → GoesThrough p services a b steps → IsLeastPath p (price_of (costs_of p)) b (tail_of (edge_at p s.edge) s.forward) path →
+    GoesThrough p (services ++ s ∷ []) a (head_of (edge_at p s.edge) s.forward) (steps ++ (path ++ s ∷ []))
 goes_more p [] steps path a b s goes least =
     (path, [], subst (λ v. IsLeastPath p (price_of (costs_of p)) v (tail_of (edge_at p s.edge) s.forward) path) (sym goes.0) least, ap (λ xs. xs ++ (path ++ s ∷ [])) goes.1, (refl, refl))
 goes_more p (u ∷ services) steps path a b s goes least = (
@@ -26,7 +26,7 @@ goes_more p (u ∷ services) steps path a b s goes least = (
 )
 
 -- and the way home
-pub goes_home : (p : Problem) (services steps path : List Step) (a b c : ℕ) → GoesOn p services a b steps → IsLeastPath p (price_of (costs_of p)) b c path → GoByLeastPaths p services a c (steps ++ path)
+pub goes_home : (p : Problem) (services steps path : List Step) (a b c : ℕ) → GoesThrough p services a b steps → IsLeastPath p (price_of (costs_of p)) b c path → GoByLeastPaths p services a c (steps ++ path)
 goes_home p [] steps path a b c goes least =
     subst (IsLeastPath p (price_of (costs_of p)) a c) (ap (λ xs. xs ++ path) (sym goes.1)) (subst (λ v. IsLeastPath p (price_of (costs_of p)) v c path) (sym goes.0) least)
 goes_home p (u ∷ services) steps path a b c goes least = (
@@ -71,21 +71,21 @@ goes_leads p (s ∷ services) steps a b numbers goes =
     )
 
 -- the same for tasks by their places, on the way and at the end
-pub tasks_more : (p : Problem) (tasks : List Task) (i : ℕ) (d : Task) (at : ℕ) (walk followed joined : List Step) → i < length tasks → GoesOn p (service_steps (take i tasks)) p.depot at walk →
+pub tasks_more : (p : Problem) (tasks : List Task) (i : ℕ) (d : Task) (at : ℕ) (walk followed joined : List Step) → i < length tasks → GoesThrough p (service_steps (take i tasks)) p.depot at walk →
     AddsLeastPath p at (tail_of (edge_at p (get_or tasks i d).edge) (get_or tasks i d).forward) walk followed → joined ≡ followed ++ service_step (get_or tasks i d) ∷ [] →
-    GoesOn p (service_steps (take (i + 1) tasks)) p.depot (head_of (edge_at p (get_or tasks i d).edge) (get_or tasks i d).forward) joined
+    GoesThrough p (service_steps (take (i + 1) tasks)) p.depot (head_of (edge_at p (get_or tasks i d).edge) (get_or tasks i d).forward) joined
 tasks_more p tasks i d at walk followed joined in_range goes adds pushed =
     let t = get_or tasks i d in
     let services : service_steps (take (i + 1) tasks) ≡ service_steps (take i tasks) ++ service_step t ∷ [] = ap service_steps (take_more tasks i d in_range) ∙ map-append service_step (take i tasks) (t ∷ []) in
     let steps : joined ≡ walk ++ (adds.path ++ service_step t ∷ []) = pushed ∙ ap (λ xs. xs ++ service_step t ∷ []) adds.added ∙ append_assoc walk adds.path (service_step t ∷ []) in
-    subst (λ ss. GoesOn p ss p.depot (head_of (edge_at p t.edge) t.forward) joined) (sym services)
+    subst (λ ss. GoesThrough p ss p.depot (head_of (edge_at p t.edge) t.forward) joined) (sym services)
     (
-    subst (GoesOn p (service_steps (take i tasks) ++ service_step t ∷ []) p.depot (head_of (edge_at p t.edge) t.forward)) (sym steps)
+    subst (GoesThrough p (service_steps (take i tasks) ++ service_step t ∷ []) p.depot (head_of (edge_at p t.edge) t.forward)) (sym steps)
     (goes_more p (service_steps (take i tasks)) walk adds.path p.depot at (service_step t) goes adds.least)
     )
 
-pub tasks_whole : (p : Problem) (tasks : List Task) (i at : ℕ) (walk joined : List Step) → length tasks ≤ i → GoesOn p (service_steps (take i tasks)) p.depot at walk → AddsLeastPath p at p.depot walk joined →
+pub tasks_whole : (p : Problem) (tasks : List Task) (i at : ℕ) (walk joined : List Step) → length tasks ≤ i → GoesThrough p (service_steps (take i tasks)) p.depot at walk → AddsLeastPath p at p.depot walk joined →
     GoByLeastPaths p (service_steps tasks) p.depot p.depot joined
 tasks_whole p tasks i at walk joined all goes adds =
     subst (GoByLeastPaths p (service_steps tasks) p.depot p.depot) (sym adds.added)
-    (goes_home p (service_steps tasks) walk adds.path p.depot at p.depot (subst (λ ts. GoesOn p (service_steps ts) p.depot at walk) (take_all i tasks all) goes) adds.least)
+    (goes_home p (service_steps tasks) walk adds.path p.depot at p.depot (subst (λ ts. GoesThrough p (service_steps ts) p.depot at walk) (take_all i tasks all) goes) adds.least)

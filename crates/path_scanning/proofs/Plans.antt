@@ -4,7 +4,7 @@ use Rattle.std.specs.Prelude.{IsTrue, replicate}
 use Rattle.std.specs.List.{sum_by, count_by, AllByRecursion}
 use Rattle.std.proofs.Math.ListN.{set}
 use Rattle.std.proofs.lemmas.Bool.{cases_eq, eq-eqb, ne_eqb}
-use Rattle.std.proofs.lemmas.List.{get_or-set_same, get_or-set_other}
+use Rattle.std.proofs.lemmas.List.{take-append-le, take_all, get_or-set_same, get_or-set_other, get_or-replicate}
 use Rattle.std.proofs.lemmas.List.Sums.{sum_by-cons, sum_by-append}
 use Rattle.carp_base.specs.declared.edge.Task.{Task}
 use Rattle.carp_base.specs.Problem.{Problem, IsValid, IsRequired, IsEdgeNumber, edge_at}
@@ -171,12 +171,7 @@ module _ (p : Problem) (rule : Rule) where
 -- at the start no edge is served
 pub none_served : (p : Problem) (e : ℕ) → IsRequired p e → is_served (replicate p.required false) e ≡ false
 none_served p zero required = absurd (omega (arith, required.from_one))
-none_served p (suc k) required = get_or-replicate_same p.required k
-  where
-    get_or-replicate_same : (n i : ℕ) → get_or (replicate n false) i false ≡ false
-    get_or-replicate_same zero i = refl
-    get_or-replicate_same (suc n) zero = refl
-    get_or-replicate_same (suc n) (suc i) = get_or-replicate_same n i
+none_served p (suc k) required = get_or-replicate p.required k false false (let below = required.in_range in omega arith)
 
 -- a length that is told by a test
 pub some_long : (n : ℕ) → (n == 0) ≡ false → 1 ≤ n
@@ -188,8 +183,4 @@ none_long n test = elim (cases_eq n 0) [ inl is ↦ is | inr other ↦ absurd (l
 
 -- what is written to a whole list
 pub whole : (n : ℕ) (xs ys : List Bool) → length xs ≡ n → take n (xs ++ ys) ≡ xs
-whole n xs ys long = ap (λ k. take k (xs ++ ys)) (sym long) ∙ take-length-append xs ys
-  where
-    take-length-append : (xs ys : List Bool) → take (length xs) (xs ++ ys) ≡ xs
-    take-length-append [] ys = refl
-    take-length-append (x ∷ xs) ys = ap (λ zs. x ∷ zs) (take-length-append xs ys)
+whole n xs ys long = take-append-le n xs ys (omega (arith, long)) ∙ take_all n xs (omega (arith, long))

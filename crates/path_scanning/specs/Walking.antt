@@ -19,8 +19,8 @@ pub record AddsLeastPath (p : Problem) (a b : ℕ) (before after : List Step) : 
   pub added : after ≡ before ++ path
 
 -- from a the steps go by a least path to each of these services in turn and over it, and so end at b
-abbrev pub GoesOn : Problem → List Step → ℕ → ℕ → List Step → Type 0
-GoesOn p [] a b steps = (a ≡ b) × (steps ≡ [])
-GoesOn p (s ∷ services) a b steps =
+abbrev pub GoesThrough : Problem → List Step → ℕ → ℕ → List Step → Type 0
+GoesThrough p [] a b steps = (a ≡ b) × (steps ≡ [])
+GoesThrough p (s ∷ services) a b steps =
     (out rest : List Step) × IsLeastPath p (price_of (costs_of p)) a (tail_of (edge_at p s.edge) s.forward) out
-    × (steps ≡ out ++ s ∷ rest) × GoesOn p services (head_of (edge_at p s.edge) s.forward) b rest
+    × (steps ≡ out ++ s ∷ rest) × GoesThrough p services (head_of (edge_at p s.edge) s.forward) b rest

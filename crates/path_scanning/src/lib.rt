@@ -1,6 +1,6 @@
 //! Plans by path scanning: tours that go to the nearest edge that fits, with five rules for ties.
 //!
-//! [`scan`] makes the plan of one rule.
+//! [`scan`] makes the plan of one rule, and [`Scanner`] is a helper that offers the cheapest of the five.
 #![tactic(auto)]
 
 mod candidate;
