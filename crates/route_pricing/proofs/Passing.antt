@@ -10,7 +10,7 @@ use Rattle.route_pricing.specs.Partial.{no_value}
 use Rattle.route_pricing.specs.declared.grid.Grid.{Grid}
 use Rattle.route_pricing.specs.declared.labels.Labels.{Labels}
 use Rattle.route_pricing.specs.Partial.{IsGrid, width, column_task, task_start, task_end, between, crossed, Reaches, IsCell, IsJoin, IsLeastJoin}
-use Rattle.route_pricing.specs.Labels.{no_labels, labels_at, AreTwo, IsBounded, IsInserted, IsFromEither, AreLabelsJoined, Passes, IsLayer, IsCarried, AreSoundAt, AreLabelsSound, Keeps, BoundsEnds, label_sum, IsStreetSettled, AreStreetsSettled, AreSpread}
+use Rattle.route_pricing.specs.Labels.{no_labels, labels_at, AreTwo, IsBounded, IsInserted, IsFromEither, AreLabelsJoined, Passes, IsLayer, IsCarried, AreSoundAt, AreLabelsSound, Keeps, BoundsEnds, label_sum, AreStreetsSettled, AreSpread}
 use Rattle.route_pricing.proofs.Partials.{leads_more, column_of, task_is, column_in, reaches_required, not_both, head_reached, tail_reached}
 use Rattle.route_pricing.proofs.Copies.{reached_in}
 
@@ -79,38 +79,22 @@ module _ (g : Grid) (grid : IsGrid g) where
     leads = leads_more g.inst g.inst.depot (tail_of (edge_at g.inst e) f) tail.path (record { edge = e; forward = f }) tail.leads number refl;
   }
 
-  pub street_there : (e n : ℕ) → IsEdgeNumber g.inst e → n ≡ slice_index g.lengths.items (e - 1) → IsReached g.inst (edge_at g.inst e).u → IsReached g.inst (edge_at g.inst e).v × (between g (edge_at g.inst e).u (edge_at g.inst e).v ≤ n)
-  street_there e n number is u_in = (ends_reached e true number u_in, omega (arith, is, grid.lengths e number))
-
-  pub street_back : (e n : ℕ) → IsEdgeNumber g.inst e → n ≡ slice_index g.lengths.items (e - 1) → IsReached g.inst (edge_at g.inst e).v → IsReached g.inst (edge_at g.inst e).u × (between g (edge_at g.inst e).v (edge_at g.inst e).u ≤ n)
-  street_back e n number is v_in =
+  pub street_on : (e n : ℕ) (f : Bool) → IsEdgeNumber g.inst e → n ≡ slice_index g.lengths.items (e - 1) → IsReached g.inst (tail_of (edge_at g.inst e) f) →
+      IsReached g.inst (head_of (edge_at g.inst e) f) × (between g (tail_of (edge_at g.inst e) f) (head_of (edge_at g.inst e) f) ≤ n)
+  street_on e n true number is u_in = (ends_reached e true number u_in, omega (arith, is, grid.lengths e number))
+  street_on e n false number is v_in =
       let u_in = ends_reached e false number v_in in
       (u_in, omega (arith, is, grid.lengths e number, grid.both_ways (edge_at g.inst e).u (edge_at g.inst e).v u_in v_in))
-
-  pub still_both : (layer mid new : List Labels) (e n : ℕ) (x : Edge) → x ≡ edge_at g.inst e → n ≡ slice_index g.lengths.items (e - 1) →
-      (mid ≡ layer) × Passes (labels_at layer x.u) n (labels_at layer x.v) → (new ≡ mid) × Passes (labels_at mid x.v) n (labels_at mid x.u) → (new ≡ layer) × IsStreetSettled g layer e
-  still_both layer mid new e n x x_is n_is p q =
-      let back : Passes (labels_at layer x.v) n (labels_at layer x.u) = subst (λ l. Passes (labels_at l x.v) n (labels_at l x.u)) p.0 q.1 in
-      let settled = λ (y : Edge) (k : ℕ). Passes (labels_at layer y.u) k (labels_at layer y.v) × Passes (labels_at layer y.v) k (labels_at layer y.u) in
-      let both : settled (edge_at g.inst e) (slice_index g.lengths.items (e - 1)) = subst (λ y. settled y (slice_index g.lengths.items (e - 1))) x_is (subst (settled x) n_is (p.1, back)) in
-      (q.0 ∙ p.0, record { there = both.0; back = both.1 })
-
-  pub sweep_still : (layer new : List Labels) (number : ℕ) → (new ≡ layer) × IsStreetSettled g layer number → ((e : ℕ) → IsEdgeNumber g.inst e → e < number → IsStreetSettled g layer e) →
-      (e : ℕ) → IsEdgeNumber g.inst e → e < number + 1 → IsStreetSettled g new e
-  sweep_still layer new number one each e e_in before = subst (λ l. IsStreetSettled g l e) (sym one.0) (elim (cases_eq e number) [
-    | inl same ↦ subst (IsStreetSettled g layer) (sym same) one.1
-    | inr other ↦ each e e_in (omega (arith, before, other))
-  ])
 
   -- what is bounded at one vertex is bounded at the end of a way from there
   module _ (layer : List Labels) (settled : AreStreetsSettled g layer) where
     one_on : (e : ℕ) (f : Bool) (edge v : ℕ) → IsEdgeNumber g.inst e → IsReached g.inst (tail_of (edge_at g.inst e) f) → IsBounded (labels_at layer (tail_of (edge_at g.inst e) f)) edge v →
         IsBounded (labels_at layer (head_of (edge_at g.inst e) f)) edge (v + between g (tail_of (edge_at g.inst e) f) (head_of (edge_at g.inst e) f))
     one_on e true edge v number tail bound =
-        subst (λ n. IsBounded (labels_at layer (edge_at g.inst e).v) edge (v + n)) (grid.lengths e number) ((settled e number).there edge v bound)
+        subst (λ n. IsBounded (labels_at layer (edge_at g.inst e).v) edge (v + n)) (grid.lengths e number) (settled e true number edge v bound)
     one_on e false edge v number tail bound =
         subst (λ n. IsBounded (labels_at layer (edge_at g.inst e).u) edge (v + n))
-        (grid.lengths e number ∙ grid.both_ways (edge_at g.inst e).u (edge_at g.inst e).v (ends_reached e false number tail) tail) ((settled e number).back edge v bound)
+        (grid.lengths e number ∙ grid.both_ways (edge_at g.inst e).u (edge_at g.inst e).v (ends_reached e false number tail) tail) (settled e false number edge v bound)
 
     bound_on : (path : List Task) (a b edge v : ℕ) → IsReached g.inst a → TasksLead g.inst a path b → IsBounded (labels_at layer a) edge v → IsBounded (labels_at layer b) edge (v + crossed g path)
     bound_on [] a b edge v a_in leads bound =

@@ -1,11 +1,13 @@
 // Labels carried over the streets.
-ghost use Rattle.std.specs.Prelude.{◌≡◌, ◌+◌, ◌<◌, ◌≤◌, ◌-◌, ℕ, true, false, length, slice_index};
+ghost use Rattle.std.specs.Prelude.{◌≡◌, ◌+◌, ◌<◌, ◌≤◌, ◌≢◌, ◌-◌, ℕ, true, false, length, slice_index, IsTrue};
 ghost use Rattle.carp_base.specs.Problem.{IsVertex, IsEdgeNumber, IsReached, edge_at};
+ghost use Rattle.road_network.specs.Incidence.{incident, has_end};
 ghost use Rattle.route_pricing.specs.Partial.{IsGrid, between};
-ghost use Rattle.route_pricing.specs.Labels.{IsLayer, AreLabelsSound, Keeps, Passes, IsStreetSettled, AreStreetsSettled, labels_at, label_sum};
+ghost use Rattle.route_pricing.specs.Labels.{IsLayer, AreLabelsSound, CarriesOn, Passes, AreStreetsSettled, AreMarked, AreMarkedBut, AreMarkedBefore, labels_at, label_sum, is_marked, work_left, visited_at};
 
-use crate::grid::Grid;
+use crate::grid::{Grid, UNREACHED};
 use crate::labels::Labels;
+use road_network::far_end;
 
 impl Grid {
     // Puts the labels of one vertex in among those of another, over a street of this length; whether those changed.
@@ -13,12 +15,13 @@ impl Grid {
         requires layer { IsLayer self.now layer.old }
         requires from { IsVertex self.now.inst from }
         requires to { IsVertex self.now.inst to }
-        ensures layer { IsLayer self.now layer.new }
-        ensures sound { (load : ℕ) → IsGrid self.now → (IsReached self.now.inst from → IsReached self.now.inst to × (between self.now from to ≤ length)) → AreLabelsSound self.now load layer.old → AreLabelsSound self.now load layer.new }
-        ensures keeps { Keeps self.now layer.old layer.new }
-        ensures falls { label_sum layer.new ≤ label_sum layer.old }
+        requires reached { IsReached self.now.inst from → IsReached self.now.inst to × (between self.now from to ≤ length) }
+        requires grid { IsGrid self.now }
+        ensures on { CarriesOn self.now layer.old layer.new }
         ensures fewer { result ≡ true → label_sum layer.new < label_sum layer.old }
-        ensures still { result ≡ false → (layer.new ≡ layer.old) × Passes (labels_at layer.old from) length (labels_at layer.old to) }
+        ensures passes { Passes (labels_at layer.old from) length (labels_at layer.new to) }
+        ensures others { (h : ℕ) → h ≢ to → labels_at layer.new h ≡ labels_at layer.old h }
+        ensures still { result ≡ false → layer.new ≡ layer.old }
     {
         let old = layer[to as usize];
         let new = layer[from as usize].joined(old, length);
@@ -29,57 +32,115 @@ impl Grid {
         false
     }
 
-    // Puts the labels of each end of a street in among those of the other; whether any changed.
-    fn settle(&self, layer: &mut [Labels], number: u32) -> bool
+    // Passes the labels of one end of a street on to the other, which is marked where its labels change.
+    fn cross(&self, layer: &mut [Labels], marks: &mut [bool], from: u32, number: u32)
         requires grid { IsGrid self.now }
         requires layer { IsLayer self.now layer.old }
+        requires marks { length marks.old ≡ self.now.inst.vertices + 1 }
+        requires from { IsVertex self.now.inst from }
         requires number { IsEdgeNumber self.now.inst number }
-        ensures layer { IsLayer self.now layer.new }
-        ensures sound { (load : ℕ) → AreLabelsSound self.now load layer.old → AreLabelsSound self.now load layer.new }
-        ensures keeps { Keeps self.now layer.old layer.new }
-        ensures falls { label_sum layer.new ≤ label_sum layer.old }
-        ensures fewer { result ≡ true → label_sum layer.new < label_sum layer.old }
-        ensures still { result ≡ false → (layer.new ≡ layer.old) × IsStreetSettled self.now layer.old number }
+        requires there { IsTrue (has_end from (edge_at self.now.inst number)) }
+        ensures on { CarriesOn self.now layer.old layer.new }
+        ensures marks { length marks.new ≡ self.now.inst.vertices + 1 }
+        ensures work { work_left layer.new marks.new ≤ work_left layer.old marks.old }
+        ensures passed { (place : ℕ) → slice_index (incident self.now.inst from) place ≡ number → AreMarkedBefore self.now layer.old marks.old from place → AreMarkedBefore self.now layer.new marks.new from (place + 1) }
     {
-        let edge = self.inst.edge(number);
+        let to = far_end(&self.inst.edge(number), from);
         let length = self.lengths[number as usize - 1];
-        let there = self.pass(layer, edge.u, edge.v, length);
-        let back = self.pass(layer, edge.v, edge.u, length);
-        there || back
+        if self.pass(layer, from, to, length) {
+            marks[to as usize] = true;
+        }
     }
 
-    // Settles each street once; whether any label changed.
-    fn sweep(&self, layer: &mut [Labels]) -> bool
+    // Passes the labels of a vertex on over each street there.
+    fn leave(&self, layer: &mut [Labels], marks: &mut [bool], from: u32)
         requires grid { IsGrid self.now }
         requires layer { IsLayer self.now layer.old }
-        ensures layer { IsLayer self.now layer.new }
-        ensures sound { (load : ℕ) → AreLabelsSound self.now load layer.old → AreLabelsSound self.now load layer.new }
-        ensures keeps { Keeps self.now layer.old layer.new }
-        ensures falls { label_sum layer.new ≤ label_sum layer.old }
-        ensures fewer { result ≡ true → label_sum layer.new < label_sum layer.old }
-        ensures still { result ≡ false → AreStreetsSettled self.now layer.new }
+        requires marks { length marks.old ≡ self.now.inst.vertices + 1 }
+        requires from { IsVertex self.now.inst from }
+        ensures on { CarriesOn self.now layer.old layer.new }
+        ensures marks { length marks.new ≡ self.now.inst.vertices + 1 }
+        ensures work { work_left layer.new marks.new ≤ work_left layer.old marks.old }
+        ensures marked { AreMarkedBut self.now layer.old marks.old from → AreMarked self.now layer.new marks.new }
     {
-        let mut changed = false;
-        for number in 1..self.inst.edge_count() + 1 {
-            if self.settle(layer, number) {
-                changed = true;
+        if layer[from as usize].first == UNREACHED {
+            return;
+        }
+        for place in 0..self.net.degree(from) {
+            let number = self.net.edge_at(from, place);
+            self.cross(layer, marks, from, number);
+        }
+    }
+
+    // Takes the mark of a vertex away, if it has one, and passes its labels on; whether it had one.
+    fn visit(&self, layer: &mut [Labels], marks: &mut [bool], vertex: u32) -> bool
+        requires grid { IsGrid self.now }
+        requires layer { IsLayer self.now layer.old }
+        requires marks { length marks.old ≡ self.now.inst.vertices + 1 }
+        requires vertex { IsVertex self.now.inst vertex }
+        requires marked { AreMarked self.now layer.old marks.old }
+        ensures on { CarriesOn self.now layer.old layer.new }
+        ensures marks { length marks.new ≡ self.now.inst.vertices + 1 }
+        ensures marked { AreMarked self.now layer.new marks.new }
+        ensures work { result ≡ true → work_left layer.new marks.new < work_left layer.old marks.old }
+        ensures falls { work_left layer.new marks.new ≤ work_left layer.old marks.old }
+        ensures still { result ≡ false → (layer.new ≡ layer.old) × (marks.new ≡ marks.old) × (is_marked marks.old vertex ≡ false) }
+    {
+        if !marks[vertex as usize] {
+            return false;
+        }
+        marks[vertex as usize] = false;
+        self.leave(layer, marks, vertex);
+        true
+    }
+
+    // The vertex that a sweep visits at a place from 0.
+    fn visited_at(&self, up: bool, place: u32) -> u32
+        requires { place < self.now.inst.vertices }
+        ensures value { result ≡ visited_at up self.now.inst.vertices place }
+        ensures vertex { IsVertex self.now.inst result }
+    {
+        let vertices = self.inst.vertices();
+        if up { place + 1 } else { vertices - place }
+    }
+
+    // Visits each vertex once, in rising or falling number; whether any was marked.
+    fn sweep(&self, layer: &mut [Labels], marks: &mut [bool], up: bool) -> bool
+        requires grid { IsGrid self.now }
+        requires layer { IsLayer self.now layer.old }
+        requires marks { length marks.old ≡ self.now.inst.vertices + 1 }
+        requires marked { AreMarked self.now layer.old marks.old }
+        ensures on { CarriesOn self.now layer.old layer.new }
+        ensures marks { length marks.new ≡ self.now.inst.vertices + 1 }
+        ensures marked { AreMarked self.now layer.new marks.new }
+        ensures work { result ≡ true → work_left layer.new marks.new < work_left layer.old marks.old }
+        ensures falls { work_left layer.new marks.new ≤ work_left layer.old marks.old }
+        ensures settled { result ≡ false → AreStreetsSettled self.now layer.new }
+    {
+        let mut found = false;
+        for place in 0..self.inst.vertices() {
+            if self.visit(layer, marks, self.visited_at(up, place)) {
+                found = true;
             }
         }
-        changed
+        found
     }
 
     // Carries the labels over the streets until none changes (Ford 1956, Moore 1959).
-    pub(crate) fn carry(&self, layer: &mut [Labels])
+    pub(crate) fn carry(&self, layer: &mut [Labels], marks: &mut [bool])
         requires grid { IsGrid self.now }
         requires layer { IsLayer self.now layer.old }
-        ensures layer { IsLayer self.now layer.new }
-        ensures sound { (load : ℕ) → AreLabelsSound self.now load layer.old → AreLabelsSound self.now load layer.new }
-        ensures keeps { Keeps self.now layer.old layer.new }
+        requires marks { length marks.old ≡ self.now.inst.vertices + 1 }
+        ensures on { CarriesOn self.now layer.old layer.new }
+        ensures marks { length marks.new ≡ self.now.inst.vertices + 1 }
         ensures settled { AreStreetsSettled self.now layer.new }
     {
-        let mut changed = true;
-        while changed {
-            changed = self.sweep(layer);
+        marks.fill(true);
+        let mut up = false;
+        let mut found = true;
+        while found {
+            up = !up;
+            found = self.sweep(layer, marks, up);
         }
     }
 }

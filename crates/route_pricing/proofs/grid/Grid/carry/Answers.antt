@@ -1,15 +1,15 @@
+use Rattle.route_pricing.proofs.Marking.{carries_more}
 use Rattle.route_pricing.proofs.grid.Grid.carry.Goals as goal
 
-pub loop-changed-preserved : goal.loop-changed-preserved
-loop-changed-preserved c =
-    let loop = c.loop-changed.invariant in
-    let one = c.sweep-changed.ensures in
+pub loop-found-preserved : goal.loop-found-preserved
+loop-found-preserved c =
+    let one = c.sweep-found.ensures in
     record {
-      layer = one.layer;
-      sound = λ load sound. one.sound load (loop.sound load sound);
-      keeps = λ h e v h_in bound. one.keeps h e v h_in (loop.keeps h e v h_in bound);
-      still = one.still;
+      on = carries_more c.args.self.now c.args.layer.now c.loop-found.layer c.sweep-found.new.layer c.loop-found.invariant.on one.on;
+      marks = one.marks;
+      marked = one.marked;
+      settled = one.settled;
     }
 
 pub returns-clause-settled : goal.returns-clause-settled
-returns-clause-settled c = c.loop-changed.invariant.still c.loop-changed-test.false
+returns-clause-settled c = c.loop-found.invariant.settled c.loop-found-test.false

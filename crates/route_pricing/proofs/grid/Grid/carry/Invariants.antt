@@ -1,14 +1,14 @@
-use Rattle.std.proofs.Common.{◌≡◌, ◌+◌, ℕ, false, cond}
-use Rattle.route_pricing.specs.Labels.{IsLayer, AreLabelsSound, Keeps, label_sum, AreStreetsSettled}
+use Rattle.std.proofs.Common.{◌≡◌, ◌+◌, false, cond, length}
+use Rattle.route_pricing.specs.Labels.{CarriesOn, AreMarked, AreStreetsSettled, work_left}
 use Rattle.route_pricing.proofs.grid.Grid.carry.Given as goal
 
-abbrev pub invariant-loop-changed : goal.invariant-loop-changed
-invariant-loop-changed l = record {
-  layer : IsLayer l.self l.layer;
-  sound : (load : ℕ) → AreLabelsSound l.self load l.fn.layer → AreLabelsSound l.self load l.layer;
-  keeps : Keeps l.self l.fn.layer l.layer;
-  still : l.changed ≡ false → AreStreetsSettled l.self l.layer;
+abbrev pub invariant-loop-found : goal.invariant-loop-found
+invariant-loop-found l = record {
+  on : CarriesOn l.self l.fn.layer l.layer;
+  marks : length l.marks ≡ l.self.inst.vertices + 1;
+  marked : AreMarked l.self l.layer l.marks;
+  settled : l.found ≡ false → AreStreetsSettled l.self l.layer;
 }
 
-abbrev pub decreases-loop-changed : goal.decreases-loop-changed
-decreases-loop-changed l = label_sum l.layer + cond l.changed 1 0
+abbrev pub decreases-loop-found : goal.decreases-loop-found
+decreases-loop-found l = work_left l.layer l.marks + cond l.found 1 0

@@ -1,29 +1,38 @@
-use Rattle.std.proofs.Common.{arith, sym, ◌∙◌}
+use Rattle.std.proofs.Common.{◌≡◌, ◌+◌, ◌<◌, ℕ, arith, ap, subst, sym, inl, inr, ◌∙◌, false}
+use Rattle.std.proofs.lemmas.Bool.{cases_eq}
+use Rattle.route_pricing.specs.Labels.{is_marked, visited_at}
 use Rattle.route_pricing.proofs.Partials.{not_both}
-use Rattle.route_pricing.proofs.Passing.{sweep_still}
-use Rattle.route_pricing.proofs.grid.Grid.sweep.Goals.{then-settle, else-settle}
+use Rattle.route_pricing.proofs.Marking.{carries_more, swept}
+use Rattle.route_pricing.proofs.grid.Grid.sweep.Goals.{then-visit, else-visit}
 use Rattle.route_pricing.proofs.grid.Grid.sweep.Goals as goal
 
-pub loop-number-preserved : goal.loop-number-preserved
-loop-number-preserved c =
+pub loop-place-preserved : goal.loop-place-preserved
+loop-place-preserved c =
     let g = c.args.self.now in
-    let loop = c.loop-number.invariant in
-    let one = c.settle.ensures in
+    let loop = c.loop-place.invariant in
+    let one = c.visit.ensures in
     record {
-      from_one = omega (arith, loop.from_one);
-      layer = one.layer;
-      sound = λ load sound. one.sound load (loop.sound load sound);
-      keeps = λ h e v h_in bound. one.keeps h e v h_in (loop.keeps h e v h_in bound);
+      on = carries_more g c.args.layer.now c.loop-place.layer c.visit.new.layer loop.on one.on;
+      marks = one.marks;
+      marked = one.marked;
       falls = omega (arith, one.falls, loop.falls);
-      fewer = λ changed. elim c.if-settle.branch [
-        | then-settle w ↦ omega (arith, one.fewer w.if-settle.true, loop.falls)
-        | else-settle w ↦ omega (arith, one.falls, loop.fewer (sym w.changed-is ∙ changed))
+      work = λ found. elim c.if-visit.branch [
+        | then-visit w ↦ omega (arith, one.work w.if-visit.true, loop.falls)
+        | else-visit w ↦ omega (arith, one.falls, loop.work (sym w.found-is ∙ found))
       ];
-      still = λ same. elim c.if-settle.branch [
-        | then-settle w ↦ absurd (not_both c.if-settle.changed w.changed-is same)
-        | else-settle w ↦ sweep_still g c.requires.grid c.loop-number.layer c.settle.new.layer c.loop-number.number (one.still w.if-settle.false) (loop.still (sym w.changed-is ∙ same))
+      none = λ found. elim c.if-visit.branch [
+        | then-visit w ↦ absurd (not_both c.if-visit.found w.found-is found)
+        | else-visit w ↦ λ j before.
+            let still = one.still w.if-visit.false in
+            let is_not : ℕ → Type 0 = λ k. is_marked c.visit.new.marks (visited_at c.args.up g.inst.vertices k) ≡ false in
+            elim (cases_eq j c.loop-place.place) [
+              | inl same ↦ subst is_not (sym same) (ap (λ ms. is_marked ms (visited_at c.args.up g.inst.vertices c.loop-place.place)) still.1 ∙ ap (is_marked c.loop-place.marks) (sym c.visited_at.ensures.value) ∙ still.2)
+              | inr other ↦ ap (λ ms. is_marked ms (visited_at c.args.up g.inst.vertices j)) still.1 ∙ loop.none (sym w.found-is ∙ found) j (omega (arith, before, other))
+            ]
       ];
     }
 
-pub returns-clause-still : goal.returns-clause-still
-returns-clause-still c = λ same e e_in. c.loop-number.invariant.still same e e_in (omega (arith, e_in.in_range, c.loop-number-test.false, c.loop-number.auto.number-end, c.edge_count-number-end.ensures.value))
+pub returns-clause-settled : goal.returns-clause-settled
+returns-clause-settled c = λ none.
+    swept c.args.self.now c.requires.grid c.loop-place.layer c.loop-place.marks c.args.up c.loop-place.invariant.marked
+    (λ j below. c.loop-place.invariant.none none j (omega (arith, below, c.loop-place-test.false, c.vertices-place-end.ensures.value, c.loop-place.auto.place-end)))
