@@ -1,11 +1,7 @@
-# What bench/solve and bench/read share: the program, the folder for all that is made, and the line that is printed.
+# What the scripts share: the folder for all that is made, the plain programs, and a race of `carp solve` beside one of them.
 bench=$(cd "$(dirname "${BASH_SOURCE[0]}")" && pwd) || exit 1
 carp=${CARP:-$bench/../crates/carp/out/carp}
 runs=${RUNS:-5}
-if [ ! -x "$carp" ]; then
-  echo "bench: no program at $carp; run ./carp once, which builds it, or name another in CARP" >&2
-  exit 1
-fi
 work=$(mktemp -d) || exit 1
 trap 'rm -rf "$work"' EXIT
 
@@ -17,6 +13,10 @@ build() {
 # race KIND NAME FILE: times carp and the plain program KIND on the file, and prints a row of the table in bench/README.md
 race() {
   local ours plain
+  if [ ! -x "$carp" ]; then
+    echo "bench: no program at $carp; run ./carp once, which builds it, or name another in CARP" >&2
+    return 1
+  fi
   ours=$("$work/clock" "$runs" 01 "$work/ours" "$carp" solve "$3" "$work/cert") || { cat "$work/ours" >&2; return 1; }
   plain=$("$work/clock" "$runs" 0 "$work/plain" "$work/$1" "$3") || return 1
   python3 "$bench/row.py" "$1" "$2" "$3" "$work/ours" "$work/plain" "$ours" "$plain"

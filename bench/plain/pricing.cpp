@@ -1,9 +1,10 @@
 // The least relaxed tour of a made town by a table over load and last task, with two labels a vertex that are carried over the streets.
 //
-// usage: pricing COLUMNS ROWS REQUIRED CAPACITY FILLS
+// usage: pricing COLUMNS ROWS STREETS REQUIRED CAPACITY FILLS
 //
 // The town: COLUMNS * ROWS corners, numbered from 1 along the rows, with a street from each to the next of its row and to that
-// below. x starts at 1, and each draw sets x to 6364136223846793005 * x + 1442695040888963407 modulo 2^64 and gives x / 2^33. First
+// below. x starts at 1, and each draw sets x to 6364136223846793005 * x + 1442695040888963407 modulo 2^64 and gives x / 2^33. Where
+// STREETS is more, further streets follow, each with a drawn corner u and one of the other corners. First
 // as many streets as are to be served, and then the others, in the order in which places are drawn: of the streets that are left,
 // in the order of their making, the one at a place drawn modulo their number goes next, and the last one moves to its place. Then
 // each street draws a cost of 10 to 99 and a demand of 1 to 10. The depot is corner 1. In fill number i, from 0, the price of each
@@ -58,7 +59,7 @@ public:
   uint32_t corners;
   std::vector<Street> streets;
 
-  Town(uint32_t columns, uint32_t rows) : corners(columns * rows) {
+  Town(uint32_t columns, uint32_t rows, size_t wanted) : corners(columns * rows) {
     std::vector<Street> made;
     for (uint32_t y = 0; y < rows; y++) {
       for (uint32_t x = 0; x < columns; x++) {
@@ -66,6 +67,11 @@ public:
         if (x + 1 < columns) made.push_back({at, at + 1, 0, 0});
         if (y + 1 < rows) made.push_back({at, at + columns, 0, 0});
       }
+    }
+    while (made.size() < wanted) {
+      uint32_t u = static_cast<uint32_t>(draw() % corners);
+      uint32_t v = static_cast<uint32_t>((u + 1 + draw() % (corners - 1)) % corners);
+      made.push_back({u, v, 0, 0});
     }
     while (!made.empty()) {
       size_t i = draw() % made.size();
@@ -193,17 +199,17 @@ private:
 };
 
 int main(int argc, char **argv) {
-  if (argc != 6) {
-    std::fprintf(stderr, "usage: pricing COLUMNS ROWS REQUIRED CAPACITY FILLS\n");
+  if (argc != 7) {
+    std::fprintf(stderr, "usage: pricing COLUMNS ROWS STREETS REQUIRED CAPACITY FILLS\n");
     return 3;
   }
   auto number = [&](int i) { return static_cast<uint32_t>(std::strtoul(argv[i], nullptr, 10)); };
-  uint32_t required = number(3);
-  Town town(number(1), number(2));
+  uint32_t required = number(4);
+  Town town(number(1), number(2), number(3));
   std::vector<Wide> distances = town.distances();
-  Table table(town, required, number(4), distances);
+  Table table(town, required, number(5), distances);
   __int128 sum = 0;
-  for (uint32_t i = 0; i < number(5); i++) {
+  for (uint32_t i = 0; i < number(6); i++) {
     std::vector<int64_t> prices;
     for (uint32_t e = 0; e < required; e++) prices.push_back(town.streets[e].cost + town.streets[e].demand * int64_t(7 + i % 5) + int64_t(draw() % 20));
     table.fill(prices);
