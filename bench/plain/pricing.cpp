@@ -16,9 +16,15 @@
 #include <queue>
 #include <vector>
 
+// Built with -DNARROW, its numbers have 64 bits, which serves for prices below 10^11.
+#ifdef NARROW
+using Wide = uint64_t;
+constexpr int64_t LIFT = 100000000000;
+#else
 using Wide = unsigned __int128;
-constexpr Wide NEVER = ~Wide(0);
 constexpr int64_t LIFT = 1000000000000000;
+#endif
+constexpr Wide NEVER = ~Wide(0);
 
 static uint64_t state = 1;
 static uint64_t draw() {
