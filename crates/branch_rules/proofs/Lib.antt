@@ -1,7 +1,7 @@
 pub mod Signed
 pub mod EdgeCosts
 pub mod ShoreNumbers
-pub mod Needs
+pub mod Places
 pub mod Bound
 pub mod Paying
 pub mod Services

@@ -83,8 +83,6 @@ impl Branch {
         ensures value { result ≡ lower_of inst.now pool.now self.now shore }
         ensures small { result ≤ 36000001 }
     {
-        // What a read of the instance says of it bounds the need of a shore.
-        let _ = inst.required();
         let set = pool.shore(shore);
         let least = need(inst, set).max(highest_of(&self.decisions, shore));
         least + (least % 2 + required_crossings(inst, set) % 2) % 2

@@ -5,7 +5,7 @@ use Rattle.branch_rules.specs.Prices.{weight_value, weight_at, no_weight}
 use Rattle.branch_rules.specs.Refusals.{HasUpper}
 use Rattle.branch_rules.specs.declared.weight.Weight.{Weight}
 use Rattle.branch_rules.proofs.Signed.{signed_sum_step}
-use Rattle.branch_rules.proofs.Needs.{one_more, all_at}
+use Rattle.branch_rules.proofs.Places.{one_more, all_at}
 use Rattle.branch_rules.proofs.branch.Branch.value_at.Goals as goal
 
 pub loop-weight-preserved : goal.loop-weight-preserved
