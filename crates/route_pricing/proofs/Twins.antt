@@ -23,7 +23,7 @@ stays a = record { steps = []; reached = record { unserved = tt; leads = refl; c
 pub crossing_pays : (n : ℕ) (steps : List Step) → Deadheads twin_streets (price_of (5 ∷ 5 ∷ [])) 2 1 n steps → 5 ≤ n
 crossing_pays n [] d = omega (arith, d.leads)
 crossing_pays n (s ∷ steps) d =
-    omega (arith, d.costs, price_of_twin s.edge d.leads.1.from_one d.leads.1.in_range, sum_by-cons (λ t. price_of (5 ∷ 5 ∷ []) t.edge) s steps)
+    omega (arith, d.costs, price_of_twin s.edge d.leads.0.from_one d.leads.0.in_range, sum_by-cons (λ t. price_of (5 ∷ 5 ∷ []) t.edge) s steps)
 
 -- and so does who serves both out of the depot
 pub one_way_pays : (n : ℕ) → LeastDeadhead twin_streets (price_of (5 ∷ 5 ∷ [])) 1 (outward 1 ∷ outward 2 ∷ []) 1 n → 5 ≤ n
@@ -39,10 +39,10 @@ followed_of_two a b f = of_two a b f.before f.after f.joined
 
 -- with prices of twice the service costs, each service adds nothing
 pub adds_nothing : (e : ℕ) → 1 ≤ e → e ≤ 2 → service_adds (twins_at (pos 14 ∷ pos 8 ∷ [])) e ≡ pos 0
-adds_nothing zero from_one in_range = omega (arith, from_one)
+adds_nothing zero from_one in_range = absurd (omega (arith, from_one))
 adds_nothing (suc zero) from_one in_range = refl
 adds_nothing (suc (suc zero)) from_one in_range = refl
-adds_nothing (suc (suc (suc e))) from_one in_range = omega (arith, in_range)
+adds_nothing (suc (suc (suc e))) from_one in_range = absurd (omega (arith, in_range))
 
 -- the first of the two may be followed by the second
 pub allowed : (a b : ℕ) → (a ≡ 1) × (b ≡ 2) → IsAllowed paid_twins a b
