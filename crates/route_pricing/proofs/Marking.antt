@@ -1,16 +1,16 @@
 -- Marks at the vertices whose labels are still to be passed on.
-use Rattle.std.proofs.Common.{◌≡◌, ◌≢◌, ℕ, ◌+◌, ◌-◌, ◌*◌, ◌<◌, ◌≤◌, Bool, true, false, List, length, slice_index, slice_set, get_or, replicate, refl, sym, ap, ◌∙◌, arith, inl, inr, subst, cond, eqb, ◌||◌, if◌then◌else◌}
+use Rattle.std.proofs.Common.{◌≡◌, ◌≢◌, ℕ, ◌+◌, ◌-◌, ◌<◌, ◌≤◌, Bool, true, false, List, length, slice_index, slice_set, replicate, refl, sym, ap, ◌∙◌, arith, inl, inr, subst, cond, eqb, ◌||◌, if◌then◌else◌}
 use Rattle.std.specs.List.{Contains}
 use Rattle.std.proofs.lemmas.Bool.{cases_eq, eq-eqb, ne_eqb, eqb-true}
-use Rattle.std.proofs.lemmas.List.{length-set, get_or-set_same, get_or-set_other, get_or-replicate, get_or_default}
+use Rattle.std.proofs.lemmas.List.{get_or-set_same, get_or-set_other, get_or-replicate, get_or_default}
 use Rattle.std.proofs.lemmas.List.Sums.{sum_by-set}
 use Rattle.carp_base.specs.declared.edge.Edge.{Edge}
-use Rattle.carp_base.specs.Problem.{IsValid, IsVertex, IsReached, IsEdgeNumber, edge_at, tail_of, head_of}
+use Rattle.carp_base.specs.Problem.{IsVertex, IsReached, IsEdgeNumber, edge_at, tail_of, head_of}
 use Rattle.road_network.specs.Incidence.{has_end, far_end, incident}
 use Rattle.route_pricing.specs.Partial.{no_value, IsGrid, between}
 use Rattle.route_pricing.specs.declared.grid.Grid.{Grid}
 use Rattle.route_pricing.specs.declared.labels.Labels.{Labels}
-use Rattle.route_pricing.specs.Labels.{labels_at, AreTwo, Passes, IsLayer, CarriesOn, IsBounded, IsPassed, AreStreetsSettled, is_marked, AreMarked, AreMarkedBut, IsNoneFrom, AreMarkedBefore, label_sum, work_left, visited_at}
+use Rattle.route_pricing.specs.Labels.{labels_at, AreTwo, Passes, IsLayer, CarriesOn, IsBounded, IsPassed, AreStreetsSettled, is_marked, AreMarked, AreMarkedBut, AreMarkedBefore, label_sum, work_left, visited_at}
 use Rattle.route_pricing.proofs.Partials.{not_both}
 use Rattle.route_pricing.proofs.Passing.{street_on}
 

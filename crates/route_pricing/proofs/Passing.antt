@@ -4,13 +4,12 @@ use Rattle.std.proofs.lemmas.Bool.{cases_eq}
 use Rattle.std.proofs.lemmas.List.{length-set, get_or-set_same, get_or-set_other}
 use Rattle.std.proofs.lemmas.List.Sums.{sum_by-set}
 use Rattle.carp_base.specs.declared.edge.Task.{Task}
-use Rattle.carp_base.specs.declared.edge.Edge.{Edge}
 use Rattle.carp_base.specs.Problem.{IsReached, IsRequired, IsEdgeNumber, TasksLead, edge_at, tail_of, head_of}
 use Rattle.route_pricing.specs.Partial.{no_value}
 use Rattle.route_pricing.specs.declared.grid.Grid.{Grid}
 use Rattle.route_pricing.specs.declared.labels.Labels.{Labels}
 use Rattle.route_pricing.specs.Partial.{IsGrid, width, column_task, task_start, task_end, between, crossed, Reaches, IsCell, IsJoin, IsLeastJoin}
-use Rattle.route_pricing.specs.Labels.{no_labels, labels_at, AreTwo, IsBounded, IsInserted, IsFromEither, AreLabelsJoined, Passes, IsLayer, IsCarried, AreSoundAt, AreLabelsSound, Keeps, BoundsEnds, label_sum, AreStreetsSettled, AreSpread}
+use Rattle.route_pricing.specs.Labels.{no_labels, labels_at, AreTwo, IsBounded, IsInserted, IsFromEither, AreLabelsJoined, IsLayer, IsCarried, AreSoundAt, AreLabelsSound, Keeps, BoundsEnds, label_sum, AreStreetsSettled, AreSpread}
 use Rattle.route_pricing.proofs.Partials.{leads_more, column_of, task_is, column_in, reaches_required, not_both, head_reached, tail_reached}
 use Rattle.route_pricing.proofs.Copies.{reached_in}
 

@@ -1,6 +1,6 @@
 use Rattle.std.proofs.Common.{◌≡◌, ◌-◌, ◌≤◌, arith, ap, subst, sym, ◌∙◌, slice_index}
 use Rattle.std.proofs.lemmas.List.{get_or_read}
-use Rattle.carp_base.specs.Problem.{IsVertex, IsReached, edge_at}
+use Rattle.carp_base.specs.Problem.{IsVertex, IsReached}
 use Rattle.road_network.specs.Incidence.{far_end}
 use Rattle.route_pricing.specs.Partial.{between}
 use Rattle.route_pricing.specs.Labels.{Passes, labels_at}

@@ -2,8 +2,6 @@ use Rattle.std.proofs.Common.{◌≡◌, ℕ, true, get_or, length, arith, ap, s
 use Rattle.std.specs.List.{Contains}
 use Rattle.carp_base.specs.Problem.{IsEdgeNumber, edge_at}
 use Rattle.road_network.specs.Incidence.{has_end, incident}
-use Rattle.route_pricing.specs.Partial.{no_value}
-use Rattle.route_pricing.specs.Labels.{labels_at}
 use Rattle.route_pricing.proofs.Marking.{carries_none, carries_more, crossed_none, crossed_all, none_marked}
 use Rattle.route_pricing.proofs.grid.Grid.leave.Goals as goal
 

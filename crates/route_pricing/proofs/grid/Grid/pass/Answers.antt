@@ -1,4 +1,4 @@
-use Rattle.std.proofs.Common.{arith, subst, sym, refl}
+use Rattle.std.proofs.Common.{arith, subst, sym}
 use Rattle.route_pricing.specs.Labels.{labels_at, AreSoundAt, Passes}
 use Rattle.route_pricing.proofs.Passing.{set_layer_is, set_keeps, set_all, set_here, joined_sound}
 use Rattle.route_pricing.proofs.grid.Grid.pass.Goals as goal

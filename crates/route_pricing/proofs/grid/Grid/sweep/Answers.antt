@@ -1,4 +1,4 @@
-use Rattle.std.proofs.Common.{◌≡◌, ◌+◌, ◌<◌, ℕ, arith, ap, subst, sym, inl, inr, ◌∙◌, false}
+use Rattle.std.proofs.Common.{◌≡◌, ℕ, arith, ap, subst, sym, inl, inr, ◌∙◌, false}
 use Rattle.std.proofs.lemmas.Bool.{cases_eq}
 use Rattle.route_pricing.specs.Labels.{is_marked, visited_at}
 use Rattle.route_pricing.proofs.Partials.{not_both}
