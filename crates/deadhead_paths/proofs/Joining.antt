@@ -9,9 +9,9 @@ use Rattle.carp_base.specs.declared.edge.Edge.{Edge}
 use Rattle.carp_base.specs.Problem.{Problem, IsValid, IsVertex, IsEdgeNumber, no_edge, edge_at, tail_of, head_of}
 use Rattle.plan_model.specs.Plans.{Leads, IsWalk, no_step, step_cost, walk_cost}
 use Rattle.plan_model.specs.declared.step.Step.{Step}
-use Rattle.deadhead_paths.specs.Prices.{Priced, price_of, costs_of, ArePrices, NoneServed, IsLeastPrice, IsLeastPath, NoneLead}
+use Rattle.deadhead_paths.specs.Prices.{Priced, AddsPath, price_of, costs_of, ArePrices, NoneServed, IsLeastPrice, IsLeastPath, NoneLead}
 use Rattle.deadhead_paths.specs.Tidy.{served_steps, GoByLeastPaths}
-use Rattle.deadhead_paths.specs.Join.{AddsPath, IsJoined, AddsService}
+use Rattle.deadhead_paths.specs.Join.{IsJoined, AddsService}
 use Rattle.deadhead_paths.proofs.Following.{Leads-more}
 
 -- lists of steps that are joined, or split

@@ -10,10 +10,10 @@ use Rattle.std.proofs.lemmas.List.{get_or_append_left, get_or-append_right, appe
 use Rattle.carp_base.specs.Problem.{Problem, IsValid, IsRequired, IsEdgeNumber, edge_at, tail_of, head_of}
 use Rattle.plan_model.specs.Plans.{Leads, IsWalk, IsLawful, IsLawfulWalk, serves, services_of, steps_of, step_load, walk_load, walk_at}
 use Rattle.plan_model.specs.declared.step.Step.{Step}
-use Rattle.deadhead_paths.specs.Prices.{Priced, NoneServed, IsLeastPath, price_of, costs_of}
+use Rattle.deadhead_paths.specs.Prices.{Priced, AddsPath, NoneServed, IsLeastPath, price_of, costs_of}
 use Rattle.deadhead_paths.proofs.Joining.{Leads-append}
 use Rattle.deadhead_paths.proofs.Plans.{AllByRecursion-append}
-use Rattle.deadhead_paths.specs.Join.{AddsPath, AddsService}
+use Rattle.deadhead_paths.specs.Join.{AddsService}
 use Rattle.deadhead_paths.specs.Singles.{service_of, IsLeastTour, AreLeastTours}
 
 -- what counts served steps alone is 0 where none is served

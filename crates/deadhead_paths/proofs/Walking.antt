@@ -5,8 +5,7 @@ use Rattle.carp_base.specs.declared.edge.Edge.{Edge}
 use Rattle.carp_base.specs.Problem.{IsVertex, IsEdgeNumber, edge_at}
 use Rattle.road_network.specs.Incidence.{far_end}
 use Rattle.plan_model.specs.declared.step.Step.{Step}
-use Rattle.deadhead_paths.specs.Prices.{Priced, NoneLead}
-use Rattle.deadhead_paths.specs.Join.{AddsPath}
+use Rattle.deadhead_paths.specs.Prices.{Priced, AddsPath, NoneLead}
 use Rattle.deadhead_paths.specs.Table.{IsTable, row_of}
 use Rattle.deadhead_paths.proofs.Following.{Followed, follow_none, next_number, follow_short, follow_as, follow_done}
 use Rattle.deadhead_paths.proofs.Reading.{next_read}

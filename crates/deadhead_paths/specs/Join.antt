@@ -3,14 +3,8 @@ use Rattle.std.specs.Prelude.{◌≡◌, ℕ, ◌+◌, ◌*◌, ◌≤◌, List,
 use Rattle.carp_base.specs.Problem.{Problem}
 use Rattle.plan_model.specs.Plans.{IsWalk}
 use Rattle.plan_model.specs.declared.step.Step.{Step}
-use Rattle.deadhead_paths.specs.Prices.{Priced, IsLeastPath, edge_price}
+use Rattle.deadhead_paths.specs.Prices.{Priced, AddsPath}
 use Rattle.deadhead_paths.specs.Tidy.{served_steps, GoByLeastPaths, IsCheapest}
-
--- a list of steps grew by steps of the least price from a to b
-pub record AddsPath (x : Priced) (a b : ℕ) (before after : List Step) : Type 0 where
-  pub path : List Step
-  pub least : IsLeastPath x.problem (edge_price x) a b path
-  pub added : after ≡ before ++ path
 
 -- the cheapest walk with the services of another
 pub record IsJoined (p : Problem) (walk joined : List Step) : Type 0 where

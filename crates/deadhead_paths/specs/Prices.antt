@@ -1,5 +1,5 @@
 -- Least prices of deadheads, over all lists of steps, and what a table of them is made for.
-use Rattle.std.specs.Prelude.{◌≡◌, ℕ, zero, suc, ◌<◌, ◌≤◌, false, List, length, map, sum_by, slice_index}
+use Rattle.std.specs.Prelude.{◌≡◌, ℕ, zero, suc, ◌<◌, ◌≤◌, false, List, length, map, sum_by, slice_index, ◌++◌}
 use Rattle.std.specs.List.{AllByRecursion}
 use Rattle.carp_base.specs.Problem.{Problem, IsEdgeNumber}
 use Rattle.plan_model.specs.Plans.{Leads}
@@ -56,3 +56,9 @@ pub record Priced : Type 0 where
 -- the price of each edge of a priced instance
 abbrev pub edge_price : Priced → ℕ → ℕ
 edge_price x = price_of x.prices
+
+-- a list of steps grew by steps of the least price from a to b
+pub record AddsPath (x : Priced) (a b : ℕ) (before after : List Step) : Type 0 where
+  pub path : List Step
+  pub least : IsLeastPath x.problem (edge_price x) a b path
+  pub added : after ≡ before ++ path

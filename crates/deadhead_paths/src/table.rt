@@ -1,8 +1,7 @@
 // A table of the least prices between all pairs of vertices.
 ghost use Rattle.std.specs.Prelude.{◌≡◌, ◌+◌, ◌-◌, ◌*◌, ◌^◌, ◌<◌, ◌≤◌, length, IfOk, IfSome, OnOk, MatchOption};
 ghost use Rattle.carp_base.specs.Problem.{IsVertex};
-ghost use Rattle.deadhead_paths.specs.Prices.{IsLeastPrice, IsLeastPath, NoneLead, edge_price};
-ghost use Rattle.deadhead_paths.specs.Join.{AddsPath};
+ghost use Rattle.deadhead_paths.specs.Prices.{AddsPath, IsLeastPrice, IsLeastPath, NoneLead, edge_price};
 
 use crate::search::{PRICE_UNIT, UNREACHED};
 use carp_base::{Instance, Memory};
@@ -59,8 +58,11 @@ impl Distances {
         }
     }
 
-    // Adds steps of the least price from one vertex to another, where some lead there, to a walk.
-    pub(crate) fn follow(&self, walk: &mut Walk, from: u32, to: u32) -> Result<(), Memory>
+    /// Adds steps of the least price from one vertex to another, where some lead there, to a walk of fewer than 2^32 - 1000
+    /// steps. Of such steps they are the fewest.
+    ///
+    /// It takes time in proportion to the steps that it adds.
+    pub fn follow(&self, walk: &mut Walk, from: u32, to: u32) -> Result<(), Memory>
         requires from { IsVertex self.now.problem from }
         requires to { IsVertex self.now.problem to }
         requires linked { ¬ (NoneLead self.now.problem from to) }

@@ -1,6 +1,6 @@
 use Rattle.std.proofs.Common.{◌<◌, ◌≤◌, length, drop, arith, ap, subst, sym, ◌∙◌}
 use Rattle.std.proofs.lemmas.List.{take_all, drop_all}
-use Rattle.deadhead_paths.specs.Join.{AddsPath}
+use Rattle.deadhead_paths.specs.Prices.{AddsPath}
 use Rattle.deadhead_paths.proofs.Joining.{Joining, joining_none, joining_done, served_within, place_deadhead, place_service}
 use Rattle.deadhead_paths.proofs.tidying.join.Goals as goal
 use Rattle.deadhead_paths.proofs.tidying.join.Goals.{then-step+in_ok-at, else-step}

@@ -1,0 +1,4 @@
+pub mod Going
+pub mod Linking
+pub mod Plans
+pub mod Deadheads

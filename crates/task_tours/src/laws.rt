@@ -1,0 +1,29 @@
+// Laws over plans and their tours, as functions whose contract is the law.
+ghost use Rattle.task_tours.specs.Laws.{JoinedPlanCosts, LawfulPlansHaveLawfulTours, LawfulToursMakeLawfulPlans, LeastCostIsSmall, StandsAreLinked, ToursCostAtLeast, ToursDeadheadIsThere, ToursDeadheadIsUnique};
+
+use deadhead_paths::{least_prices_are_there, walks_are_task_tours};
+use plan_model::required_edges_are_served_once;
+
+/// Between the depot and the ends of required edges there are least prices, by cost at most 999,000,000; and so tours of tasks on
+/// required edges have a least deadhead in all, and only one.
+pub fn tours_are_linked()
+    ensures linked { StandsAreLinked }
+    ensures small { LeastCostIsSmall }
+    ensures there { ToursDeadheadIsThere }
+    ensures unique { ToursDeadheadIsUnique }
+{
+    least_prices_are_there();
+}
+
+/// Walks by least paths are a lawful plan where their tours serve each required edge once within the capacity, as those of every
+/// lawful plan do. Such a plan costs its services and the least deadheads of its tours, and no plan with the same tours
+/// costs less.
+pub fn plans_are_tours()
+    ensures lawful { LawfulToursMakeLawfulPlans }
+    ensures tours { LawfulPlansHaveLawfulTours }
+    ensures cost { JoinedPlanCosts }
+    ensures least { ToursCostAtLeast }
+{
+    walks_are_task_tours();
+    required_edges_are_served_once();
+}
