@@ -1,11 +1,13 @@
 // Distances by the costs of the edges.
 ghost use Rattle.std.specs.Prelude.{◌≡◌, ◌≤◌, IfOk};
+ghost use Rattle.plan_model.specs.Plans.{IsLawful, plan_cost};
 ghost use Rattle.deadhead_paths.specs.Prices.{IsLeastPrice, costs_of, price_of};
 ghost use Rattle.task_tours.specs.Tours.{IsStand};
 
 use crate::laws::tours_are_linked;
 use carp_base::{Instance, Memory};
 use deadhead_paths::{Distances, cost_prices, distances};
+use plan_model::{JudgeRoom, Plan, Verdict, judge, verdicts_are_exact};
 use road_network::Network;
 use std::alloc::Global;
 
@@ -35,4 +37,17 @@ pub fn least_cost(inst: &Instance, dist: &Distances, from: u32, to: u32) -> u64
     // What a read of the instance says of it is needed: that it is valid.
     let _ = inst.vertices();
     dist.get(from, to).unwrap() as u64
+}
+
+/// What a lawful plan costs. It takes time in proportion to its steps.
+pub fn lawful_cost(alloc: Global, inst: &Instance, plan: &Plan) -> Result<u128, Memory>
+    requires { IsLawful inst.now plan.now }
+    ensures { IfOk result (λ cost. cost ≡ plan_cost inst.now plan.now) }
+{
+    verdicts_are_exact();
+    let mut room = JudgeRoom::new(alloc, inst)?;
+    match judge(inst, plan, &mut room) {
+        Verdict::Lawful { cost } => Ok(cost),
+        _ => unreachable!(),
+    }
 }

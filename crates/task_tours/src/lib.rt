@@ -2,15 +2,17 @@
 //!
 //! [`join`] makes the walk of a tour, and [`add_tour`] adds it to a plan. The laws say that plans of such walks are lawful where
 //! their tours serve each required edge once within the capacity, what they cost, and that no plan with the same tours
-//! costs less.
+//! costs less. [`Standing`] has the numbers that each helper keeps of itself.
 #![tactic(auto)]
 
 mod costs;
 mod joining;
 mod laws;
+mod standing;
 mod stands;
 
-pub use costs::{cost_distances, least_cost};
+pub use costs::{cost_distances, lawful_cost, least_cost};
 pub use joining::{add_tour, join};
 pub use laws::{plans_are_tours, tours_are_linked};
+pub use standing::Standing;
 pub use stands::ends;
