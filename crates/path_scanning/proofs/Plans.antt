@@ -1,44 +1,24 @@
 -- Scanned plans are lawful.
-use Rattle.std.proofs.Common.{◌≡◌, inl, inr, ℕ, zero, suc, ◌+◌, ◌≤◌, Bool, true, false, cond, ◌==◌, List, [], ◌∷◌, ◌++◌, length, map, get_or, refl, sym, ap, ◌∙◌, arith, subst, take}
-use Rattle.std.specs.Prelude.{IsTrue, replicate}
+use Rattle.std.proofs.Common.{◌≡◌, inl, inr, ℕ, zero, suc, ◌+◌, ◌≤◌, Bool, true, false, cond, ◌==◌, List, [], ◌∷◌, ◌++◌, length, get_or, refl, sym, ap, ◌∙◌, arith, subst, take}
+use Rattle.std.specs.Prelude.{replicate}
 use Rattle.std.specs.List.{sum_by, count_by, AllByRecursion}
 use Rattle.std.proofs.Math.ListN.{set}
 use Rattle.std.proofs.lemmas.Bool.{cases_eq, eq-eqb, ne_eqb}
 use Rattle.std.proofs.lemmas.List.{take-append-le, take_all, get_or-set_same, get_or-set_other, get_or-replicate}
 use Rattle.std.proofs.lemmas.List.Sums.{sum_by-cons, sum_by-append}
 use Rattle.carp_base.specs.declared.edge.Task.{Task}
-use Rattle.carp_base.specs.Problem.{Problem, IsValid, IsRequired, IsEdgeNumber, edge_at}
+use Rattle.carp_base.specs.Problem.{Problem, IsValid, IsRequired, edge_at}
 use Rattle.plan_model.specs.declared.step.Step.{Step}
-use Rattle.plan_model.specs.Plans.{IsLawfulWalk, IsLawful, step_load, serves, services_of, steps_of}
-use Rattle.deadhead_paths.specs.Tidy.{GoByLeastPaths, served_steps}
-use Rattle.deadhead_paths.specs.Tours.{task_of, tasks_of}
+use Rattle.deadhead_paths.specs.Tours.{tasks_of}
+use Rattle.task_tours.specs.Tours.{JoinsTasks, PlanGoesByLeastPaths, AreLawfulTours, all_tasks, plan_tours, tour_load}
 use Rattle.path_scanning.specs.declared.rule.Rule.{Rule}
 use Rattle.path_scanning.specs.Scans.{ScanMoment, FitsNext, IsNextTask, TakesNext, IsScannedTour, IsScannedFrom, moment_after, tour_start, served_after, is_served, with_served}
 use Rattle.path_scanning.specs.Choosing.{ToursScanned, IsGrown}
-use Rattle.path_scanning.specs.Walking.{service_steps}
-use Rattle.path_scanning.proofs.Going.{goes_leads, goes_served, goes_tasks}
-use Rattle.path_scanning.proofs.Standing.{required_number}
 use Rattle.path_scanning.proofs.Taking.{with_served_long}
 
--- what is summed over the services of a walk is summed over its tasks
-services_sum : (f : Step → ℕ) (g : Task → ℕ) → ((s : Step) → s.served ≡ false → f s ≡ 0) → ((s : Step) → s.served ≡ true → f s ≡ g (task_of s)) → (walk : List Step) → sum_by f walk ≡ sum_by g (tasks_of walk)
-services_sum f g idle busy [] = refl
-services_sum f g idle busy (s ∷ walk) = sum_by-cons f s walk ∙ one s.served refl (services_sum f g idle busy walk)
-  where
-    one : (b : Bool) → s.served ≡ b → sum_by f walk ≡ sum_by g (tasks_of walk) → f s + sum_by f walk ≡ sum_by g (map task_of (cond b (s ∷ served_steps walk) (served_steps walk)))
-    one true is rest = omega (arith, rest, busy s is, sum_by-cons g (task_of s) (tasks_of walk))
-    one false is rest = omega (arith, rest, idle s is)
-
--- what holds for the tasks of a walk holds for its services
-services_all : (P : ℕ → Type 0) (walk : List Step) → AllByRecursion (λ t. P t.edge) (tasks_of walk) → AllByRecursion (λ s. IsTrue s.served → P s.edge) walk × AllByRecursion (λ s. P s.edge) (served_steps walk)
-services_all P [] all = (tt, tt)
-services_all P (s ∷ walk) all = one s.served (services_all P walk) all
-  where
-    one : (b : Bool) → (AllByRecursion (λ t. P t.edge) (tasks_of walk) → AllByRecursion (λ x. IsTrue x.served → P x.edge) walk × AllByRecursion (λ x. P x.edge) (served_steps walk)) →
-        AllByRecursion (λ t. P t.edge) (map task_of (cond b (s ∷ served_steps walk) (served_steps walk))) →
-        ((IsTrue b → P s.edge) × AllByRecursion (λ x. IsTrue x.served → P x.edge) walk) × AllByRecursion (λ x. P x.edge) (cond b (s ∷ served_steps walk) (served_steps walk))
-    one true onward all = let rest = onward all.1 in (((λ is. all.0), rest.0), (all.0, rest.1))
-    one false onward all = let rest = onward all in (((λ is. absurd (let both : true ≡ false = sym is in cc)), rest.0), rest.1)
+all-append : {X : Type 0} (P : X → Type 0) (xs ys : List X) → AllByRecursion P xs → AllByRecursion P ys → AllByRecursion P (xs ++ ys)
+all-append P [] ys first second = second
+all-append P (x ∷ xs) ys first second = (first.0, all-append P xs ys first.1 second)
 
 module _ (p : Problem) (rule : Rule) where
   pub next_fits : (m : ScanMoment) (t : Task) → IsNextTask p rule m t → FitsNext p m t.edge
@@ -87,47 +67,42 @@ module _ (p : Problem) (rule : Rule) where
   after_long served [] = refl
   after_long served (t ∷ ts) = after_long (with_served served t.edge) ts ∙ with_served_long served t.edge
 
-  module _ (valid : IsValid p) where
-    lawful_tour : (served : List Bool) (walk : List Step) → IsScannedTour p rule served walk → IsLawfulWalk p walk
-    lawful_tour served walk tour =
-        let required = taken_required (tour_start p served) (tasks_of walk) tour.tasks in
-        let numbers = services_all (IsEdgeNumber p) walk (numbered (tasks_of walk) required) in
-        record {
-          leads = goes_leads p (served_steps walk) walk p.depot p.depot numbers.1 tour.paths;
-          serves_required = (services_all (IsRequired p) walk required).0;
-          load = omega (
-            arith,
-            taken_fit (tour_start p served) (tasks_of walk) (omega arith) tour.tasks,
-            services_sum (step_load p) (λ t. (edge_at p t.edge).demand) (λ s idle. rw idle refl) (λ s busy. rw busy refl) walk,
-          );
-        }
-      where
-        numbered : (ts : List Task) → AllByRecursion (λ t. IsRequired p t.edge) ts → AllByRecursion (λ t. IsEdgeNumber p t.edge) ts
-        numbered [] all = tt
-        numbered (t ∷ ts) all = (required_number p valid t.edge all.0, numbered ts all.1)
+  -- the tours are lawful
+  tours_required : (served : List Bool) (plan : List (List Step)) → IsScannedFrom p rule served plan → AllByRecursion (λ t. IsRequired p t.edge) (all_tasks (plan_tours plan))
+  tours_required served [] scanned = tt
+  tours_required served (walk ∷ plan) scanned =
+      all-append (λ t. IsRequired p t.edge) (tasks_of walk) (all_tasks (plan_tours plan)) (taken_required (tour_start p served) (tasks_of walk) scanned.0.tasks)
+      (tours_required (served_after served (tasks_of walk)) plan scanned.1)
 
-    lawful_tours : (served : List Bool) (plan : List (List Step)) → IsScannedFrom p rule served plan → AllByRecursion (IsLawfulWalk p) plan
-    lawful_tours served [] scanned = tt
-    lawful_tours served (walk ∷ plan) scanned = (lawful_tour served walk scanned.0, lawful_tours (served_after served (tasks_of walk)) plan scanned.1)
+  tours_loads : (served : List Bool) (plan : List (List Step)) → IsScannedFrom p rule served plan → AllByRecursion (λ tour. tour_load p tour ≤ p.capacity) (plan_tours plan)
+  tours_loads served [] scanned = tt
+  tours_loads served (walk ∷ plan) scanned =
+      (omega (arith, taken_fit (tour_start p served) (tasks_of walk) (omega arith) scanned.0.tasks), tours_loads (served_after served (tasks_of walk)) plan scanned.1)
 
-    served_once : (e : ℕ) → IsRequired p e → (served : List Bool) (plan : List (List Step)) → length served ≡ p.required → IsScannedFrom p rule served plan → services_of e plan + bit (is_served served e) ≡ 1
-    served_once e required served [] long scanned = omega (arith, ap bit (scanned e required))
-    served_once e required served (walk ∷ plan) long scanned =
-        let one : Step → ℕ = λ s. cond (serves e s) 1 0 in
-        let on : Task → ℕ = λ t. cond (t.edge == e) 1 0 in
-        omega (
-          arith,
-          sum_by-append one walk (steps_of plan),
-          services_sum one on (λ s idle. rw idle refl) (λ s busy. rw busy refl) walk,
-          taken_count e required (tour_start p served) (tasks_of walk) long scanned.0.tasks,
-          served_once e required (served_after served (tasks_of walk)) plan (after_long served (tasks_of walk) ∙ long) scanned.1,
-        )
+  tours_once : (e : ℕ) → IsRequired p e → (served : List Bool) (plan : List (List Step)) → length served ≡ p.required → IsScannedFrom p rule served plan →
+      count_by (λ t. t.edge == e) (all_tasks (plan_tours plan)) + bit (is_served served e) ≡ 1
+  tours_once e required served [] long scanned = omega (arith, ap bit (scanned e required))
+  tours_once e required served (walk ∷ plan) long scanned =
+      omega (
+        arith,
+        sum_by-append (λ (t : Task). cond (t.edge == e) 1 0) (tasks_of walk) (all_tasks (plan_tours plan)),
+        taken_count e required (tour_start p served) (tasks_of walk) long scanned.0.tasks,
+        tours_once e required (served_after served (tasks_of walk)) plan (after_long served (tasks_of walk) ∙ long) scanned.1,
+      )
 
-    pub lawful_from : (served : List Bool) (plan : List (List Step)) → length served ≡ p.required → ((e : ℕ) → IsRequired p e → is_served served e ≡ false) → IsScannedFrom p rule served plan → IsLawful p plan
-    lawful_from served plan long none scanned = record {
-      walks = lawful_tours served plan scanned;
-      once = λ e required. omega (arith, served_once e required served plan long scanned, ap bit (none e required));
-    }
+  pub scanned_tours : (served : List Bool) (plan : List (List Step)) → length served ≡ p.required → ((e : ℕ) → IsRequired p e → is_served served e ≡ false) → IsScannedFrom p rule served plan →
+      AreLawfulTours p (plan_tours plan)
+  scanned_tours served plan long none scanned = record {
+    served = record {
+      required = tours_required served plan scanned;
+      once = λ e required. omega (arith, tours_once e required served plan long scanned, ap bit (none e required));
+    };
+    loads = tours_loads served plan scanned;
+  }
+
+  pub scanned_paths : (served : List Bool) (plan : List (List Step)) → IsScannedFrom p rule served plan → PlanGoesByLeastPaths p plan
+  scanned_paths served [] scanned = tt
+  scanned_paths served (walk ∷ plan) scanned = (scanned.0.paths, scanned_paths (served_after served (tasks_of walk)) plan scanned.1)
 
   -- one tour more, and the end
   pub tours_more : (before after : List Bool) (plan : List (List Step)) (walk : List Step) → ToursScanned p rule before plan after → IsScannedTour p rule after walk →
@@ -148,17 +123,16 @@ module _ (p : Problem) (rule : Rule) where
       one false is = absurd (none e (record { required = required; unserved = is; room = let fits = (valid.tasks e required).demand_fits in omega (arith, fits) }))
 
   -- a grown tour, joined by least paths
-  pub grown_tour : (before after : List Bool) (tasks : List Task) (walk : List Step) → IsGrown p rule before tasks after → 1 ≤ length tasks → GoByLeastPaths p (service_steps tasks) p.depot p.depot walk →
+  pub grown_tour : (before after : List Bool) (tasks : List Task) (walk : List Step) → IsGrown p rule before tasks after → 1 ≤ length tasks → JoinsTasks p tasks walk →
       IsScannedTour p rule before walk × (after ≡ served_after before (tasks_of walk))
-  grown_tour before after tasks walk grown some goes =
-      let same : tasks_of walk ≡ tasks = goes_tasks p tasks walk p.depot p.depot goes in (
-        record {
-          some = λ none. let empty : tasks ≡ [] = sym same ∙ none in absurd (omega (arith, some, ap length empty));
-          tasks = subst (TakesNext p rule (tour_start p before)) (sym same) grown.takes;
-          paths = subst (λ ss. GoByLeastPaths p ss p.depot p.depot walk) (sym (goes_served p tasks walk p.depot p.depot goes)) goes;
-        },
-        grown.served ∙ ap (served_after before) (sym same),
-      )
+  grown_tour before after tasks walk grown some joins = (
+    record {
+      some = λ none. let empty : tasks ≡ [] = sym joins.tasks ∙ none in absurd (omega (arith, some, ap length empty));
+      tasks = subst (TakesNext p rule (tour_start p before)) (sym joins.tasks) grown.takes;
+      paths = joins.paths;
+    },
+    grown.served ∙ ap (served_after before) (sym joins.tasks),
+  )
 
   pub grown_long : (before after : List Bool) (tasks : List Task) → IsGrown p rule before tasks after → length after ≡ length before
   grown_long before after tasks grown = ap length grown.served ∙ after_long before tasks

@@ -2,7 +2,7 @@
 use Rattle.std.specs.Prelude.{◌≡◌, ℕ, ◌+◌, ◌≤◌, ◌⊎◌, Bool, not, List, [], ◌∷◌, length, Option, MatchOption, ◌<◌}
 use Rattle.std.specs.List.{count_by, AllByRecursion}
 use Rattle.carp_base.specs.declared.edge.Task.{Task}
-use Rattle.carp_base.specs.Problem.{Problem, IsRequired, edge_at, head_of}
+use Rattle.carp_base.specs.Problem.{Problem, IsRequired}
 use Rattle.plan_model.specs.declared.step.Step.{Step}
 use Rattle.deadhead_paths.specs.Tours.{tasks_of}
 use Rattle.path_scanning.specs.declared.candidate.Candidate.{Candidate}
@@ -29,10 +29,6 @@ FindsFirst p tie m e found = MatchOption found ((d : ℕ) → d < e → ¬ (Fits
 abbrev pub TasksTaken : Problem → Rule → ScanMoment → List Task → ScanMoment → Type 0
 TasksTaken p rule m [] end = m ≡ end
 TasksTaken p rule m (t ∷ ts) end = IsNextTask p rule m t × TasksTaken p rule (moment_after p m t) ts end
-
--- a vertex where a tour can stand: the depot, or the end of a task
-abbrev pub IsStand : Problem → ℕ → Type 0
-IsStand p v = (v ≡ p.depot) ⊎ ((t : Task) × IsRequired p t.edge × (v ≡ head_of (edge_at p t.edge) t.forward))
 
 -- how many edges are to be served yet
 abbrev pub open_count : List Bool → ℕ

@@ -9,10 +9,10 @@ use carp_base::Task;
 #[derive(Clone, Copy)]
 pub(crate) struct Candidate {
     pub(crate) task: Task,
-    // The least price from where the tour stands to the start of the task.
-    pub(crate) near: u128,
-    // The least price from the end of the task to the depot.
-    pub(crate) home: u128,
+    // The least cost from where the tour stands to the start of the task.
+    pub(crate) near: u64,
+    // The least cost from the end of the task to the depot.
+    pub(crate) home: u64,
     pub(crate) service: u64,
     pub(crate) demand: u64,
 }
@@ -23,8 +23,8 @@ impl Candidate {
         ensures { result ≡ tie_weight tie self.now other.now }
     {
         match tie {
-            Tie::Farther => other.home,
-            Tie::Nearer => self.home,
+            Tie::Farther => u128::from(other.home),
+            Tie::Nearer => u128::from(self.home),
             Tie::Cheaper => u128::from(self.service) * u128::from(other.demand),
             Tie::Dearer => u128::from(other.service) * u128::from(self.demand),
         }

@@ -4,7 +4,6 @@
 #![tactic(auto)]
 
 mod candidate;
-mod ends;
 #[cfg(test)]
 mod examples;
 mod nearest;
@@ -13,7 +12,6 @@ mod scanner;
 mod scanning;
 #[cfg(test)]
 mod tests;
-mod walking;
 
 pub use rule::Rule;
 pub use scanner::Scanner;

@@ -2,14 +2,14 @@
 ghost use Rattle.std.specs.Prelude.{◌≡◌, ℕ, ◌≤◌, length, MatchOption};
 ghost use Rattle.carp_base.specs.Problem.{IsRequired};
 ghost use Rattle.deadhead_paths.specs.Prices.{costs_of};
+ghost use Rattle.task_tours.specs.Tours.{IsStand};
 ghost use Rattle.path_scanning.specs.Scans.{FitsNext, IsFirstTask, IsMeasured, ScanMoment};
-ghost use Rattle.path_scanning.specs.Choosing.{IsStand};
 
 use crate::candidate::Candidate;
-use crate::ends::ends;
 use crate::rule::Rule;
 use carp_base::{Instance, Task};
-use deadhead_paths::{Distances, least_prices_are_there};
+use deadhead_paths::Distances;
+use task_tours::{ends, least_cost};
 
 // A task, with what it is compared by where a tour stands at a vertex.
 fn measure(inst: &Instance, dist: &Distances, at: u32, task: Task) -> Candidate
@@ -20,14 +20,13 @@ fn measure(inst: &Instance, dist: &Distances, at: u32, task: Task) -> Candidate
     ensures task { result.task ≡ task }
     ensures measured { IsMeasured inst.now at result }
 {
-    least_prices_are_there();
     let depot = inst.depot();
+    let (tail, head) = ends(inst, task);
     let edge = inst.edge(task.edge);
-    let (tail, head) = ends(&edge, task.forward);
     Candidate {
         task,
-        near: dist.get(at, tail).unwrap(),
-        home: dist.get(head, depot).unwrap(),
+        near: least_cost(inst, dist, at, tail),
+        home: least_cost(inst, dist, head, depot),
         service: edge.service,
         demand: edge.demand,
     }

@@ -9,12 +9,10 @@ ghost use Rattle.path_scanning.specs.Scans.{IsScanned};
 use crate::rule::Rule;
 use crate::scanning::scan;
 use carp_base::{Instance, Memory};
-use deadhead_paths::{
-    Distances, cost_prices, distances, least_prices_are_there, walks_are_task_tours,
-};
-use plan_model::{JudgeRoom, Plan, Proposer, Verdict, judge, verdicts_are_exact};
-use road_network::Network;
+use deadhead_paths::{Distances, least_prices_are_there, walks_are_task_tours};
+use plan_model::{Plan, Proposer};
 use std::alloc::Global;
+use task_tours::{Standing, cost_distances, lawful_cost};
 
 // The rules after the first.
 const OTHER_RULES: [Rule; 4] = [Rule::Near, Rule::Cheap, Rule::Dear, Rule::Half];
@@ -35,13 +33,9 @@ impl Scan {
         ensures scanned { IfOk result (λ s. IsScanned inst.now rule s.plan) }
         ensures cost { IfOk result (λ s. s.cost ≡ plan_cost inst.now s.plan) }
     {
-        verdicts_are_exact();
         let plan = scan(alloc, inst, dist, rule)?;
-        let mut room = JudgeRoom::new(alloc, inst)?;
-        match judge(inst, &plan, &mut room) {
-            Verdict::Lawful { cost } => Ok(Scan { plan, cost }),
-            _ => unreachable!(),
-        }
+        let cost = lawful_cost(alloc, inst, &plan)?;
+        Ok(Scan { plan, cost })
     }
 
     // The cheapest of the scans by all rules, by the first rule among equal ones.
@@ -67,28 +61,13 @@ impl Scan {
     }
 }
 
-// Distances by the costs of the edges.
-fn cost_distances(alloc: Global, inst: &Instance) -> Result<Distances, Memory>
-    ensures problem { IfOk result (λ dist. dist.problem ≡ inst.now) }
-    ensures prices { IfOk result (λ dist. dist.prices ≡ costs_of inst.now) }
-{
-    let net = Network::new(alloc, inst)?;
-    let prices = cost_prices(alloc, inst)?;
-    distances(alloc, inst, &net, &prices)
-}
-
 /// A helper that offers the cheapest of the five rules' scans, by the first rule among equal ones. Its seed and the best
 /// plan so far change nothing.
 ///
 /// With n vertices, m edges and r required edges an offer takes time in proportion to n (n + m) log n and to r * r.
 #[derive(Drop)]
 pub struct Scanner {
-    id: u64,
-    seed: u64,
-    asked: u64,
-    fouls: u64,
-    least: Option<u128>,
-    last: Option<u128>,
+    standing: Standing,
 }
 
 impl Scanner {
@@ -100,41 +79,33 @@ impl Scanner {
         ensures tally { ⟦<Scanner as Proposer>⟧.tally result ≡ record { fouls = 0; least = None; last = None } }
     {
         Scanner {
-            id,
-            seed: 0,
-            asked: 0,
-            fouls: 0,
-            least: None,
-            last: None,
+            standing: Standing::new(id),
         }
     }
 }
 
 impl Proposer for Scanner {
     ghost use Rattle.plan_model.specs.Offers.{Tally};
+    ghost use Rattle.task_tours.specs.Standings.{tally_of};
 
-    ghost id = { λ h. h.id };
+    ghost id = { λ h. h.standing.id };
 
-    ghost seed = { λ h. h.seed };
+    ghost seed = { λ h. h.standing.seed };
 
-    ghost asked = { λ h. h.asked };
+    ghost asked = { λ h. h.standing.asked };
 
-    ghost tally = { λ h. record { fouls = h.fouls; least = h.least; last = h.last } };
+    ghost tally = { λ h. tally_of h.standing };
 
     fn id(&self) -> u64 {
-        self.id
+        self.standing.id
     }
 
     fn fouls(&self) -> u64 {
-        self.fouls
+        self.standing.fouls
     }
 
     fn reseed(&mut self, word: u64) {
-        self.seed = word;
-        self.asked = 0;
-        self.fouls = 0;
-        self.least = None;
-        self.last = None;
+        self.standing.reseed(word);
     }
 
     fn propose(
@@ -152,12 +123,10 @@ impl Proposer for Scanner {
         ensures offer { AfterOffer inst.now result (⟦<Scanner as Proposer>⟧.tally self.old) (⟦<Scanner as Proposer>⟧.tally self.new) }
         ensures cheapest { IfOk result (OffersCheapest inst.now) }
     {
-        self.asked += 1;
-        self.last = None;
+        self.standing.ask();
         let dist = cost_distances(alloc, inst)?;
         let found = Scan::cheapest(alloc, inst, &dist)?;
-        self.least = Some(self.least.map_or(found.cost, |least| least.min(found.cost)));
-        self.last = Some(found.cost);
+        self.standing.offer(found.cost);
         Ok(Some(found.plan))
     }
 }

@@ -5,14 +5,13 @@ ghost use Rattle.deadhead_paths.specs.Prices.{costs_of};
 ghost use Rattle.path_scanning.specs.Choosing.{IsGrown};
 ghost use Rattle.path_scanning.specs.Scans.{IsScanned};
 
-use crate::ends::ends;
 use crate::nearest::nearest;
 use crate::rule::Rule;
-use crate::walking::join;
 use carp_base::{Instance, Memory, Task};
 use deadhead_paths::Distances;
 use plan_model::Plan;
 use std::alloc::Global;
+use task_tours::{ends, join, plans_are_tours};
 
 // The tasks of one tour, which are then served.
 fn grow(
@@ -31,10 +30,9 @@ fn grow(
     let mut at = inst.depot();
     let mut load = 0;
     while let Some(next) = nearest(inst, dist, rule, served, at, load) {
-        let edge = inst.edge(next.task.edge);
         served[next.task.edge as usize - 1] = true;
-        at = ends(&edge, next.task.forward).1;
-        load += edge.demand;
+        at = ends(inst, next.task).1;
+        load += next.demand;
         tasks.push(next.task)?;
     }
     Ok(tasks)
@@ -54,6 +52,7 @@ pub fn scan(alloc: Global, inst: &Instance, dist: &Distances, rule: Rule) -> Res
     ensures lawful { IfOk result (IsLawful inst.now) }
     ensures scanned { IfOk result (IsScanned inst.now rule) }
 {
+    plans_are_tours();
     let mut served = vec![in alloc; false; inst.required() as usize]?;
     let mut plan = Plan::new(alloc);
     loop {

@@ -1,15 +1,12 @@
 // Scans of small instances, worked by hand, and what the helper offers.
-ghost use Rattle.std.specs.Prelude.{◌≡◌, IfOk};
-ghost use Rattle.deadhead_paths.specs.Prices.{costs_of};
-
 use crate::{Rule, Scanner, scan};
-use carp_base::{Instance, Memory, RawEdge};
-use deadhead_paths::{Distances, cost_prices, distances, single_tours};
+use carp_base::{Instance, RawEdge};
+use deadhead_paths::single_tours;
 use plan_model::{JudgeRoom, Plan, Proposer, Step, Verdict, judge};
-use road_network::Network;
 use std::alloc::{AllocError, Global};
 use std::process::Abort;
 use std::test::Fail;
+use task_tours::cost_distances;
 
 // An edge whose service costs as much as a crossing.
 fn street(u: u64, v: u64, cost: u64, demand: u64) -> RawEdge {
@@ -20,16 +17,6 @@ fn street(u: u64, v: u64, cost: u64, demand: u64) -> RawEdge {
         demand,
         service: cost,
     }
-}
-
-// The distances by the costs.
-fn cost_table(alloc: Global, inst: &Instance) -> Result<Distances, Memory>
-    ensures problem { IfOk result (λ dist. dist.problem ≡ inst.now) }
-    ensures prices { IfOk result (λ dist. dist.prices ≡ costs_of inst.now) }
-{
-    let net = Network::new(alloc, inst)?;
-    let prices = cost_prices(alloc, inst)?;
-    distances(alloc, inst, &net, &prices)
 }
 
 fn sign_of(step: Step) -> u8 {
@@ -64,7 +51,7 @@ fn expect_scans(
     inst: &Instance,
     wants: &[(Rule, &str)],
 ) -> Result<(), Fail> {
-    let dist = cost_table(alloc, inst)?;
+    let dist = cost_distances(alloc, inst)?;
     for &(rule, want) in wants {
         let plan = scan(alloc, inst, &dist, rule)?;
         assert_eq!(rt;
@@ -98,7 +85,7 @@ fn goes_round_a_triangle(rt: HostRuntime) -> Result<(), Fail> {
         (Rule::Half, "+1+2-3;"),
     ];
     expect_scans(&rt, alloc, &inst, &wants)?;
-    let plan = scan(alloc, &inst, &cost_table(alloc, &inst)?, Rule::Far)?;
+    let plan = scan(alloc, &inst, &cost_distances(alloc, &inst)?, Rule::Far)?;
     assert_eq!(rt; cost(&rt, alloc, &inst, &plan)?, 16);
     Ok(())
 }
@@ -193,7 +180,7 @@ fn offers_the_cheapest_scan(rt: HostRuntime) -> Result<(), Fail> {
     let alloc = rt.alloc();
     let required = [street(1, 2, 4, 1), street(2, 3, 4, 1), street(1, 4, 6, 1)];
     let inst = Instance::build(alloc, 4, 1, 2, &required, &[])?;
-    let best = single_tours(alloc, &inst, &cost_table(alloc, &inst)?)?;
+    let best = single_tours(alloc, &inst, &cost_distances(alloc, &inst)?)?;
     let mut helper = Scanner::new(alloc, 5);
     assert_eq!(rt; (helper.id(), helper.fouls()), (5, 0));
     match helper.propose(alloc, &inst, &best)? {

@@ -1,8 +1,8 @@
-use Rattle.std.proofs.Common.{◌≡◌, ◌+◌, ◌-◌, ◌≤◌, length, [], ◌∷◌, ◌++◌, true, inr, sym, ap, ◌∙◌, subst, arith, refl}
+use Rattle.std.proofs.Common.{◌≡◌, ◌+◌, ◌-◌, ◌≤◌, length, [], ◌∷◌, ◌++◌, true, sym, ap, ◌∙◌, subst, arith, refl}
 use Rattle.std.proofs.Math.ListN.{set, length-set}
 use Rattle.std.proofs.lemmas.List.{length_push}
 use Rattle.carp_base.specs.declared.edge.Task.{Task}
-use Rattle.carp_base.specs.Problem.{IsRequired, edge_at, head_of}
+use Rattle.carp_base.specs.Problem.{IsRequired, edge_at}
 use Rattle.path_scanning.specs.Choosing.{TasksTaken, open_count}
 use Rattle.path_scanning.specs.Scans.{ScanMoment, tour_start}
 use Rattle.path_scanning.proofs.Taking.{taken_more, taken_whole, taken_served, fewer_open, moment_is, mark_is, all_more}
@@ -26,8 +26,7 @@ loop-next-preserved c =
     let from_one = fits.required.from_one in
     let m : ScanMoment = record { served = served; at = c.loop-next.at; load = c.loop-next.load } in
     let below : t.edge ≤ length served = omega (arith, fits.required.in_range, loop.long) in
-    let head_is : c.ends-at.result.1 ≡ head_of (edge_at p t.edge) t.forward = c.ends-at.ensures.head ∙ ap (λ x. head_of x t.forward) c.edge-edge.ensures in
-    let load_is : c.loop-next.load + c.edge-edge.result.demand ≡ c.loop-next.load + (edge_at p t.edge).demand = ap (λ x. c.loop-next.load + x.demand) c.edge-edge.ensures in
+    let load_is : c.loop-next.load + c.in-Some.next.demand ≡ c.loop-next.load + (edge_at p t.edge).demand = ap (λ x. c.loop-next.load + x) c.in-Some.ensures.can.measured.demand in
     let served_is = mark_is served t.edge from_one in
     let items = c.in_ok-push.ensures.items in
     let more = taken_more p c.args.rule (tour_start p c.args.served.now) m c.loop-next.tasks.items t loop.taken (record { taken = c.in-Some.next; task = refl; first = c.in-Some.ensures }) in
@@ -36,12 +35,12 @@ loop-next-preserved c =
     let longer = length_push c.loop-next.tasks.items t in
     record {
       long = length-set served (t.edge - 1) true ∙ loop.long;
-      stand = inr (t, fits.required, head_is);
+      stand = c.ends-at.ensures.head_stands;
       within = omega (arith, room, load_is);
       few = omega (arith, load_is, some, ap (length {A = Task}) items, longer, loop.few);
       required = rw items (all_more (λ (u : Task). IsRequired p u.edge) c.loop-next.tasks.items t loop.required fits.required);
       taken = rw items
-          (subst (TasksTaken p c.args.rule (tour_start p c.args.served.now) (c.loop-next.tasks.items ++ t ∷ [])) (sym (moment_is p m t (set served (t.edge - 1) true) c.ends-at.result.1 (c.loop-next.load + c.edge-edge.result.demand) served_is head_is load_is)) more);
+          (subst (TasksTaken p c.args.rule (tour_start p c.args.served.now) (c.loop-next.tasks.items ++ t ∷ [])) (sym (moment_is p m t (set served (t.edge - 1) true) c.ends-at.result.1 (c.loop-next.load + c.in-Some.next.demand) served_is c.ends-at.ensures.head load_is)) more);
       fewer = omega (arith, loop.fewer, ap (length {A = Task}) items, longer, fewer_open served t.edge from_one below fits.unserved, ap open_count served_is);
     }
 

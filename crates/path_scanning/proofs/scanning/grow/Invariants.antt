@@ -1,7 +1,8 @@
 use Rattle.std.proofs.Common.{◌≡◌, ◌+◌, ◌≤◌, length}
 use Rattle.std.specs.List.{AllByRecursion}
 use Rattle.carp_base.specs.Problem.{IsRequired}
-use Rattle.path_scanning.specs.Choosing.{IsStand, TasksTaken, open_count}
+use Rattle.task_tours.specs.Tours.{IsStand}
+use Rattle.path_scanning.specs.Choosing.{TasksTaken, open_count}
 use Rattle.path_scanning.specs.Scans.{tour_start}
 use Rattle.path_scanning.proofs.scanning.grow.Given as goal
 

@@ -2,10 +2,9 @@ use Rattle.std.proofs.Common.{◌≡◌, ◌≤◌, ◌++◌, length, drop, take
 use Rattle.std.specs.Prelude.{replicate}
 use Rattle.std.specs.Vec.{vec_len}
 use Rattle.std.proofs.lemmas.List.{length_push, length-replicate}
-use Rattle.deadhead_paths.specs.Tidy.{GoByLeastPaths}
+use Rattle.task_tours.specs.Tours.{JoinsTasks}
 use Rattle.path_scanning.specs.Choosing.{IsGrown}
-use Rattle.path_scanning.specs.Walking.{service_steps}
-use Rattle.path_scanning.proofs.Plans.{lawful_from, grown_tour, grown_long, grown_none, tours_more, tours_whole, none_served, some_long, none_long, whole}
+use Rattle.path_scanning.proofs.Plans.{scanned_tours, scanned_paths, grown_tour, grown_long, grown_none, tours_more, tours_whole, none_served, some_long, none_long, whole}
 use Rattle.path_scanning.proofs.scanning.scan.Goals as goal
 
 pub loop-plan-preserved : goal.loop-plan-preserved
@@ -18,7 +17,7 @@ loop-plan-preserved c =
     let walk = c.in_ok-join.field-0 in
     let loop = c.loop-plan.invariant in
     let grown : IsGrown p rule before tasks.items after = subst (λ xs. IsGrown p rule xs tasks.items after) c.deref_mut.ensures.value c.in_ok-tasks.ensures in
-    let goes = subst (λ ts. GoByLeastPaths p (service_steps ts) p.depot p.depot walk) c.deref.ensures.value c.in_ok-join.ensures in
+    let goes = subst (λ ts. JoinsTasks p ts walk) c.deref.ensures.value c.in_ok-join.ensures in
     let some : 1 ≤ vec_len tasks = some_long (vec_len tasks) (sym c.is_empty.ensures ∙ c.if-is_empty.false) in
     let some_items : 1 ≤ length tasks.items = omega (arith, some, tasks.ok.0) in
     let tour = grown_tour p rule before after tasks.items walk grown some_items goes in
@@ -46,4 +45,7 @@ returns-then-is_empty-clause-scanned c =
 pub returns-then-is_empty-clause-lawful : goal.returns-then-is_empty-clause-lawful
 returns-then-is_empty-clause-lawful c =
     let p = c.args.inst.now in
-    lawful_from p c.args.rule c.required.ensures.valid (replicate p.required false) c.loop-plan.plan (length-replicate p.required false) (none_served p) (returns-then-is_empty-clause-scanned c)
+    let none = replicate p.required false in
+    let scanned = returns-then-is_empty-clause-scanned c in
+    c.plans_are_tours.ensures.lawful p c.required.ensures.valid c.loop-plan.plan (scanned_paths p c.args.rule none c.loop-plan.plan scanned)
+    (scanned_tours p c.args.rule none c.loop-plan.plan (length-replicate p.required false) (none_served p) scanned)
