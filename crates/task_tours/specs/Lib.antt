@@ -2,3 +2,4 @@ pub mod Tours
 pub mod Laws
 pub mod Joining
 pub mod Standings
+pub mod Examples
