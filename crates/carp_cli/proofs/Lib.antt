@@ -1,3 +1,2 @@
 mod Cuts
-mod Judged
 mod Lines

@@ -1,22 +1,11 @@
--- A certificate of a lower bound by prices of services alone, and its text.
+-- The text of a certificate: a plan, and a lower bound by prices of services alone.
 use Rattle.std.specs.Prelude.{ℕ, ◌++◌, ◌∷◌, List, length, codes, decimal, if◌then◌else◌, ◌==◌}
 use Rattle.std.specs.List.{flat_map}
 use Rattle.plan_model.specs.declared.step.Step.{Step}
-use Rattle.carp_cli.specs.declared.certificate.Solution.{Solution}
-
--- a plan with its cost, and a bound with one price for each required edge
-pub record Certificate : Type 0 where
-  pub cost : ℕ
-  pub bound : ℕ
-  pub plan : List (List Step)
-  pub prices : List ℕ
-
--- the certificate that the code holds
-abbrev pub certificate_of : Solution → Certificate
-certificate_of s = record { cost = s.cost; bound = s.bound; plan = s.plan; prices = s.prices.items }
+use Rattle.carp_engine.specs.Solutions.{Solution}
 
 -- the turns of the tree of one leaf: 1 where the leaf shows the plan's cost, else 0
-abbrev pub turns_of : Certificate → ℕ
+abbrev pub turns_of : Solution → ℕ
 turns_of c = if c.bound == c.cost then 1 else 0
 
 -- how a step is marked: `+` served forward, `-` served backward, `>` not served forward, `<` not served backward
@@ -37,7 +26,7 @@ unfoldable pub number_line : List ℕ → ℕ → List ℕ
 number_line words number = words ++ decimal number ++ codes "\n"
 
 -- the lines up to the tours
-abbrev pub head_text : Certificate → List ℕ
+abbrev pub head_text : Solution → List ℕ
 head_text c =
     number_line (codes "carp-certificate 1\ncost ") c.cost ++ number_line (codes "bound ") c.bound
     ++ number_line (codes "tours ") (length c.plan)
@@ -47,6 +36,6 @@ abbrev pub set_text : List ℕ → List ℕ
 set_text prices = codes "prices 1 " ++ decimal (length prices) ++ flat_map price_text prices ++ codes "\nweights 0\n"
 
 -- the text of a certificate: no shores, one price set, and a tree of one node
-abbrev pub certificate_text : Certificate → List ℕ
+abbrev pub certificate_text : Solution → List ℕ
 certificate_text c =
     head_text c ++ flat_map tour_text c.plan ++ codes "shores 0\nsets 1\n" ++ set_text c.prices ++ codes "nodes 1\nprice 1\nend\n"

@@ -1,7 +1,7 @@
 -- Small data for the examples beside the tests.
 use Rattle.std.specs.Prelude.{ℕ, [], ◌∷◌, None, codes}
 use Rattle.carp_base.specs.Problem.{Problem}
-use Rattle.carp_cli.specs.Certificate.{Certificate}
+use Rattle.carp_engine.specs.Solutions.{Solution}
 use Rattle.carp_cli.specs.Words.{FileNames}
 use Rattle.carp_cli.specs.Outside.{Outside}
 
@@ -9,8 +9,8 @@ use Rattle.carp_cli.specs.Outside.{Outside}
 abbrev pub idle : Problem
 idle = record { vertices = 1; depot = 1; capacity = 1; required = 0; edges = [] }
 
--- a certificate of no tours that states this cost and this bound
-abbrev pub stating : ℕ → ℕ → Certificate
+-- a solution of no tours that states this cost and this bound
+abbrev pub stating : ℕ → ℕ → Solution
 stating cost bound = record { cost = cost; bound = bound; plan = []; prices = [] }
 
 abbrev pub two_names : FileNames
@@ -18,11 +18,11 @@ two_names = record { file = codes "f"; cert = codes "c" }
 
 -- no name holds anything, nothing was written, and no call failed
 abbrev pub empty : Outside
-empty = record { contents = λ _. None; failed_looks = λ _. 0; failed_keeps = 0; written = []; failed_puts = 0 }
+empty = record { contents = λ _. None; failed_looks = λ _. 0; failed_keeps = 0; written = []; failed_puts = 0; offered = [] }
 
 -- a byte was written before, and a put failed since
 abbrev pub with_output : Outside
-with_output = record { contents = λ _. None; failed_looks = λ _. 0; failed_keeps = 0; written = 1 ∷ []; failed_puts = 0 }
+with_output = record { contents = λ _. None; failed_looks = λ _. 0; failed_keeps = 0; written = 1 ∷ []; failed_puts = 0; offered = [] }
 
 abbrev pub with_failed_keep : Outside
-with_failed_keep = record { contents = λ _. None; failed_looks = λ _. 0; failed_keeps = 1; written = []; failed_puts = 0 }
+with_failed_keep = record { contents = λ _. None; failed_looks = λ _. 0; failed_keeps = 1; written = []; failed_puts = 0; offered = [] }

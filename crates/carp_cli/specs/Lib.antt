@@ -1,7 +1,6 @@
 pub mod Words
 pub mod Outside
 pub mod Certificate
-pub mod Sound
 pub mod Report
 pub mod Files
 pub mod Refusals

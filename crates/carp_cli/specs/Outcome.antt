@@ -1,14 +1,14 @@
 -- What a run leaves, by its answer.
-use Rattle.std.specs.Prelude.{◌⊎◌, ◌≡◌, ◌≢◌, ℕ, ◌++◌, ◌<◌, length, List, Option, None, Some}
+use Rattle.std.specs.Prelude.{◌⊎◌, ◌≡◌, ◌≢◌, ℕ, ◌++◌, ◌<◌, length, List, All, Option, None, Some}
 use Rattle.carp_base.specs.Problem.{Problem}
 use Rattle.carp_outside.specs.Causes.{Rose}
 use Rattle.carp_outside.specs.Told.{HoldsExactly, HoldsFront, SameContents, WroteFront}
 use Rattle.carp_cli.specs.Words.{FileNames}
 use Rattle.carp_cli.specs.Outside.{Outside, RoseAtFile}
-use Rattle.carp_cli.specs.Certificate.{Certificate, certificate_text, turns_of}
+use Rattle.carp_engine.specs.Helpers.{IsAtMost}
+use Rattle.carp_engine.specs.Solutions.{Solution, IsSound}
+use Rattle.carp_cli.specs.Certificate.{certificate_text, turns_of}
 use Rattle.carp_cli.specs.Report.{report_text}
-use Rattle.deadhead_paths.specs.Singles.{AreLeastTours}
-use Rattle.carp_cli.specs.Sound.{IsSound}
 use Rattle.carp_cli.specs.Files.{file_limit, OfFile}
 use Rattle.dat_text.specs.Text.{IsTextOf, IsFaultOf}
 use Rattle.carp_cli.specs.Refusals.{refusal_text}
@@ -16,29 +16,29 @@ use Rattle.carp_cli.specs.declared.status.Status.{Status}
 use Rattle.carp_cli.specs.declared.status.Status.TheVariants.{Proven, Gap, BadUsage, BadInstance, ReadFault, WriteFault, Memory, TooLong}
 
 -- `Proven` only where the bound is the cost, and `Gap` only where it is not
-pub record IsEnding (c : Certificate) (status : Status) : Type 0 where
+pub record IsEnding (c : Solution) (status : Status) : Type 0 where
   pub proven : status ≡ Proven → c.bound ≡ c.cost
   pub gap : status ≡ Gap → c.bound ≢ c.cost
 
--- these texts are of a sound certificate of the instance, with a least tour for each required edge: one to keep, and one to
--- write
+-- these texts are of a sound solution of the instance: its certificate, to keep, and its report, to write
 pub record AreTextsOf (p : Problem) (kept written : List ℕ) : Type 0 where
-  pub certificate : Certificate
-  pub sound : IsSound p certificate
-  pub tours : AreLeastTours p certificate.plan
-  pub kept_is : kept ≡ certificate_text certificate
-  pub written_is : written ≡ report_text p certificate (turns_of certificate)
+  pub solution : Solution
+  pub sound : IsSound p solution
+  pub kept_is : kept ≡ certificate_text solution
+  pub written_is : written ≡ report_text p solution (turns_of solution)
 
--- these texts are of such a certificate, and the status says whether its bound is its cost
-pub record IsAnswer (p : Problem) (kept written : List ℕ) (status : Status) : Type 0 where
+-- these texts are of such a solution, which costs no more than what helpers offered, and the status says whether its bound is its
+-- cost
+pub record IsAnswer (p : Problem) (kept written : List ℕ) (status : Status) (offered : List (Option ℕ)) : Type 0 where
   pub texts : AreTextsOf p kept written
-  pub ending : IsEnding texts.certificate status
+  pub ending : IsEnding texts.solution status
+  pub helped : All (IsAtMost texts.solution.cost) offered
 
 -- the certificate of an instance is kept, and its report is written
 pub record IsDelivered (p : Problem) (cert : List ℕ) (status : Status) (before now : Outside) : Type 0 where
   pub kept_text : List ℕ
   pub report : List ℕ
-  pub answer : IsAnswer p kept_text report status
+  pub answer : IsAnswer p kept_text report status now.offered
   pub kept : HoldsExactly cert kept_text before.contents now.contents
   pub wrote : now.written ≡ before.written ++ report
 
@@ -53,7 +53,8 @@ pub record IsCutDelivery (p : Problem) (cert : List ℕ) (before now : Outside) 
 
 -- The headline: the file is the text of an instance; the certificate's name holds the text of a certificate, and all
 -- other names hold what they held; what was written grew by the report of the instance, the certificate and its turns;
--- the certificate's plan is lawful and costs what is stated, and no lawful plan costs less than its bound.
+-- the certificate's plan is lawful, costs what is stated and no more than single tours or what helpers offered, and no lawful plan costs
+-- less than its bound.
 pub record IsSolved (names : FileNames) (status : Status) (before now : Outside) : Type 0 where
   pub file : List ℕ
   pub was : before.contents names.file ≡ Some file

@@ -4,13 +4,15 @@ use Rattle.carp_outside.specs.Causes.{Rose}
 use Rattle.carp_outside.specs.Told.{SameContents}
 use Rattle.carp_cli.specs.Words.{FileNames}
 
--- what each name holds and what was written, as they are told, and how many looks at each name, keeps and puts failed
+-- what each name holds and what was written, as they are told, how many looks at each name, keeps and puts failed, and the least
+-- cost of the lawful plans that each helper offered
 pub record Outside : Type 0 where
   pub contents : List ℕ → Option (List ℕ)
   pub failed_looks : List ℕ → ℕ
   pub failed_keeps : ℕ
   pub written : List ℕ
   pub failed_puts : ℕ
+  pub offered : List (Option ℕ)
 
 -- names other than the one that is kept hold what they held
 abbrev pub SameElsewhere : Option FileNames → (List ℕ → Option (List ℕ)) → (List ℕ → Option (List ℕ)) → Type 0

@@ -1,22 +1,14 @@
-// A certificate of a lower bound by prices of services alone, and its text.
+// The text of a certificate: a plan, and a lower bound by prices of services alone.
 ghost use Rattle.std.specs.Prelude.{◌≡◌, ◌++◌, ◌∷◌, [], length, IfOk, OnOk, codes, decimal};
 ghost use Rattle.std.specs.List.{flat_map};
-ghost use Rattle.carp_cli.specs.Certificate.{certificate_of, certificate_text, head_text, set_text, tour_text, step_text, mark_of, price_text};
+ghost use Rattle.carp_engine.specs.Solutions.{solution_of};
+ghost use Rattle.carp_cli.specs.Certificate.{certificate_text, head_text, set_text, tour_text, step_text, mark_of, price_text};
 
 use crate::text::{push_line, push_words};
 use carp_base::Memory;
+use carp_engine::Solved;
 use plan_model::{Plan, Step, Walk};
 use std::alloc::Global;
-
-/// A plan with its cost, and a lower bound on the cost of every lawful plan with the prices that show it, one for
-/// each required edge.
-#[derive(Drop)]
-pub(crate) struct Solution {
-    pub(crate) cost: u128,
-    pub(crate) bound: u128,
-    pub(crate) plan: Plan,
-    pub(crate) prices: Vec<u64>,
-}
 
 fn mark(step: Step) -> u8
     ensures { result ≡ mark_of step }
@@ -80,8 +72,8 @@ fn push_set(text: &mut Vec<u8>, prices: &[u64]) -> Result<(), Memory>
     Ok(())
 }
 
-fn push_head(text: &mut Vec<u8>, solution: &Solution) -> Result<(), Memory>
-    ensures { OnOk result (text.new.items ≡ text.old.items ++ head_text (certificate_of solution.now)) }
+fn push_head(text: &mut Vec<u8>, solution: &Solved) -> Result<(), Memory>
+    ensures { OnOk result (text.new.items ≡ text.old.items ++ head_text (solution_of solution.now)) }
 {
     push_line(text, b"carp-certificate 1\ncost ", solution.cost)?;
     push_line(text, b"bound ", solution.bound)?;
@@ -90,8 +82,8 @@ fn push_head(text: &mut Vec<u8>, solution: &Solution) -> Result<(), Memory>
 }
 
 /// The text that is kept.
-pub(crate) fn write_certificate(alloc: Global, solution: &Solution) -> Result<Vec<u8>, Memory>
-    ensures { IfOk result (λ text. text.items ≡ certificate_text (certificate_of solution.now)) }
+pub(crate) fn write_certificate(alloc: Global, solution: &Solved) -> Result<Vec<u8>, Memory>
+    ensures { IfOk result (λ text. text.items ≡ certificate_text (solution_of solution.now)) }
 {
     let mut text = Vec::new(alloc);
     push_head(&mut text, solution)?;

@@ -1,6 +1,6 @@
 // Small data at which the facts of a run hold, and small data at which they do not.
 ghost use Rattle.std.specs.Prelude.{◌≢◌, [], ◌∷◌, None, Some};
-ghost use Rattle.carp_cli.specs.Sound.{IsSound};
+ghost use Rattle.carp_engine.specs.Solutions.{IsSound};
 ghost use Rattle.carp_cli.specs.Outside.{SameElsewhere, RoseAtFile};
 ghost use Rattle.carp_cli.specs.Outcome.{IsEnding, IsSolved, IsCutShort};
 ghost use Rattle.carp_cli.specs.Examples.{idle, stating, two_names, empty, with_output, with_failed_keep};

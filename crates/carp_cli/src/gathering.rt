@@ -1,5 +1,5 @@
 // Reads an instance, and builds the texts of its solution.
-ghost use Rattle.std.specs.Prelude.{◌≡◌, ◌≢◌, ℕ, ◌+◌, ◌<◌, ◌≤◌, ◌^◌, ◌⊎◌, List, length, Some, Ok, Err, IsTrue, IsOk, IsSomeAnd, IfOk};
+ghost use Rattle.std.specs.Prelude.{◌≡◌, ◌≢◌, ℕ, ◌+◌, ◌<◌, ◌≤◌, ◌^◌, ◌⊎◌, ◌%◌, List, length, map, slice_index, All, EachIndex, Some, Ok, Err, IsTrue, IsOk, IsSomeAnd, IfOk, OnOk};
 ghost use Rattle.carp_outside.specs.Causes.{Rose, RoseBy};
 ghost use Rattle.carp_outside.specs.Told.{SameContents};
 ghost use Rattle.dat_text.specs.Text.{IsTextOf, IsFaultOf};
@@ -10,11 +10,12 @@ ghost use Rattle.carp_cli.specs.declared.gathering.Stop.TheVariants.{NoMemory, N
 
 use crate::certificate::write_certificate;
 use crate::report::write_report;
-use crate::solving::solve;
 use crate::status::Status;
 use carp_base::{Fail, Instance, Memory};
+use carp_engine::solve;
 use carp_outside::{ReadFault, Shelf, read_whole};
 use dat_text::{DatFault, read_dat, readings_are_unique};
+use plan_model::Proposer;
 use std::alloc::Global;
 
 /// The most bytes of an instance file.
@@ -101,12 +102,24 @@ fn parse(alloc: Global, bytes: &[u8]) -> Result<Instance, Stop>
     }
 }
 
-/// Solves an instance, and builds the texts of its certificate and its report.
-pub(crate) fn build_texts(alloc: Global, inst: &Instance) -> Result<Texts, Memory>
-    ensures answer { IfOk result (λ texts. IsAnswer inst.now texts.kept.items texts.report.items texts.status) }
+/// The budget of turns, and the seed.
+const TURNS: u64 = 64;
+const SEED: u64 = 1;
+
+/// Solves an instance with the aid of helpers, and builds the texts of its certificate and its report.
+pub(crate) fn build_texts<P: Proposer>(
+    alloc: Global,
+    inst: &Instance,
+    helpers: &mut Vec<P>,
+) -> Result<Texts, Memory>
+    ensures same { map P.id helpers.new.items ≡ map P.id helpers.old.items }
+    ensures seeds { OnOk result (EachIndex helpers.new.items (λ k. slice_index (map P.seed helpers.new.items) k ≡ (1 + k) % 2 ^ 64)) }
+    ensures asked { OnOk result (All (λ helper. 1 ≤ P.asked helper) helpers.new.items) }
+    ensures fouls { OnOk result (All (λ helper. (P.tally helper).fouls ≤ 1) helpers.new.items) }
+    ensures answer { IfOk result (λ texts. IsAnswer inst.now texts.kept.items texts.report.items texts.status (map (λ helper. (P.tally helper).least) helpers.new.items)) }
     ensures status { IfOk result (λ texts. (texts.status ≡ Status.Proven) ⊎ (texts.status ≡ Status.Gap)) }
 {
-    let solution = solve(alloc, inst)?;
+    let solution = solve(alloc, inst, TURNS, SEED, helpers)?;
     let proven = solution.bound == solution.cost;
     let kept = write_certificate(alloc, &solution)?;
     let report = write_report(alloc, inst, &solution, u64::from(proven))?;

@@ -3,12 +3,13 @@ ghost use Rattle.std.specs.Prelude.{◌≡◌, ◌+◌, ◌<◌, ◌≤◌, ◌^
 ghost use Rattle.std.specs.List.{flat_map};
 ghost use Rattle.carp_base.specs.Problem.{IsEdgeNumber};
 ghost use Rattle.plan_model.specs.Plans.{IsLawful, IsOnEdges};
-ghost use Rattle.carp_cli.specs.Certificate.{certificate_of, turns_of, number_line};
+ghost use Rattle.carp_cli.specs.Certificate.{turns_of, number_line};
+ghost use Rattle.carp_engine.specs.Solutions.{solution_of};
 ghost use Rattle.carp_cli.specs.Report.{report_text, instance_line, result_lines, gap_line, tour_lines, tour_line, route_text, crossing_text};
 
-use crate::certificate::Solution;
 use crate::text::{push_line, push_number, push_words};
 use carp_base::{Instance, Memory};
+use carp_engine::Solved;
 use plan_model::{Plan, Step, Walk, cost_of, load_of};
 use std::alloc::Global;
 
@@ -94,9 +95,9 @@ fn push_gap_line(text: &mut Vec<u8>, cost: u128, bound: u128) -> Result<(), Memo
 }
 
 #[tactic(auto, unfolding(crate::specs::Report::result_lines))]
-fn push_result_lines(text: &mut Vec<u8>, solution: &Solution, turns: u64) -> Result<(), Memory>
+fn push_result_lines(text: &mut Vec<u8>, solution: &Solved, turns: u64) -> Result<(), Memory>
     requires { solution.now.bound ≤ solution.now.cost }
-    ensures { OnOk result (text.new.items ≡ text.old.items ++ result_lines (certificate_of solution.now) turns) }
+    ensures { OnOk result (text.new.items ≡ text.old.items ++ result_lines (solution_of solution.now) turns) }
 {
     push_line(text, b"cost ", solution.cost)?;
     push_line(text, b"bound ", solution.bound)?;
@@ -108,12 +109,12 @@ fn push_result_lines(text: &mut Vec<u8>, solution: &Solution, turns: u64) -> Res
 pub(crate) fn write_report(
     alloc: Global,
     inst: &Instance,
-    solution: &Solution,
+    solution: &Solved,
     turns: u64,
 ) -> Result<Vec<u8>, Memory>
     requires lawful { IsLawful inst.now solution.now.plan }
     requires bounded { solution.now.bound ≤ solution.now.cost }
-    ensures { IfOk result (λ text. text.items ≡ report_text inst.now (certificate_of solution.now) turns) }
+    ensures { IfOk result (λ text. text.items ≡ report_text inst.now (solution_of solution.now) turns) }
 {
     let mut text = Vec::new(alloc);
     push_instance_line(&mut text, inst)?;

@@ -1,5 +1,5 @@
 // The top call.
-ghost use Rattle.std.specs.Prelude.{◌≡◌, ◌≢◌, ℕ, ◌+◌, ◌<◌, ◌≤◌, ◌++◌, ◌⊎◌, List, length, None, Some, IsTrue, IsSomeAnd};
+ghost use Rattle.std.specs.Prelude.{◌≡◌, ◌≢◌, ℕ, ◌+◌, ◌<◌, ◌≤◌, ◌%◌, ◌^◌, ◌++◌, ◌⊎◌, List, length, map, slice_index, All, EachIndex, None, Some, IsTrue, IsSomeAnd};
 ghost use Rattle.carp_outside.specs.Causes.{Rose, RoseBy};
 ghost use Rattle.carp_outside.specs.Told.{HoldsExactly, HoldsFront, SameContents, WroteFront};
 ghost use Rattle.carp_base.specs.Problem.{Problem};
@@ -20,12 +20,14 @@ use dat_text::DatFault;
 use plan_model::Proposer;
 use std::alloc::Global;
 
-/// Runs the command that the words name: `solve FILE CERT` reads the instance of FILE, keeps a certificate at CERT and
-/// writes a report. All other words are bad usage. The helpers are left as they are.
+/// Runs the command that the words name: `solve FILE CERT` reads the instance of FILE, solves it with the aid of the helpers,
+/// keeps a certificate at CERT and writes a report. All other words are bad usage, and the helpers are then left as they are.
+///
+/// The helpers are used as [`carp_engine::solve`] does, with seed 1. None of them need be trusted.
 ///
 /// What the clauses say of the contents of names and of what was written holds where the shelf and the sink tell it, as
 /// [`carp_outside::MemShelf`] and [`carp_outside::MemSink`] do. Over [`crate::DirShelf`] and [`crate::StdSink`] only `usage`,
-/// `usage_only`, `read`, `write`, `too_long` and `helpers` say something.
+/// `usage_only`, `read`, `write`, `too_long` and the clauses on the helpers say something.
 pub fn run<H: Shelf, O: Sink>(
     alloc: Global,
     words: &[String],
@@ -34,8 +36,8 @@ pub fn run<H: Shelf, O: Sink>(
     helpers: &mut Vec<Box<dyn Proposer>>,
 ) -> Status
     // The headline: where a solution is answered, the certificate is kept, the report is written, and both are true.
-    ensures solved { let before : Outside = record { contents = H.contents shelf.old; failed_looks = H.failed_looks shelf.old; failed_keeps = H.failed_keeps shelf.old; written = O.written out.old; failed_puts = O.faults out.old } in
-        let now : Outside = record { contents = H.contents shelf.new; failed_looks = H.failed_looks shelf.new; failed_keeps = H.failed_keeps shelf.new; written = O.written out.new; failed_puts = O.faults out.new } in
+    ensures solved { let before : Outside = record { contents = H.contents shelf.old; failed_looks = H.failed_looks shelf.old; failed_keeps = H.failed_keeps shelf.old; written = O.written out.old; failed_puts = O.faults out.old; offered = map (λ helper. (tally helper).least) helpers.old.items } in
+        let now : Outside = record { contents = H.contents shelf.new; failed_looks = H.failed_looks shelf.new; failed_keeps = H.failed_keeps shelf.new; written = O.written out.new; failed_puts = O.faults out.new; offered = map (λ helper. (tally helper).least) helpers.new.items } in
         IsTrue H.tells → IsTrue O.tells → (result ≡ Status.Proven) ⊎ (result ≡ Status.Gap) → IsSomeAnd (names_of words.now) (λ names.
         IsSolved names result before now) }
     ensures complete { IsTrue H.tells → OfFile (λ bytes. (length bytes ≤ file_limit) × IsAccepted bytes) (names_of words.now) (H.contents shelf.old)
@@ -67,27 +69,34 @@ pub fn run<H: Shelf, O: Sink>(
         → SameContents (H.contents shelf.old) (H.contents shelf.new) }
     ensures refused { IsTrue O.tells → result ≢ Status.Proven → result ≢ Status.Gap → result ≢ Status.WriteFault
         → O.written out.new ≡ O.written out.old ++ refusal_text result }
-    ensures cut { let before : Outside = record { contents = H.contents shelf.old; failed_looks = H.failed_looks shelf.old; failed_keeps = H.failed_keeps shelf.old; written = O.written out.old; failed_puts = O.faults out.old } in
-        let now : Outside = record { contents = H.contents shelf.new; failed_looks = H.failed_looks shelf.new; failed_keeps = H.failed_keeps shelf.new; written = O.written out.new; failed_puts = O.faults out.new } in
+    ensures cut { let before : Outside = record { contents = H.contents shelf.old; failed_looks = H.failed_looks shelf.old; failed_keeps = H.failed_keeps shelf.old; written = O.written out.old; failed_puts = O.faults out.old; offered = map (λ helper. (tally helper).least) helpers.old.items } in
+        let now : Outside = record { contents = H.contents shelf.new; failed_looks = H.failed_looks shelf.new; failed_keeps = H.failed_keeps shelf.new; written = O.written out.new; failed_puts = O.faults out.new; offered = map (λ helper. (tally helper).least) helpers.new.items } in
         IsTrue H.tells → IsTrue O.tells → result ≡ Status.WriteFault
         → IsCutShort (names_of words.now) before now }
-    ensures helpers { helpers.new.items ≡ helpers.old.items }
+
+    // The helpers are those that came, in their order, and were asked where a solution is answered.
+    ensures helpers { map id helpers.new.items ≡ map id helpers.old.items }
+    ensures unasked { names_of words.now ≡ None → helpers.new.items ≡ helpers.old.items }
+    ensures seeds { (result ≡ Status.Proven) ⊎ (result ≡ Status.Gap) → EachIndex helpers.new.items (λ k. slice_index (map seed helpers.new.items) k ≡ (1 + k) % 2 ^ 64) }
+    ensures asked { (result ≡ Status.Proven) ⊎ (result ≡ Status.Gap) → All (λ helper. 1 ≤ asked helper) helpers.new.items }
+    ensures fouls { (result ≡ Status.Proven) ⊎ (result ≡ Status.Gap) → All (λ helper. (tally helper).fouls ≤ 1) helpers.new.items }
 {
     match read_words(words) {
         None => refuse(alloc, out, Status::BadUsage),
-        Some(names) => solve_file(alloc, &names, shelf, out),
+        Some(names) => solve_file(alloc, &names, shelf, out, helpers),
     }
 }
 
 // Solves the instance of a file.
-fn solve_file<H: Shelf, O: Sink>(
+fn solve_file<H: Shelf, O: Sink, P: Proposer>(
     alloc: Global,
     names: &Names<'_>,
     shelf: &mut H,
     out: &mut O,
+    helpers: &mut Vec<P>,
 ) -> Status
-    ensures solved { let before : Outside = record { contents = H.contents shelf.old; failed_looks = H.failed_looks shelf.old; failed_keeps = H.failed_keeps shelf.old; written = O.written out.old; failed_puts = O.faults out.old } in
-        let now : Outside = record { contents = H.contents shelf.new; failed_looks = H.failed_looks shelf.new; failed_keeps = H.failed_keeps shelf.new; written = O.written out.new; failed_puts = O.faults out.new } in
+    ensures solved { let before : Outside = record { contents = H.contents shelf.old; failed_looks = H.failed_looks shelf.old; failed_keeps = H.failed_keeps shelf.old; written = O.written out.old; failed_puts = O.faults out.old; offered = map (λ helper. (P.tally helper).least) helpers.old.items } in
+        let now : Outside = record { contents = H.contents shelf.new; failed_looks = H.failed_looks shelf.new; failed_keeps = H.failed_keeps shelf.new; written = O.written out.new; failed_puts = O.faults out.new; offered = map (λ helper. (P.tally helper).least) helpers.new.items } in
         IsTrue H.tells → IsTrue O.tells → (result ≡ Status.Proven) ⊎ (result ≡ Status.Gap) →
         IsSolved (record { file = names.now.file.now; cert = names.now.cert.now }) result before now }
     ensures complete { IsTrue H.tells → IsSomeAnd (H.contents shelf.old names.now.file.now) (λ bytes. (length bytes ≤ file_limit) × IsAccepted bytes)
@@ -114,13 +123,17 @@ fn solve_file<H: Shelf, O: Sink>(
         → SameContents (H.contents shelf.old) (H.contents shelf.new) }
     ensures refused { IsTrue O.tells → result ≢ Status.Proven → result ≢ Status.Gap → result ≢ Status.WriteFault
         → O.written out.new ≡ O.written out.old ++ refusal_text result }
-    ensures cut { let before : Outside = record { contents = H.contents shelf.old; failed_looks = H.failed_looks shelf.old; failed_keeps = H.failed_keeps shelf.old; written = O.written out.old; failed_puts = O.faults out.old } in
-        let now : Outside = record { contents = H.contents shelf.new; failed_looks = H.failed_looks shelf.new; failed_keeps = H.failed_keeps shelf.new; written = O.written out.new; failed_puts = O.faults out.new } in
+    ensures cut { let before : Outside = record { contents = H.contents shelf.old; failed_looks = H.failed_looks shelf.old; failed_keeps = H.failed_keeps shelf.old; written = O.written out.old; failed_puts = O.faults out.old; offered = map (λ helper. (P.tally helper).least) helpers.old.items } in
+        let now : Outside = record { contents = H.contents shelf.new; failed_looks = H.failed_looks shelf.new; failed_keeps = H.failed_keeps shelf.new; written = O.written out.new; failed_puts = O.faults out.new; offered = map (λ helper. (P.tally helper).least) helpers.new.items } in
         IsTrue H.tells → IsTrue O.tells → result ≡ Status.WriteFault
         → IsCutShort (Some (record { file = names.now.file.now; cert = names.now.cert.now })) before now }
+    ensures helpers { map P.id helpers.new.items ≡ map P.id helpers.old.items }
+    ensures seeds { (result ≡ Status.Proven) ⊎ (result ≡ Status.Gap) → EachIndex helpers.new.items (λ k. slice_index (map P.seed helpers.new.items) k ≡ (1 + k) % 2 ^ 64) }
+    ensures asked { (result ≡ Status.Proven) ⊎ (result ≡ Status.Gap) → All (λ helper. 1 ≤ P.asked helper) helpers.new.items }
+    ensures fouls { (result ≡ Status.Proven) ⊎ (result ≡ Status.Gap) → All (λ helper. (P.tally helper).fouls ≤ 1) helpers.new.items }
 {
     match read_instance(alloc, shelf, names.file) {
-        Ok(inst) => solve_instance(alloc, &inst, names.cert, shelf, out),
+        Ok(inst) => solve_instance(alloc, &inst, names.cert, shelf, out, helpers),
         Err(Stop::NoMemory) => Status::Memory,
         Err(Stop::NotRead) => refuse(alloc, out, Status::ReadFault),
         Err(Stop::Longer) => refuse(alloc, out, Status::TooLong(FILE_LIMIT)),
@@ -129,28 +142,33 @@ fn solve_file<H: Shelf, O: Sink>(
 }
 
 // Solves an instance, keeps the certificate and writes the report.
-fn solve_instance<H: Shelf, O: Sink>(
+fn solve_instance<H: Shelf, O: Sink, P: Proposer>(
     alloc: Global,
     inst: &Instance,
     cert: &str,
     shelf: &mut H,
     out: &mut O,
+    helpers: &mut Vec<P>,
 ) -> Status
     ensures answers { (result ≡ Status.Proven) ⊎ ((result ≡ Status.Gap) ⊎ ((result ≡ Status.Memory) ⊎ (result ≡ Status.WriteFault))) }
-    ensures solved { let before : Outside = record { contents = H.contents shelf.old; failed_looks = H.failed_looks shelf.old; failed_keeps = H.failed_keeps shelf.old; written = O.written out.old; failed_puts = O.faults out.old } in
-        let now : Outside = record { contents = H.contents shelf.new; failed_looks = H.failed_looks shelf.new; failed_keeps = H.failed_keeps shelf.new; written = O.written out.new; failed_puts = O.faults out.new } in
+    ensures solved { let before : Outside = record { contents = H.contents shelf.old; failed_looks = H.failed_looks shelf.old; failed_keeps = H.failed_keeps shelf.old; written = O.written out.old; failed_puts = O.faults out.old; offered = map (λ helper. (P.tally helper).least) helpers.old.items } in
+        let now : Outside = record { contents = H.contents shelf.new; failed_looks = H.failed_looks shelf.new; failed_keeps = H.failed_keeps shelf.new; written = O.written out.new; failed_puts = O.faults out.new; offered = map (λ helper. (P.tally helper).least) helpers.new.items } in
         IsTrue H.tells → IsTrue O.tells → (result ≡ Status.Proven) ⊎ (result ≡ Status.Gap) → IsDelivered inst.now cert.now result before now }
     ensures cause { result ≡ Status.WriteFault → Rose (H.failed_keeps shelf.old) (H.failed_keeps shelf.new) ⊎ Rose (O.faults out.old) (O.faults out.new) }
-    ensures cut { let before : Outside = record { contents = H.contents shelf.old; failed_looks = H.failed_looks shelf.old; failed_keeps = H.failed_keeps shelf.old; written = O.written out.old; failed_puts = O.faults out.old } in
-        let now : Outside = record { contents = H.contents shelf.new; failed_looks = H.failed_looks shelf.new; failed_keeps = H.failed_keeps shelf.new; written = O.written out.new; failed_puts = O.faults out.new } in
+    ensures cut { let before : Outside = record { contents = H.contents shelf.old; failed_looks = H.failed_looks shelf.old; failed_keeps = H.failed_keeps shelf.old; written = O.written out.old; failed_puts = O.faults out.old; offered = map (λ helper. (P.tally helper).least) helpers.old.items } in
+        let now : Outside = record { contents = H.contents shelf.new; failed_looks = H.failed_looks shelf.new; failed_keeps = H.failed_keeps shelf.new; written = O.written out.new; failed_puts = O.faults out.new; offered = map (λ helper. (P.tally helper).least) helpers.new.items } in
         IsTrue H.tells → IsTrue O.tells → result ≡ Status.WriteFault → IsCutDelivery inst.now cert.now before now }
     ensures elsewhere { IsTrue H.tells → (other : List ℕ) → other ≢ cert.now → H.contents shelf.new other ≡ H.contents shelf.old other }
     ensures kept_not { IsTrue H.tells → result ≡ Status.Memory → SameContents (H.contents shelf.old) (H.contents shelf.new) }
     ensures wrote_not { IsTrue O.tells → result ≡ Status.Memory → O.written out.new ≡ O.written out.old }
     ensures looks { (name : List ℕ) → H.failed_looks shelf.new name ≡ H.failed_looks shelf.old name }
     ensures given { H.given shelf.new ≡ H.given shelf.old }
+    ensures helpers { map P.id helpers.new.items ≡ map P.id helpers.old.items }
+    ensures seeds { (result ≡ Status.Proven) ⊎ (result ≡ Status.Gap) → EachIndex helpers.new.items (λ k. slice_index (map P.seed helpers.new.items) k ≡ (1 + k) % 2 ^ 64) }
+    ensures asked { (result ≡ Status.Proven) ⊎ (result ≡ Status.Gap) → All (λ helper. 1 ≤ P.asked helper) helpers.new.items }
+    ensures fouls { (result ≡ Status.Proven) ⊎ (result ≡ Status.Gap) → All (λ helper. (P.tally helper).fouls ≤ 1) helpers.new.items }
 {
-    match build_texts(alloc, inst) {
+    match build_texts(alloc, inst, helpers) {
         Ok(texts) => deliver(&texts, cert, shelf, out),
         Err(Memory) => Status::Memory,
     }

@@ -2,7 +2,7 @@
 ghost use Rattle.std.specs.Prelude.{◌≡◌, ◌+◌, ◌%◌, ◌^◌, ◌≤◌, All, EachIndex, IfOk, OnOk, map, slice_index};
 ghost use Rattle.carp_base.specs.Problem.{IsValid, required_edges};
 ghost use Rattle.carp_engine.specs.Helpers.{IsAtMost};
-ghost use Rattle.carp_engine.specs.Solutions.{IsSolution};
+ghost use Rattle.carp_engine.specs.Solutions.{IsSound, solution_of};
 
 use crate::rounds::ask_all;
 use carp_base::{Instance, Memory};
@@ -57,7 +57,7 @@ pub fn solve<P: Proposer>(
     ensures asked { OnOk result (All (λ helper. 1 ≤ P.asked helper) helpers.new.items) }
     ensures fouls { OnOk result (All (λ helper. (P.tally helper).fouls ≤ 1) helpers.new.items) }
     ensures least { IfOk result (λ solved. All (λ helper. IsAtMost solved.cost (P.tally helper).least) helpers.new.items) }
-    ensures solution { IfOk result (IsSolution inst.now) }
+    ensures sound { IfOk result (λ solved. IsSound inst.now (solution_of solved)) }
 {
     required_cost_is_least();
     let dist = cost_distances(alloc, inst)?;

@@ -1,15 +1,17 @@
 use Rattle.std.proofs.Common.{rules}
-use Rattle.carp_cli.specs.Certificate.{certificate_of}
+use Rattle.std.proofs.lemmas.List.Elements.{All-map}
+use Rattle.carp_engine.specs.Helpers.{IsAtMost}
+use Rattle.carp_engine.specs.Solutions.{solution_of}
 use Rattle.carp_cli.proofs.gathering.build_texts.Goals as goal
 
 pub returns-clause-answer : goal.returns-clause-answer
-returns-clause-answer c = record {
+returns-clause-answer g c = record {
   texts = record {
-    certificate = certificate_of c.in_ok-solution.solution;
+    solution = solution_of c.in_ok-solution.solution;
     sound = c.in_ok-solution.ensures.sound;
-    tours = c.in_ok-solution.ensures.tours;
     kept_is = search rules;
     written_is = search rules;
   };
   ending = record { proven = search rules; gap = search rules };
+  helped = All-map (IsAtMost c.in_ok-solution.solution.cost) (λ helper. (g.P.Proposer.tally helper).least) _ c.in_ok-solution.ensures.least;
 }

@@ -1,11 +1,10 @@
-use Rattle.std.proofs.Common.{◌≡◌, ◌≤◌, ◌∙◌, sym, arith, subst}
+use Rattle.std.proofs.Common.{◌≡◌, ◌∙◌, sym, arith, subst}
 use Rattle.carp_base.specs.Problem.{required_cost}
 use Rattle.plan_model.specs.Laws.{IsLowerBound}
-use Rattle.plan_model.specs.Plans.{plan_cost}
 use Rattle.carp_engine.proofs.solving.solve.Goals as goal
 
-pub returns-clause-solution : goal.returns-clause-solution
-returns-clause-solution g c =
+pub returns-clause-sound : goal.returns-clause-sound
+returns-clause-sound g c =
     let p = c.args.inst.now in
     let bound : c.from.result ≡ required_cost p = c.from.ensures ∙ c.required_cost.ensures in
     record {
