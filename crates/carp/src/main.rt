@@ -1,8 +1,10 @@
-//! The program: the real files, the real output and the words of the command line, given to the top call.
+//! The program: the real files, the real output, the words of the command line and four helpers, given to the top call.
 #![tactic(auto)]
 
 use carp_base::Memory;
 use carp_cli::{DirShelf, Status, StdSink, run};
+use carp_engine::dismiss;
+use path_scanning::Scanner;
 use plan_model::Proposer;
 use std::io::ErrorKind;
 use std::process::ExitCode;
@@ -14,10 +16,20 @@ fn main(rt: HostRuntime) -> ExitCode {
     let Ok(words) = words_of(&rt) else {
         return ExitCode::from(Status::Memory.code());
     };
+    let mut helpers: Vec<Box<dyn Proposer>> = Vec::new(alloc);
+    let (Ok(scanner), Ok(other)) = (
+        Box::new(alloc, Scanner::new(alloc, 1)),
+        Box::new(alloc, Scanner::new(alloc, 2)),
+    ) else {
+        return ExitCode::from(Status::Memory.code());
+    };
+    if helpers.push(scanner).is_err() || helpers.push(other).is_err() {
+        return ExitCode::from(Status::Memory.code());
+    }
     let mut shelf = DirShelf::new(&rt, alloc);
     let mut out = StdSink::new(io::writer(&rt));
-    let mut helpers: Vec<Box<dyn Proposer>> = Vec::new(alloc);
     let status = run(alloc, &words, &mut shelf, &mut out, &mut helpers);
+    dismiss(&mut helpers);
     ExitCode::from(status.code())
 }
 
