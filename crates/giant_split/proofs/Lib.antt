@@ -1,0 +1,5 @@
+pub mod Rising
+pub mod Ending
+pub mod Touring
+pub mod Counting
+pub mod Measuring

@@ -1,0 +1,5 @@
+use Rattle.giant_split.proofs.Counting.{few_tasks}
+use Rattle.giant_split.proofs.splitting.split.Goals as goal
+
+pub new-requires : goal.new-requires
+new-requires c = ?

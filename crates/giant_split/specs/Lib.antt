@@ -1,0 +1,4 @@
+pub mod Splits
+pub mod Legs
+pub mod Cuts
+pub mod Cutters

@@ -1,0 +1,12 @@
+//! Plans that are cut from one order of all tasks: route first, cluster second.
+//!
+//! [`split`] makes the cheapest plan that serves in an order, and [`Splitter`] is a helper that changes the order of the best
+//! plan by draws and offers such a plan.
+#![tactic(auto)]
+
+mod cutter;
+mod cutting;
+mod legs;
+mod splitting;
+
+pub use splitting::split;
