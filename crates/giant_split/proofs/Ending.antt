@@ -5,7 +5,7 @@ use Rattle.std.proofs.lemmas.Bool.{cases_lt}
 use Rattle.std.proofs.lemmas.List.{get_or-set_same, get_or-set_other, length-set}
 use Rattle.giant_split.specs.declared.legs.Leg.{Leg}
 use Rattle.giant_split.specs.Legs.{AreFineLegs, leg_at}
-use Rattle.giant_split.specs.Cuts.{AreCutFrom, Fits, IsBestLast, IsCutAt, IsSmallCost, onward}
+use Rattle.giant_split.specs.Cuts.{AreCutFrom, LegsFit, IsBestLast, IsCutAt, IsSmallCost, onward}
 use Rattle.giant_split.proofs.Rising.{rises}
 
 module _ (capacity : ℕ) (legs : List Leg) (fine : AreFineLegs capacity legs) where
@@ -22,7 +22,7 @@ module _ (capacity : ℕ) (legs : List Leg) (fine : AreFineLegs capacity legs) w
     best = λ k late within fits. one k late within fits (cases_lt k n);
   }
     where
-      one : (k : ℕ) → from ≤ k → k < length legs → Fits capacity legs from k → (k < n) ⊎ (n ≤ k) → onward legs costs last ≤ onward legs costs k
+      one : (k : ℕ) → from ≤ k → k < length legs → LegsFit capacity legs from k → (k < n) ⊎ (n ≤ k) → onward legs costs last ≤ onward legs costs k
       one k late within fits (inl before) = best.best k late before fits
       one k late within fits (inr past) = absurd (omega (arith, loads_rise n k past within, fits, full))
 

@@ -3,3 +3,5 @@ pub mod Ending
 pub mod Touring
 pub mod Counting
 pub mod Measuring
+pub mod Growing
+pub mod Exchanging

@@ -15,8 +15,8 @@ abbrev pub onward : List Leg → List ℕ → ℕ → ℕ
 onward legs costs last = (leg_at legs last).way + (leg_at legs last).home + slice_index costs (last + 1)
 
 -- the tasks from one place to another fit a vehicle
-abbrev pub Fits : ℕ → List Leg → ℕ → ℕ → Type 0
-Fits capacity legs from last = (leg_at legs last).after ≤ (leg_at legs from).before + capacity
+abbrev pub LegsFit : ℕ → List Leg → ℕ → ℕ → Type 0
+LegsFit capacity legs from last = (leg_at legs last).after ≤ (leg_at legs from).before + capacity
 
 -- what the rest of the order costs is small
 abbrev pub IsSmallCost : List Leg → List ℕ → ℕ → Type 0
@@ -26,8 +26,8 @@ IsSmallCost legs costs k = slice_index costs k + 2000000000 * k ≤ 2000000000 *
 pub record IsBestLast (capacity : ℕ) (legs : List Leg) (costs : List ℕ) (from n last : ℕ) : Type 0 where
   pub later : from ≤ last
   pub within : last < n
-  pub fits : Fits capacity legs from last
-  pub best : (k : ℕ) → from ≤ k → k < n → Fits capacity legs from k → onward legs costs last ≤ onward legs costs k
+  pub fits : LegsFit capacity legs from last
+  pub best : (k : ℕ) → from ≤ k → k < n → LegsFit capacity legs from k → onward legs costs last ≤ onward legs costs k
 
 -- the first tour of the rest of an order ends where the rest is cheapest, and this is what it costs
 pub record IsCutAt (capacity : ℕ) (legs : List Leg) (costs lasts : List ℕ) (from : ℕ) : Type 0 where

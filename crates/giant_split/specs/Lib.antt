@@ -2,3 +2,4 @@ pub mod Splits
 pub mod Legs
 pub mod Cuts
 pub mod Cutters
+pub mod Exchanges

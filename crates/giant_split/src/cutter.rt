@@ -1,5 +1,5 @@
 // The memory in which orders are cut.
-ghost use Rattle.std.specs.Prelude.{◌≡◌, ◌+◌, ◌≤◌, length, slice_index, IfOk};
+ghost use Rattle.std.specs.Prelude.{◌≡◌, ◌+◌, ◌<◌, ◌≤◌, length, slice_index, IfOk};
 ghost use Rattle.deadhead_paths.specs.Prices.{costs_of};
 ghost use Rattle.task_tours.specs.Tours.{AreServedOnce};
 ghost use Rattle.giant_split.specs.Cuts.{IsCutOrder};
@@ -40,7 +40,7 @@ fn cut_tasks(
 pub(crate) struct Cutter {
     legs: Vec<Leg>,
     costs: Vec<u64>,
-    pub(crate) lasts: Vec<usize>,
+    lasts: Vec<usize>,
 }
 
 impl Cutter {
@@ -74,5 +74,17 @@ impl Cutter {
             &mut self.lasts,
         );
         self.costs[0]
+    }
+
+    // The place after the tour that starts at a place, in an order of so many tasks.
+    pub(crate) fn end(&self, from: usize, count: usize) -> usize
+        requires from { from < length self.now.lasts.items }
+        requires later { from ≤ slice_index self.now.lasts.items from }
+        requires within { slice_index self.now.lasts.items from < count }
+        ensures value { result ≡ slice_index self.now.lasts.items from + 1 }
+        ensures later { from < result }
+        ensures within { result ≤ count }
+    {
+        self.lasts[from] + 1
     }
 }

@@ -6,7 +6,10 @@
 
 mod cutter;
 mod cutting;
+mod exchange;
 mod legs;
+mod splitter;
 mod splitting;
 
+pub use splitter::Splitter;
 pub use splitting::split;

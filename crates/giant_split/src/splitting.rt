@@ -33,7 +33,7 @@ fn join_tours(
     let mut plan = Plan::new(alloc);
     let mut from = 0;
     while from < order.len() {
-        let end = cutter.lasts[from] + 1;
+        let end = cutter.end(from, order.len());
         add_tour(alloc, inst, dist, &mut plan, &order[from..end])?;
         from = end;
     }
