@@ -1,8 +1,7 @@
 -- Orders that serve alike serve each required edge once together.
-use Rattle.std.proofs.Common.{◌≡◌, ℕ, ◌+◌, ◌<◌, ◌==◌, cond, List, [], ◌∷◌, length, map, set, get_or, refl, sym, ap, ◌∙◌, subst, arith}
+use Rattle.std.proofs.Common.{◌≡◌, ℕ, ◌<◌, ◌==◌, cond, List, [], ◌∷◌, length, set, refl, sym, ap, ◌∙◌, arith}
 use Rattle.std.specs.Prelude.{slice_set}
-use Rattle.std.specs.List.{All, AllByRecursion, sum_by}
-use Rattle.std.specs.List.Sorted.{IsPermutation}
+use Rattle.std.specs.List.{AllByRecursion, sum_by}
 use Rattle.std.proofs.lemmas.List.{get_or-map, map-set, set-get_or}
 use Rattle.std.proofs.lemmas.List.Elements.{All-from_recursion, recursion_from_All}
 use Rattle.std.proofs.lemmas.List.Sorted.{All-permutation, sum_by-IsPermutation}
@@ -31,8 +30,8 @@ served_alike p before after alike served =
     record {
       required = edges_all (IsRequired p) after (recursion_from_All (IsRequired p) (task_edges after) all);
       once = λ e required.
-        let on : ℕ → ℕ = λ x. cond (x == e) 1 0 in
-        sym (sum_over_map on after) ∙ sum_by-IsPermutation on (task_edges before) (task_edges after) alike.edges ∙ sum_over_map on before ∙ served.once e required;
+          let on : ℕ → ℕ = λ x. cond (x == e) 1 0 in
+          sym (sum_over_map on after) ∙ sum_by-IsPermutation on (task_edges before) (task_edges after) alike.edges ∙ sum_over_map on before ∙ served.once e required;
     }
 
 -- a task that is turned stays on its edge

@@ -1,20 +1,20 @@
 -- A plan that grows by the tours of a cut order.
-use Rattle.std.proofs.Common.{◌≡◌, ◌≢◌, ℕ, zero, suc, ◌+◌, ◌-◌, ◌*◌, ◌<◌, ◌≤◌, List, [], ◌∷◌, ◌++◌, length, map, take, drop, refl, sym, ap, ◌∙◌, subst, arith}
+use Rattle.std.proofs.Common.{◌≡◌, ◌≢◌, ℕ, zero, suc, ◌+◌, ◌-◌, ◌≤◌, List, [], ◌∷◌, ◌++◌, length, take, drop, refl, sym, ap, ◌∙◌, subst, arith}
 use Rattle.std.specs.Prelude.{slice_index, slice_range}
-use Rattle.std.specs.List.{AllByRecursion, flat_map}
+use Rattle.std.specs.List.{AllByRecursion}
 use Rattle.std.proofs.Math.Seq.{take-add}
 use Rattle.std.proofs.lemmas.List.{flat_map_more, length-drop, length-map, length-take-le, length_push, take_all}
 use Rattle.std.proofs.lemmas.List.Sums.{sum_by-cons}
 use Rattle.carp_base.specs.declared.edge.Task.{Task}
 use Rattle.carp_base.specs.Problem.{Problem, IsRequired, IsValid, edge_at}
 use Rattle.plan_model.specs.declared.step.Step.{Step}
-use Rattle.plan_model.specs.Plans.{IsLawful, plan_cost}
+use Rattle.plan_model.specs.Plans.{IsLawful}
 use Rattle.deadhead_paths.specs.Prices.{costs_of, price_of}
 use Rattle.deadhead_paths.specs.Tours.{LeastDeadhead, tasks_of}
 use Rattle.task_tours.specs.Laws.{JoinedPlanCosts, LawfulPlansHaveLawfulTours, LawfulToursMakeLawfulPlans, ToursCostAtLeast, ToursDeadheadIsThere}
-use Rattle.task_tours.specs.Tours.{AreLawfulTours, AreServedOnce, PlanGoesByLeastPaths, ToursDeadhead, all_tasks, plan_tours, tour_load}
+use Rattle.task_tours.specs.Tours.{AreServedOnce, PlanGoesByLeastPaths, ToursDeadhead, all_tasks, plan_tours, tour_load}
 use Rattle.giant_split.specs.Cuts.{IsCutOrder, IsSplitTo, IsTourAt}
-use Rattle.giant_split.specs.Splits.{IsCheapestInOrder, IsSplit}
+use Rattle.giant_split.specs.Splits.{IsSplit}
 
 pub all_more : {X : Type 0} (P : X → Type 0) (xs : List X) (x : X) → AllByRecursion P xs → P x → AllByRecursion P (xs ++ x ∷ [])
 all_more P [] x all one = (one, tt)

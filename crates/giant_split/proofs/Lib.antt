@@ -5,3 +5,4 @@ pub mod Counting
 pub mod Measuring
 pub mod Growing
 pub mod Exchanging
+pub mod Reading

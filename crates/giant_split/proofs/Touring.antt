@@ -1,7 +1,7 @@
 -- What the tables of numbers say of tours.
-use Rattle.std.proofs.Common.{◌≡◌, ℕ, zero, suc, ◌+◌, ◌-◌, ◌<◌, ◌≤◌, List, [], ◌∷◌, ◌++◌, length, take, drop, get_or, refl, sym, ap, ◌∙◌, subst, arith}
-use Rattle.std.specs.Prelude.{slice_index, slice_range}
-use Rattle.std.specs.List.{AllByRecursion, sum_by}
+use Rattle.std.proofs.Common.{◌≡◌, ℕ, zero, suc, ◌+◌, ◌-◌, ◌<◌, ◌≤◌, List, [], ◌∷◌, length, take, drop, refl, sym, ap, ◌∙◌, subst, arith}
+use Rattle.std.specs.Prelude.{slice_index}
+use Rattle.std.specs.List.{AllByRecursion}
 use Rattle.std.proofs.Math.Seq.{drop-cons, take-add}
 use Rattle.std.proofs.lemmas.List.{drop-drop, drop_at, length-append, length-drop, take_at}
 use Rattle.std.proofs.lemmas.List.Sums.{sum_by-append}
@@ -13,7 +13,7 @@ use Rattle.task_tours.specs.Laws.{ToursDeadheadIsUnique}
 use Rattle.task_tours.specs.Tours.{ToursDeadhead, all_tasks, tour_load}
 use Rattle.giant_split.specs.declared.legs.Leg.{Leg}
 use Rattle.giant_split.specs.Legs.{AreFineLegs, AreLegs, end_at, leg_at, no_task, task_at}
-use Rattle.giant_split.specs.Cuts.{AreCutFrom, IsCutOrder, IsTourAt, onward}
+use Rattle.giant_split.specs.Cuts.{AreCutFrom, IsCutOrder, IsTourAt}
 
 pub fine_legs : (p : Problem) (order : List Task) (legs : List Leg) → AreLegs p order legs → AreFineLegs p.capacity legs
 fine_legs p order legs are = record {

@@ -3,3 +3,4 @@ pub mod Legs
 pub mod Cuts
 pub mod Cutters
 pub mod Exchanges
+pub mod Examples

@@ -47,7 +47,7 @@ impl Exchange {
         ensures { ServeAlike order.old order.new }
     {
         self.turn(order);
-        order.swap(self.first, self.second);
+        order.swap(self.second, self.first);
     }
 
     fn turn(&self, order: &mut [Task])

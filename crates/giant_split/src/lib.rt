@@ -6,10 +6,14 @@
 
 mod cutter;
 mod cutting;
+#[cfg(test)]
+mod examples;
 mod exchange;
 mod legs;
 mod splitter;
 mod splitting;
+#[cfg(test)]
+mod tests;
 
 pub use splitter::Splitter;
 pub use splitting::split;

@@ -38,7 +38,7 @@ fn add_tasks(order: &mut Vec<Task>, walk: &Walk) -> Result<(), Memory>
 }
 
 // The order in which a plan serves.
-fn order_of(alloc: Global, plan: &Plan) -> Result<Vec<Task>, Memory>
+pub(crate) fn order_of(alloc: Global, plan: &Plan) -> Result<Vec<Task>, Memory>
     ensures { IfOk result (λ order. order.items ≡ all_tasks (plan_tours plan.now)) }
 {
     let mut order = Vec::new(alloc);
@@ -81,13 +81,14 @@ fn improve(
 
 /// A helper that offers splits: it takes the order in which the best plan so far serves, exchanges and turns services of it by
 /// draws, four for each required edge and 400 at most, keeps a change where the split is no dearer by it, and offers
-/// the split of the order that it ends with. The draws go on from offer to offer, and begin anew with the seed.
+/// the split of the order that it ends with. The draws go on from offer to offer, and begin anew with the seed. No clause
+/// speaks of them.
 ///
 /// With n vertices, m edges, r required edges, and s tasks that fit one tour at most, an offer takes time in proportion to
 /// n (n + m) log n and to r * r * s for up to 100 required edges, and to r * s from there on.
 #[derive(Drop)]
 pub struct Splitter {
-    standing: Standing,
+    pub(crate) standing: Standing,
     draws: Lcg64Xsh32,
 }
 

@@ -1,4 +1,4 @@
-use Rattle.std.proofs.Common.{subst, sym}
+use Rattle.std.proofs.Common.{subst}
 use Rattle.giant_split.specs.Cuts.{AreCutFrom}
 use Rattle.giant_split.proofs.Counting.{few_tasks}
 use Rattle.giant_split.proofs.Touring.{cut_order, fine_legs}

@@ -1,4 +1,3 @@
-use Rattle.std.proofs.Common.{arith}
 use Rattle.giant_split.proofs.Ending.{best_ends}
 use Rattle.giant_split.proofs.cutting.best_last.Goals as goal
 

@@ -1,4 +1,3 @@
-use Rattle.std.proofs.Common.{length}
 use Rattle.task_tours.specs.Tours.{AreServedOnce}
 use Rattle.giant_split.proofs.Counting.{few_tasks}
 use Rattle.giant_split.proofs.Exchanging.{served_alike}

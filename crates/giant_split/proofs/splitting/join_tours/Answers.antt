@@ -1,4 +1,4 @@
-use Rattle.std.proofs.Common.{◌≡◌, ◌+◌, ◌-◌, ◌<◌, ◌≤◌, length, refl, sym, ap, subst, arith, take, drop}
+use Rattle.std.proofs.Common.{arith}
 use Rattle.giant_split.proofs.Counting.{few_tasks}
 use Rattle.giant_split.proofs.Growing.{few_in_tour, split_more, split_whole}
 use Rattle.giant_split.proofs.splitting.join_tours.Goals as goal
