@@ -1,0 +1,55 @@
+// The numbers of an instance, by stops.
+ghost use Rattle.std.specs.Prelude.{◌≡◌, ◌<◌, ◌≤◌};
+ghost use Rattle.ruin_recreate.specs.Boards.{IsBoard, demand_of, link, turned};
+
+/// The numbers of an instance as flat tables for a search over stops.
+///
+/// Stop 0 is the depot. The service of the required edge of number e, from 1, is the stop 2 * e forward and 2 * e + 1
+/// backward. Stop 1 stands at the depot too, and no search needs it.
+#[derive(Drop)]
+pub struct Board {
+    /// How many stops there are: twice the number of required edges, and 2 more; 2 to 1,202.
+    pub width: usize,
+    /// The least price by the costs of edges from the end of stop x to the start of stop y, at place x * width + y; 0 to
+    /// 999,000,000.
+    pub links: Vec<u32>,
+    /// What a stop loads, 0 to 30,000; the depot loads nothing.
+    pub demands: Vec<u32>,
+    /// The service of the same edge in the other direction; a stop at the depot is its own.
+    pub turns: Vec<u32>,
+    /// The capacity of a vehicle, at most 30,000.
+    pub room: u32,
+}
+
+impl Board {
+    /// The least price from the end of a stop to the start of another, 0 to 999,000,000.
+    pub fn between(&self, x: u32, y: u32) -> u32
+        requires board { IsBoard self.now }
+        requires x { x < self.now.width }
+        requires y { y < self.now.width }
+        ensures value { result ≡ link self.now x y }
+        ensures small { result ≤ 999000000 }
+    {
+        self.links[x as usize * self.width + y as usize]
+    }
+
+    /// What a stop loads, 0 to 30,000.
+    pub fn demand(&self, x: u32) -> u32
+        requires board { IsBoard self.now }
+        requires x { x < self.now.width }
+        ensures value { result ≡ demand_of self.now x }
+        ensures light { result ≤ 30000 }
+    {
+        self.demands[x as usize]
+    }
+
+    /// The same service in the other direction.
+    pub fn turn(&self, x: u32) -> u32
+        requires board { IsBoard self.now }
+        requires x { x < self.now.width }
+        ensures value { result ≡ turned self.now x }
+        ensures within { result < self.now.width }
+    {
+        self.turns[x as usize]
+    }
+}

@@ -1,0 +1,10 @@
+//! Ruin and recreate on plans of an instance, over a board of its services.
+//!
+//! A [`Board`] has the numbers of an instance as flat tables for a search over stops: [`board_of`] makes it.
+#![tactic(auto)]
+
+mod board;
+mod tables;
+
+pub use board::Board;
+pub use tables::board_of;

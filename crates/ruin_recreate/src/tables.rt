@@ -1,0 +1,120 @@
+// The board of an instance.
+ghost use Rattle.std.specs.Prelude.{◌≡◌, ◌+◌, ◌*◌, ◌<◌, ◌≤◌, ◌++◌, IfOk, OnOk, length};
+ghost use Rattle.carp_base.specs.Problem.{IsValid, IsVertex};
+ghost use Rattle.deadhead_paths.specs.Prices.{IsLeastPrice, costs_of, price_of};
+ghost use Rattle.ruin_recreate.specs.Boards.{IsBoard, IsBoardOf, end_of, other_way, start_of};
+ghost use Rattle.ruin_recreate.specs.Tables.{AddsRow, AreDemands, AreLinks, AreTurns};
+
+use crate::board::Board;
+use carp_base::{Instance, Memory};
+use deadhead_paths::{Distances, least_prices_are_there};
+use std::alloc::Global;
+
+// The vertex where a stop starts, and the vertex where it ends.
+fn ends(inst: &Instance, x: u32) -> (u32, u32)
+    requires { x < 2 * inst.now.required + 2 }
+    ensures start { result.0 ≡ start_of inst.now x }
+    ensures end { result.1 ≡ end_of inst.now x }
+    ensures start_in { IsVertex inst.now result.0 }
+    ensures end_in { IsVertex inst.now result.1 }
+    ensures valid { IsValid inst.now }
+{
+    let depot = inst.depot();
+    if x / 2 == 0 {
+        return (depot, depot);
+    }
+    let edge = inst.edge(x / 2);
+    if x % 2 == 0 {
+        (edge.u, edge.v)
+    } else {
+        (edge.v, edge.u)
+    }
+}
+
+// The least price from the end of a stop to the start of another.
+fn link(inst: &Instance, dist: &Distances, x: u32, y: u32) -> u32
+    requires problem { dist.now.problem ≡ inst.now }
+    requires prices { dist.now.prices ≡ costs_of inst.now }
+    requires x { x < 2 * inst.now.required + 2 }
+    requires y { y < 2 * inst.now.required + 2 }
+    ensures least { IsLeastPrice inst.now (price_of (costs_of inst.now)) (end_of inst.now x) (start_of inst.now y) result }
+    ensures small { result ≤ 999000000 }
+{
+    least_prices_are_there();
+    let (_, from) = ends(inst, x);
+    let (to, _) = ends(inst, y);
+    dist.get(from, to).unwrap() as u32
+}
+
+// Adds the links from a stop to all stops.
+fn add_row(inst: &Instance, dist: &Distances, x: u32, links: &mut Vec<u32>) -> Result<(), Memory>
+    requires problem { dist.now.problem ≡ inst.now }
+    requires prices { dist.now.prices ≡ costs_of inst.now }
+    requires x { x < 2 * inst.now.required + 2 }
+    ensures { OnOk result (AddsRow inst.now x links.old.items links.new.items) }
+{
+    for y in 0..2 * inst.required() + 2 {
+        links.push(link(inst, dist, x, y))?;
+    }
+    Ok(())
+}
+
+// The links between all stops, row by row.
+fn links_of(alloc: Global, inst: &Instance, dist: &Distances) -> Result<Vec<u32>, Memory>
+    requires problem { dist.now.problem ≡ inst.now }
+    requires prices { dist.now.prices ≡ costs_of inst.now }
+    ensures { IfOk result (λ links. AreLinks inst.now (2 * inst.now.required + 2) links.items) }
+{
+    let width = 2 * inst.required() + 2;
+    let mut links = Vec::with_capacity(alloc, width as usize * width as usize)?;
+    for x in 0..width {
+        add_row(inst, dist, x, &mut links)?;
+    }
+    Ok(links)
+}
+
+// What each stop loads.
+fn demands_of(alloc: Global, inst: &Instance) -> Result<Vec<u32>, Memory>
+    ensures { IfOk result (λ demands. AreDemands inst.now (2 * inst.now.required + 2) demands.items) }
+{
+    let width = 2 * inst.required() + 2;
+    let mut demands = Vec::with_capacity(alloc, width as usize)?;
+    demands.push(0)?;
+    demands.push(0)?;
+    for x in 2..width {
+        demands.push(inst.edge(x / 2).demand as u32)?;
+    }
+    Ok(demands)
+}
+
+// The other direction of each stop.
+fn turns_of(alloc: Global, inst: &Instance) -> Result<Vec<u32>, Memory>
+    ensures { IfOk result (λ turns. AreTurns (2 * inst.now.required + 2) (2 * inst.now.required + 2) turns.items) }
+{
+    let width = 2 * inst.required() + 2;
+    let mut turns = Vec::with_capacity(alloc, width as usize)?;
+    turns.push(0)?;
+    turns.push(1)?;
+    for x in 2..width {
+        turns.push(if x % 2 == 0 { x + 1 } else { x - 1 })?;
+    }
+    Ok(turns)
+}
+
+/// The board of an instance. The distances are those by cost.
+///
+/// With m required edges it takes time and space in proportion to m * m.
+pub fn board_of(alloc: Global, inst: &Instance, dist: &Distances) -> Result<Board, Memory>
+    requires problem { dist.now.problem ≡ inst.now }
+    requires prices { dist.now.prices ≡ costs_of inst.now }
+    ensures board { IfOk result IsBoard }
+    ensures of { IfOk result (IsBoardOf inst.now) }
+{
+    Ok(Board {
+        width: 2 * inst.required() as usize + 2,
+        links: links_of(alloc, inst, dist)?,
+        demands: demands_of(alloc, inst)?,
+        turns: turns_of(alloc, inst)?,
+        room: inst.capacity() as u32,
+    })
+}
