@@ -1,5 +1,5 @@
 // The numbers of an instance, by stops.
-ghost use Rattle.std.specs.Prelude.{◌≡◌, ◌<◌, ◌≤◌};
+ghost use Rattle.std.specs.Prelude.{◌≡◌, ◌<◌, ◌≤◌, length};
 ghost use Rattle.ruin_recreate.specs.Boards.{IsBoard, demand_of, link, turned};
 
 /// The numbers of an instance as flat tables for a search over stops.
@@ -51,5 +51,15 @@ impl Board {
         ensures within { result < self.now.width }
     {
         self.turns[x as usize]
+    }
+
+    /// The links from a stop to all stops.
+    pub fn row(&self, x: u32) -> &[u32]
+        requires board { IsBoard self.now }
+        requires x { x < self.now.width }
+        ensures long { length result.now ≡ self.now.width }
+    {
+        let first = x as usize * self.width;
+        &self.links[first..first + self.width]
     }
 }

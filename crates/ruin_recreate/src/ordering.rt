@@ -1,0 +1,71 @@
+// The order in which services are put back.
+ghost use Rattle.std.specs.Prelude.{◌<◌};
+ghost use Rattle.std.specs.List.Sorted.{IsPermutation};
+ghost use Rattle.ruin_recreate.specs.Boards.{IsBoard};
+ghost use Rattle.ruin_recreate.specs.Search.{AreOn};
+
+use crate::board::Board;
+use crate::draws::draw;
+use crate::ruining::Removed;
+use rand_pcg::Lcg64Xsh32;
+
+// By what services are sorted.
+#[derive(Clone, Copy)]
+enum Rule {
+    Random,
+    Heaviest,
+    Farthest,
+    Nearest,
+}
+
+impl Rule {
+    fn of(number: u32) -> Rule {
+        match number {
+            0..4 => Rule::Random,
+            4..8 => Rule::Heaviest,
+            8..10 => Rule::Farthest,
+            _ => Rule::Nearest,
+        }
+    }
+
+    // The number by which a service is sorted, the least one first.
+    fn key(self, board: &Board, stop: u32) -> u32
+        requires board { IsBoard board.now }
+        requires stop { stop < board.now.width }
+    {
+        match self {
+            Rule::Random => 0,
+            Rule::Heaviest => u32::MAX - board.demand(stop),
+            Rule::Farthest => u32::MAX - board.between(0, stop) - board.between(stop, 0),
+            Rule::Nearest => board.between(0, stop) + board.between(stop, 0),
+        }
+    }
+}
+
+fn shuffle(removed: &mut [Removed], generator: &mut Lcg64Xsh32)
+    ensures { IsPermutation removed.old removed.new }
+{
+    for i in 1..removed.len() {
+        let Ok(limit) = u32::try_from(i + 1) else {
+            break;
+        };
+        removed.swap(i, draw(generator, limit) as usize);
+    }
+}
+
+// Puts the services in one of four orders.
+pub(crate) fn order(board: &Board, removed: &mut [Removed], generator: &mut Lcg64Xsh32)
+    requires board { IsBoard board.now }
+    requires within { AreOn board.now.width removed.old }
+    ensures { AreOn board.now.width removed.new }
+{
+    let rule = Rule::of(draw(generator, 11));
+    shuffle(removed, generator);
+    if let Rule::Random = rule {
+        return;
+    }
+    for i in 0..removed.len() {
+        removed[i].key = rule.key(board, removed[i].stop);
+    }
+    removed.sort_unstable_by_key(|service| service.key);
+}

@@ -1,0 +1,249 @@
+// Rounds as the gaps between the stops that follow each other.
+ghost use Rattle.std.specs.Prelude.{◌≡◌, ◌+◌, ◌/◌, ◌<◌, ◌≤◌, [], IfOk, OnOk, length};
+ghost use Rattle.std.specs.List.{All};
+ghost use Rattle.ruin_recreate.specs.Boards.{IsBoard};
+ghost use Rattle.ruin_recreate.specs.Search.{IsRoundOn};
+
+use crate::board::Board;
+use carp_base::Memory;
+use std::alloc::Global;
+
+// A place between two stops that follow each other.
+#[derive(Clone, Copy)]
+pub(crate) struct Gap {
+    // The stop before it, in its other direction: the row of a service in its other direction has the link from there.
+    pub(crate) turned: u32,
+    // The stop behind it.
+    pub(crate) to: u32,
+    // The link from the one to the other.
+    pub(crate) price: u32,
+}
+
+#[derive(Clone, Copy)]
+pub(crate) struct Tour {
+    // The place of its first gap.
+    pub(crate) first: usize,
+    pub(crate) load: u32,
+}
+
+// Tours one after another, from the depot to the depot. Sums are far from the ends of their types, and saturate there.
+#[derive(Drop)]
+pub(crate) struct Round {
+    pub(crate) gaps: Vec<Gap>,
+    pub(crate) tours: Vec<Tour>,
+    pub(crate) deadheads: u64,
+    // The last stop, in its other direction.
+    last: u32,
+    // The tour that the last stop is in.
+    open: Tour,
+}
+
+impl Round {
+    // A round without tours, with space for the services of a board.
+    pub(crate) fn new(alloc: Global, width: usize) -> Result<Round, Memory>
+        requires { 1 ≤ width }
+        ensures { IfOk result (IsRoundOn width) }
+    {
+        Ok(Round {
+            gaps: Vec::with_capacity(alloc, width)?,
+            tours: Vec::with_capacity(alloc, width)?,
+            deadheads: 0,
+            last: 0,
+            open: Tour { first: 0, load: 0 },
+        })
+    }
+
+    fn clear(&mut self)
+        ensures gaps { self.new.gaps.items ≡ [] }
+        ensures last { self.new.last ≡ 0 }
+    {
+        self.gaps.clear();
+        self.tours.clear();
+        self.deadheads = 0;
+        self.last = 0;
+    }
+
+    // The link from the last stop to another.
+    fn reach(&self, board: &Board, to: u32) -> u32
+        requires board { IsBoard board.now }
+        requires last { self.now.last < board.now.width }
+        requires to { to < board.now.width }
+    {
+        board.between(board.turn(self.last), to)
+    }
+
+    // Goes on to a stop, at this price. From the depot to the depot it stays.
+    fn follow(&mut self, board: &Board, to: u32, price: u32) -> Result<(), Memory>
+        requires board { IsBoard board.now }
+        requires round { IsRoundOn board.now.width self.old }
+        requires to { to < board.now.width }
+        ensures { OnOk result (IsRoundOn board.now.width self.new) }
+    {
+        if to != 0 {
+            if self.last == 0 {
+                self.open = Tour {
+                    first: self.gaps.len(),
+                    load: 0,
+                };
+            }
+            self.open.load = self.open.load.saturating_add(board.demand(to));
+        } else if self.last == 0 {
+            return Ok(());
+        } else {
+            self.tours.push(self.open)?;
+        }
+        self.gaps.push(Gap {
+            turned: self.last,
+            to,
+            price,
+        })?;
+        self.deadheads = self.deadheads.saturating_add(u64::from(price));
+        self.last = board.turn(to);
+        Ok(())
+    }
+
+    // The round of these stops.
+    pub(crate) fn read(&mut self, board: &Board, stops: &[u32]) -> Result<(), Memory>
+        requires board { IsBoard board.now }
+        requires within { All (λ x. x < board.now.width) stops.now }
+        ensures { OnOk result (IsRoundOn board.now.width self.new) }
+    {
+        self.clear();
+        for &to in stops {
+            self.follow(board, to, self.reach(board, to))?;
+        }
+        self.follow(board, 0, self.reach(board, 0))
+    }
+
+    // Writes the stops of the round, in place of what stood there.
+    pub(crate) fn write(&self, board: &Board, stops: &mut Vec<u32>) -> Result<(), Memory>
+        requires board { IsBoard board.now }
+        requires round { IsRoundOn board.now.width self.now }
+        ensures { OnOk result (All (λ x. x < board.now.width) stops.new.items) }
+    {
+        stops.clear();
+        stops.push(0)?;
+        for gap in &self.gaps {
+            stops.push(gap.to)?;
+        }
+        Ok(())
+    }
+
+    // A tour of its own at the end.
+    pub(crate) fn open(&mut self, board: &Board, stop: u32) -> Result<(), Memory>
+        requires board { IsBoard board.now }
+        requires round { IsRoundOn board.now.width self.old }
+        requires stop { stop < board.now.width }
+        ensures { OnOk result (IsRoundOn board.now.width self.new) }
+    {
+        self.follow(board, stop, self.reach(board, stop))?;
+        self.follow(board, 0, self.reach(board, 0))
+    }
+
+    // One tour for each service, forward.
+    pub(crate) fn scatter(&mut self, board: &Board) -> Result<(), Memory>
+        requires board { IsBoard board.now }
+        ensures { OnOk result (IsRoundOn board.now.width self.new) }
+    {
+        self.clear();
+        for edge in 1..board.width as u32 / 2 {
+            self.open(board, 2 * edge)?;
+        }
+        Ok(())
+    }
+
+    // The round without the services of some edges.
+    pub(crate) fn rest(&mut self, board: &Board, round: &Round, gone: &[bool]) -> Result<(), Memory>
+        requires board { IsBoard board.now }
+        requires round { IsRoundOn board.now.width round.now }
+        requires gone { length gone.now ≡ board.now.width / 2 + 1 }
+        ensures { OnOk result (IsRoundOn board.now.width self.new) }
+    {
+        self.clear();
+        for gap in &round.gaps {
+            if gone[gap.to as usize / 2] {
+                continue;
+            }
+            let price = if gap.turned == self.last {
+                gap.price
+            } else {
+                self.reach(board, gap.to)
+            };
+            self.follow(board, gap.to, price)?;
+        }
+        Ok(())
+    }
+
+    // The place behind the last gap of a tour.
+    pub(crate) fn end(&self, tour: usize) -> usize
+        ensures { result ≤ length self.now.gaps.items }
+    {
+        match self.tours.get(tour.saturating_add(1)) {
+            Some(next) => next.first.min(self.gaps.len()),
+            None => self.gaps.len(),
+        }
+    }
+
+    // Puts a stop into a gap of a tour.
+    pub(crate) fn insert(
+        &mut self,
+        board: &Board,
+        stop: u32,
+        tour: usize,
+        place: usize,
+    ) -> Result<(), Memory>
+        requires board { IsBoard board.now }
+        requires round { IsRoundOn board.now.width self.old }
+        requires stop { stop < board.now.width }
+        ensures { OnOk result (IsRoundOn board.now.width self.new) }
+    {
+        if place >= self.gaps.len() || tour >= self.tours.len() {
+            return Ok(());
+        }
+        let gap = self.gaps[place];
+        let turned = board.turn(stop);
+        let before = board.between(turned, gap.turned);
+        let behind = board.between(stop, gap.to);
+        self.gaps[place] = Gap {
+            turned: gap.turned,
+            to: stop,
+            price: before,
+        };
+        self.gaps.insert(
+            place + 1,
+            Gap {
+                turned,
+                to: gap.to,
+                price: behind,
+            },
+        )?;
+        let rise = u64::from(before) + u64::from(behind);
+        self.deadheads = self
+            .deadheads
+            .saturating_add(rise)
+            .saturating_sub(u64::from(gap.price));
+        self.load(tour, board.demand(stop));
+        Ok(())
+    }
+
+    // Adds to the load of a tour, and moves the later tours by one place.
+    fn load(&mut self, tour: usize, demand: u32)
+        requires { tour < length self.old.tours.items }
+        ensures gaps { self.new.gaps ≡ self.old.gaps }
+        ensures last { self.new.last ≡ self.old.last }
+    {
+        self.tours[tour].load = self.tours[tour].load.saturating_add(demand);
+        for later in tour + 1..self.tours.len() {
+            self.tours[later].first = self.tours[later].first.saturating_add(1);
+        }
+    }
+
+    // The load above the room, over all tours.
+    pub(crate) fn excess(&self, room: u32) -> u64 {
+        let mut excess: u64 = 0;
+        for tour in &self.tours {
+            excess = excess.saturating_add(u64::from(tour.load.saturating_sub(room)));
+        }
+        excess
+    }
+}

@@ -1,0 +1,151 @@
+// Taking strings of services out of the tours near one another.
+ghost use Rattle.std.specs.Prelude.{◌≡◌, ℕ, ◌+◌, ◌/◌, ◌<◌, ◌≤◌, IfOk, OnOk, length};
+ghost use Rattle.ruin_recreate.specs.Boards.{IsBoard};
+ghost use Rattle.ruin_recreate.specs.Search.{IsRoundOn, IsRuinOn};
+
+use crate::board::Board;
+use crate::draws::draw;
+use crate::rounds::Round;
+use carp_base::Memory;
+use rand_pcg::Lcg64Xsh32;
+use std::alloc::Global;
+
+// How many neighbours of an edge are looked at.
+pub(crate) const NEIGHBOURS: usize = 60;
+
+// The greatest length of a string, and ten services are taken out on average.
+const LONGEST: usize = 5;
+
+const AVERAGE: u32 = 10;
+
+// A service that was taken out, with the number by which it is sorted.
+#[derive(Clone, Copy)]
+pub(crate) struct Removed {
+    pub(crate) stop: u32,
+    pub(crate) key: u32,
+}
+
+// Notes where each edge is served: the place of the gap before it.
+pub(crate) fn locate(round: &Round, places: &mut [usize]) {
+    for (place, gap) in round.gaps.iter().enumerate() {
+        if let Some(noted) = places.get_mut(gap.to as usize / 2) {
+            *noted = place;
+        }
+    }
+}
+
+// The greatest length of a string: no more than a tour serves on average.
+fn longest(board: &Board, round: &Round) -> u32
+    requires { IsBoard board.now }
+    ensures some { 1 ≤ result }
+    ensures few { result ≤ 5 }
+{
+    let tours = round.tours.len().max(1);
+    ((board.width / 2 - 1) / tours).clamp(1, LONGEST) as u32
+}
+
+// The greatest number of strings of that length.
+fn strings(longest: u32) -> u32
+    requires { longest ≤ 5 }
+    ensures { 1 ≤ result }
+{
+    (4 * AVERAGE / (1 + longest)).max(2) - 1
+}
+
+// What is taken out of a round.
+#[derive(Drop)]
+pub(crate) struct Ruin {
+    // Where each edge is served: the place of the gap before it.
+    pub(crate) places: Vec<usize>,
+    pub(crate) gone: Vec<bool>,
+    pub(crate) removed: Vec<Removed>,
+}
+
+impl Ruin {
+    pub(crate) fn new(alloc: Global, width: usize) -> Result<Ruin, Memory>
+        ensures { IfOk result (IsRuinOn width) }
+    {
+        Ok(Ruin {
+            places: vec![in alloc; 0; width / 2 + 1]?,
+            gone: vec![in alloc; false; width / 2 + 1]?,
+            removed: Vec::with_capacity(alloc, width)?,
+        })
+    }
+
+    // Where a string begins that goes back so many services from an edge, or to the start of the tour.
+    fn start(&self, round: &Round, edge: u32, back: u32) -> usize
+        requires { edge < length self.now.places.items }
+    {
+        let mut place = self.places[edge as usize];
+        for _ in 0..back {
+            if place == 0 || place > round.gaps.len() || round.gaps[place - 1].to == 0 {
+                break;
+            }
+            place -= 1;
+        }
+        place
+    }
+
+    // Takes out a string of services round an edge.
+    fn take_string(
+        &mut self,
+        board: &Board,
+        round: &Round,
+        edge: u32,
+        generator: &mut Lcg64Xsh32,
+    ) -> Result<(), Memory>
+        requires board { IsBoard board.now }
+        requires ruin { IsRuinOn board.now.width self.old }
+        requires round { IsRoundOn board.now.width round.now }
+        requires edge { edge < board.now.width / 2 + 1 }
+        ensures { OnOk result (IsRuinOn board.now.width self.new) }
+    {
+        let length = 1 + draw(generator, longest(board, round));
+        let back = draw(generator, length);
+        let first = self.start(round, edge, back);
+        let end = first.saturating_add(length as usize).min(round.gaps.len());
+        for place in first..end {
+            let stop = round.gaps[place].to;
+            if stop == 0 {
+                break;
+            }
+            if !self.gone[stop as usize / 2] {
+                self.gone[stop as usize / 2] = true;
+                self.removed.push(Removed { stop, key: 0 })?;
+            }
+        }
+        Ok(())
+    }
+
+    // Takes strings out of the tours of an edge and of its neighbours, a fourth of which is passed over.
+    pub(crate) fn take_out(
+        &mut self,
+        board: &Board,
+        round: &Round,
+        near: &[[u32; NEIGHBOURS]],
+        generator: &mut Lcg64Xsh32,
+    ) -> Result<(), Memory>
+        requires board { IsBoard board.now }
+        requires ruin { IsRuinOn board.now.width self.old }
+        requires round { IsRoundOn board.now.width round.now }
+        requires near { length near.now ≡ board.now.width / 2 }
+        requires some { 4 ≤ board.now.width }
+        ensures { OnOk result (IsRuinOn board.now.width self.new) }
+    {
+        let mut left = draw(generator, strings(longest(board, round)));
+        let seed = 1 + draw(generator, board.width as u32 / 2 - 1);
+        self.removed.clear();
+        self.take_string(board, round, seed, generator)?;
+        for &edge in &near[seed as usize] {
+            if left == 0 || edge == 0 || edge as usize >= self.gone.len() {
+                break;
+            }
+            if self.gone[edge as usize] || draw(generator, 16) < 4 {
+                continue;
+            }
+            self.take_string(board, round, edge, generator)?;
+            left -= 1;
+        }
+        Ok(())
+    }
+}
