@@ -1,5 +1,5 @@
 // The numbers of an instance, by stops.
-ghost use Rattle.std.specs.Prelude.{◌≡◌, ◌<◌, ◌≤◌, length};
+ghost use Rattle.std.specs.Prelude.{◌≡◌, ◌-◌, ◌/◌, ◌<◌, ◌≤◌, length};
 ghost use Rattle.ruin_recreate.specs.Boards.{IsBoard, demand_of, link, turned};
 
 /// The numbers of an instance as flat tables for a search over stops.
@@ -53,8 +53,16 @@ impl Board {
         self.turns[x as usize]
     }
 
-    /// The links from a stop to all stops.
-    pub fn row(&self, x: u32) -> &[u32]
+    // How many edges are required.
+    pub(crate) fn edges(&self) -> u32
+        requires { IsBoard self.now }
+        ensures { result ≡ self.now.width / 2 - 1 }
+    {
+        self.width as u32 / 2 - 1
+    }
+
+    // The links from a stop to all stops.
+    pub(crate) fn row(&self, x: u32) -> &[u32]
         requires board { IsBoard self.now }
         requires x { x < self.now.width }
         ensures long { length result.now ≡ self.now.width }

@@ -3,9 +3,14 @@ ghost use Rattle.std.specs.Prelude.{◌≡◌, ◌/◌, ◌<◌, IfOk, length};
 ghost use Rattle.ruin_recreate.specs.Boards.{IsBoard};
 
 use crate::board::Board;
-use crate::ruining::NEIGHBOURS;
 use carp_base::Memory;
 use std::alloc::Global;
+
+// How many neighbours an edge has.
+const COUNT: usize = 60;
+
+// The nearest edges of an edge, nearest first, and 0 where there are no more.
+pub(crate) type Neighbours = [u32; COUNT];
 
 // The least of the links between two edges, in any directions.
 fn apart(board: &Board, e: u32, f: u32) -> u32
@@ -13,22 +18,22 @@ fn apart(board: &Board, e: u32, f: u32) -> u32
     requires first { e < board.now.width / 2 }
     requires second { f < board.now.width / 2 }
 {
-    let first = board
+    let ahead = board
         .between(2 * e, 2 * f)
         .min(board.between(2 * e, 2 * f + 1));
-    let second = board
+    let back = board
         .between(2 * e + 1, 2 * f)
         .min(board.between(2 * e + 1, 2 * f + 1));
-    first.min(second)
+    ahead.min(back)
 }
 
-// Lists the other edges by rising distance.
+// Lists the other edges by rising distance, and then by number.
 fn sort_others(board: &Board, e: u32, others: &mut Vec<(u32, u32)>) -> Result<(), Memory>
     requires board { IsBoard board.now }
     requires edge { e < board.now.width / 2 }
 {
     others.clear();
-    for f in 1..board.width as u32 / 2 {
+    for f in 1..board.edges() + 1 {
         if f != e {
             others.push((apart(board, e, f), f))?;
         }
@@ -37,27 +42,25 @@ fn sort_others(board: &Board, e: u32, others: &mut Vec<(u32, u32)>) -> Result<()
     Ok(())
 }
 
-// The first of the others, with 0 where there are no more.
-fn nearest(others: &[(u32, u32)]) -> [u32; NEIGHBOURS] {
-    let mut near = [0; NEIGHBOURS];
-    for (k, other) in others.iter().enumerate() {
-        if k < NEIGHBOURS {
-            near[k] = other.1;
-        }
+// The first of the others.
+fn nearest(others: &[(u32, u32)]) -> Neighbours {
+    let mut near = [0; COUNT];
+    for k in 0..others.len().min(COUNT) {
+        near[k] = others[k].1;
     }
     near
 }
 
-// The nearest edges of each edge, by number; the list of 0 is empty.
-pub(crate) fn neighbours(alloc: Global, board: &Board) -> Result<Vec<[u32; NEIGHBOURS]>, Memory>
+// The neighbours of each edge, by number; 0 has none.
+pub(crate) fn neighbours(alloc: Global, board: &Board) -> Result<Vec<Neighbours>, Memory>
     requires { IsBoard board.now }
     ensures { IfOk result (λ near. length near.items ≡ board.now.width / 2) }
 {
-    let edges = board.width as u32 / 2;
+    let edges = board.edges();
     let mut others = Vec::with_capacity(alloc, edges as usize)?;
-    let mut near = Vec::with_capacity(alloc, edges as usize)?;
-    near.push([0; NEIGHBOURS])?;
-    for e in 1..edges {
+    let mut near = Vec::with_capacity(alloc, edges as usize + 1)?;
+    near.push([0; COUNT])?;
+    for e in 1..edges + 1 {
         sort_others(board, e, &mut others)?;
         near.push(nearest(&others))?;
     }

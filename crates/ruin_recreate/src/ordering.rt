@@ -9,22 +9,22 @@ use crate::draws::draw;
 use crate::ruining::Removed;
 use rand_pcg::Lcg64Xsh32;
 
-// By what services are sorted.
+// Which services go first.
 #[derive(Clone, Copy)]
 enum Rule {
-    Random,
     Heaviest,
     Farthest,
     Nearest,
 }
 
 impl Rule {
-    fn of(number: u32) -> Rule {
+    // The rule of a number below 11; four numbers leave the services in random order.
+    fn of(number: u32) -> Option<Rule> {
         match number {
-            0..4 => Rule::Random,
-            4..8 => Rule::Heaviest,
-            8..10 => Rule::Farthest,
-            _ => Rule::Nearest,
+            0..4 => None,
+            4..8 => Some(Rule::Heaviest),
+            8..10 => Some(Rule::Farthest),
+            _ => Some(Rule::Nearest),
         }
     }
 
@@ -34,7 +34,6 @@ impl Rule {
         requires stop { stop < board.now.width }
     {
         match self {
-            Rule::Random => 0,
             Rule::Heaviest => u32::MAX - board.demand(stop),
             Rule::Farthest => u32::MAX - board.between(0, stop) - board.between(stop, 0),
             Rule::Nearest => board.between(0, stop) + board.between(stop, 0),
@@ -53,7 +52,19 @@ fn shuffle(removed: &mut [Removed], generator: &mut Lcg64Xsh32)
     }
 }
 
-// Puts the services in one of four orders.
+// Sorts services by a rule.
+fn sort(board: &Board, removed: &mut [Removed], rule: Rule)
+    requires board { IsBoard board.now }
+    requires within { AreOn board.now.width removed.old }
+    ensures { AreOn board.now.width removed.new }
+{
+    for i in 0..removed.len() {
+        removed[i].key = rule.key(board, removed[i].stop);
+    }
+    removed.sort_unstable_by_key(|service| service.key);
+}
+
+// Puts services in random order, or sorts them by a rule that is drawn.
 pub(crate) fn order(board: &Board, removed: &mut [Removed], generator: &mut Lcg64Xsh32)
     requires board { IsBoard board.now }
     requires within { AreOn board.now.width removed.old }
@@ -61,11 +72,7 @@ pub(crate) fn order(board: &Board, removed: &mut [Removed], generator: &mut Lcg6
 {
     let rule = Rule::of(draw(generator, 11));
     shuffle(removed, generator);
-    if let Rule::Random = rule {
-        return;
+    if let Some(rule) = rule {
+        sort(board, removed, rule);
     }
-    for i in 0..removed.len() {
-        removed[i].key = rule.key(board, removed[i].stop);
-    }
-    removed.sort_unstable_by_key(|service| service.key);
 }

@@ -8,14 +8,18 @@ use crate::board::Board;
 use crate::rounds::{Gap, Round};
 use carp_base::Memory;
 
-// A service that is to be put somewhere: the links from it, and from it in its other direction.
+// A service that is put back.
 #[derive(Clone, Copy)]
-struct Rows<'a> {
+struct Service<'a> {
     stop: u32,
+    // The links from it to all stops, and the same of the service in its other direction.
     ahead: &'a [u32],
     back: &'a [u32],
+    // What a crossing of its edge costs.
+    crossing: u32,
 }
 
+// A gap of a tour, and whether the service goes there in its other direction.
 #[derive(Clone, Copy)]
 struct Seat {
     tour: usize,
@@ -23,49 +27,49 @@ struct Seat {
     turned: bool,
 }
 
-// A place for a service, and what it costs there more than its fence: the deadheads that it adds, what is paid for loads
-// above the room, and the cost of its edge. No place costs less than nothing.
+// A seat for a service, or a tour of its own, and what it costs there: the deadheads that it adds, the fine for loads above
+// the room, and a crossing of its edge. With that crossing it is never below 0: by way of the edge one comes over the gap, and
+// so for no less than its price.
 #[derive(Clone, Copy)]
 struct Offer {
-    worth: u64,
-    // None stands for a tour of its own.
+    cost: u64,
     seat: Option<Seat>,
 }
 
-// What is paid for the load of a tour above the room, once the demand has come to it.
+// What is paid for the load above the room that a demand adds to a tour.
 fn fine(load: u32, demand: u32, room: u32, price: u64) -> u64 {
     let before = u64::from(load.max(room));
     let after = (u64::from(load) + u64::from(demand)).max(u64::from(room));
     price.saturating_mul(after - before) / 256
 }
 
-// The best of an offer and the gaps of a tour, where each costs so much besides.
+// The best of an offer and the gaps of a tour, each of which costs so much besides its deadheads.
 fn best_in_tour(
     gaps: &[Gap],
     places: (usize, usize),
-    rows: Rows,
+    service: Service,
     tour: usize,
     extra: u64,
     best: Offer,
 ) -> Offer
-    requires ahead { All (IsGapOn (length rows.ahead.now)) gaps.now }
-    requires back { length rows.back.now ≡ length rows.ahead.now }
+    requires ahead { All (IsGapOn (length service.ahead.now)) gaps.now }
+    requires back { length service.back.now ≡ length service.ahead.now }
     requires end { places.1 ≤ length gaps.now }
     requires extra { extra ≤ 2 ^ 41 }
-    requires best { best.worth ≤ 2 ^ 40 }
-    ensures { result.worth ≤ 2 ^ 40 }
+    requires best { best.cost ≤ 2 ^ 40 }
+    ensures { result.cost ≤ 2 ^ 40 }
 {
     let mut best = best;
     for place in places.0..places.1 {
         let gap = gaps[place];
         let to = gap.to as usize;
         let turned = gap.turned as usize;
-        let ahead = u64::from(rows.ahead[to]) + u64::from(rows.back[turned]);
-        let back = u64::from(rows.back[to]) + u64::from(rows.ahead[turned]);
-        let worth = ahead.min(back) + extra;
-        if worth < best.worth + u64::from(gap.price) {
+        let ahead = u64::from(service.ahead[to]) + u64::from(service.back[turned]);
+        let back = u64::from(service.back[to]) + u64::from(service.ahead[turned]);
+        let cost = ahead.min(back) + extra;
+        if cost < best.cost + u64::from(gap.price) {
             best = Offer {
-                worth: worth.saturating_sub(u64::from(gap.price)),
+                cost: cost.saturating_sub(u64::from(gap.price)),
                 seat: Some(Seat {
                     tour,
                     place,
@@ -77,27 +81,26 @@ fn best_in_tour(
     best
 }
 
-// The best place for a service.
-fn best_offer(board: &Board, round: &Round, rows: Rows, cost: u32, price: u64) -> Offer
+// The best offer for a service: a tour of its own, or a seat in a tour whose fine alone is less than the best so far.
+fn best_offer(board: &Board, round: &Round, service: Service, price: u64) -> Offer
     requires board { IsBoard board.now }
     requires round { IsRoundOn board.now.width round.now }
-    requires stop { rows.stop < board.now.width }
-    requires ahead { length rows.ahead.now ≡ board.now.width }
-    requires back { length rows.back.now ≡ board.now.width }
+    requires stop { service.stop < board.now.width }
+    requires ahead { length service.ahead.now ≡ board.now.width }
+    requires back { length service.back.now ≡ board.now.width }
 {
-    let stop = rows.stop;
-    let fence = u64::from(cost);
-    let demand = board.demand(stop);
+    let crossing = u64::from(service.crossing);
+    let demand = board.demand(service.stop);
     let mut best = Offer {
-        worth: u64::from(rows.ahead[0]) + u64::from(rows.back[0]) + fence,
+        cost: u64::from(service.ahead[0]) + u64::from(service.back[0]) + crossing,
         seat: None,
     };
     for tour in 0..round.tours.len() {
         let open = round.tours[tour];
         let fine = fine(open.load, demand, board.room, price);
-        if fine < best.worth {
+        if fine < best.cost {
             let places = (open.first, round.end(tour));
-            best = best_in_tour(&round.gaps, places, rows, tour, fine + fence, best);
+            best = best_in_tour(&round.gaps, places, service, tour, fine + crossing, best);
         }
     }
     best
@@ -118,13 +121,14 @@ pub(crate) fn put(
     ensures { OnOk result (IsRoundOn board.now.width round.new) }
 {
     let turned = board.turn(stop);
-    let rows = Rows {
+    let service = Service {
         stop,
         ahead: board.row(stop),
         back: board.row(turned),
+        crossing: costs[stop as usize],
     };
-    match best_offer(board, round, rows, costs[stop as usize], price).seat {
-        None => round.open(board, stop),
+    match best_offer(board, round, service, price).seat {
+        None => round.open_tour(board, stop),
         Some(seat) => {
             let stop = if seat.turned { turned } else { stop };
             round.insert(board, stop, seat.tour, seat.place)

@@ -8,14 +8,13 @@ use crate::board::Board;
 use carp_base::Memory;
 use std::alloc::Global;
 
-// A place between two stops that follow each other.
+// Two stops that follow each other, and the link between them.
 #[derive(Clone, Copy)]
 pub(crate) struct Gap {
-    // The stop before it, in its other direction: the row of a service in its other direction has the link from there.
+    // The first one, in its other direction: the link from it to a service is that from the service, in its other direction,
+    // to here, and so stands in a row of the service.
     pub(crate) turned: u32,
-    // The stop behind it.
     pub(crate) to: u32,
-    // The link from the one to the other.
     pub(crate) price: u32,
 }
 
@@ -26,7 +25,8 @@ pub(crate) struct Tour {
     pub(crate) load: u32,
 }
 
-// Tours one after another, from the depot to the depot. Sums are far from the ends of their types, and saturate there.
+// Tours one after another, from the depot to the depot, as the list of their gaps. No sum comes near the end of its type;
+// that sums saturate there saves saying so.
 #[derive(Drop)]
 pub(crate) struct Round {
     pub(crate) gaps: Vec<Gap>,
@@ -35,7 +35,7 @@ pub(crate) struct Round {
     // The last stop, in its other direction.
     last: u32,
     // The tour that the last stop is in.
-    open: Tour,
+    tour: Tour,
 }
 
 impl Round {
@@ -49,7 +49,7 @@ impl Round {
             tours: Vec::with_capacity(alloc, width)?,
             deadheads: 0,
             last: 0,
-            open: Tour { first: 0, load: 0 },
+            tour: Tour { first: 0, load: 0 },
         })
     }
 
@@ -81,16 +81,16 @@ impl Round {
     {
         if to != 0 {
             if self.last == 0 {
-                self.open = Tour {
+                self.tour = Tour {
                     first: self.gaps.len(),
                     load: 0,
                 };
             }
-            self.open.load = self.open.load.saturating_add(board.demand(to));
+            self.tour.load = self.tour.load.saturating_add(board.demand(to));
         } else if self.last == 0 {
             return Ok(());
         } else {
-            self.tours.push(self.open)?;
+            self.tours.push(self.tour)?;
         }
         self.gaps.push(Gap {
             turned: self.last,
@@ -130,7 +130,7 @@ impl Round {
     }
 
     // A tour of its own at the end.
-    pub(crate) fn open(&mut self, board: &Board, stop: u32) -> Result<(), Memory>
+    pub(crate) fn open_tour(&mut self, board: &Board, stop: u32) -> Result<(), Memory>
         requires board { IsBoard board.now }
         requires round { IsRoundOn board.now.width self.old }
         requires stop { stop < board.now.width }
@@ -146,8 +146,8 @@ impl Round {
         ensures { OnOk result (IsRoundOn board.now.width self.new) }
     {
         self.clear();
-        for edge in 1..board.width as u32 / 2 {
-            self.open(board, 2 * edge)?;
+        for edge in 1..board.edges() + 1 {
+            self.open_tour(board, 2 * edge)?;
         }
         Ok(())
     }
@@ -222,12 +222,12 @@ impl Round {
             .deadheads
             .saturating_add(rise)
             .saturating_sub(u64::from(gap.price));
-        self.load(tour, board.demand(stop));
+        self.add_load(tour, board.demand(stop));
         Ok(())
     }
 
     // Adds to the load of a tour, and moves the later tours by one place.
-    fn load(&mut self, tour: usize, demand: u32)
+    fn add_load(&mut self, tour: usize, demand: u32)
         requires { tour < length self.old.tours.items }
         ensures gaps { self.new.gaps ≡ self.old.gaps }
         ensures last { self.new.last ≡ self.old.last }

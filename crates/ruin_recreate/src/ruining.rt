@@ -5,20 +5,19 @@ ghost use Rattle.ruin_recreate.specs.Search.{IsRoundOn, IsRuinOn};
 
 use crate::board::Board;
 use crate::draws::draw;
+use crate::neighbours::Neighbours;
 use crate::rounds::Round;
 use carp_base::Memory;
 use rand_pcg::Lcg64Xsh32;
 use std::alloc::Global;
 
-// How many neighbours of an edge are looked at.
-pub(crate) const NEIGHBOURS: usize = 60;
+// The greatest length of a string.
+const LONGEST: u32 = 5;
 
-// The greatest length of a string, and ten services are taken out on average.
-const LONGEST: usize = 5;
-
+// How many services are taken out on average.
 const AVERAGE: u32 = 10;
 
-// A service that was taken out, with the number by which it is sorted.
+// A service that is taken out, with the number by which it is sorted.
 #[derive(Clone, Copy)]
 pub(crate) struct Removed {
     pub(crate) stop: u32,
@@ -40,8 +39,8 @@ fn longest(board: &Board, round: &Round) -> u32
     ensures some { 1 ≤ result }
     ensures few { result ≤ 5 }
 {
-    let tours = round.tours.len().max(1);
-    ((board.width / 2 - 1) / tours).clamp(1, LONGEST) as u32
+    let tours = u32::try_from(round.tours.len()).unwrap_or(u32::MAX).max(1);
+    (board.edges() / tours).clamp(1, LONGEST)
 }
 
 // The greatest number of strings of that length.
@@ -57,7 +56,9 @@ fn strings(longest: u32) -> u32
 pub(crate) struct Ruin {
     // Where each edge is served: the place of the gap before it.
     pub(crate) places: Vec<usize>,
+    // Which edges are taken out.
     pub(crate) gone: Vec<bool>,
+    // Their services, as they stood in the round.
     pub(crate) removed: Vec<Removed>,
 }
 
@@ -72,7 +73,7 @@ impl Ruin {
         })
     }
 
-    // Where a string begins that goes back so many services from an edge, or to the start of the tour.
+    // Where a string begins: so many services before an edge, or at the start of its tour.
     fn start(&self, round: &Round, edge: u32, back: u32) -> usize
         requires { edge < length self.now.places.items }
     {
@@ -122,21 +123,22 @@ impl Ruin {
         &mut self,
         board: &Board,
         round: &Round,
-        near: &[[u32; NEIGHBOURS]],
+        near: &[Neighbours],
         generator: &mut Lcg64Xsh32,
     ) -> Result<(), Memory>
         requires board { IsBoard board.now }
         requires ruin { IsRuinOn board.now.width self.old }
         requires round { IsRoundOn board.now.width round.now }
-        requires near { length near.now ≡ board.now.width / 2 }
         requires some { 4 ≤ board.now.width }
+        requires near { length near.now ≡ board.now.width / 2 }
         ensures { OnOk result (IsRuinOn board.now.width self.new) }
     {
         let mut left = draw(generator, strings(longest(board, round)));
-        let seed = 1 + draw(generator, board.width as u32 / 2 - 1);
+        let seed = 1 + draw(generator, board.edges());
         self.removed.clear();
         self.take_string(board, round, seed, generator)?;
         for &edge in &near[seed as usize] {
+            // Each neighbour is an edge of the board: to test that costs less than to say so of each list.
             if left == 0 || edge == 0 || edge as usize >= self.gone.len() {
                 break;
             }

@@ -1,34 +1,33 @@
 // The board of an instance.
 ghost use Rattle.std.specs.Prelude.{◌≡◌, ◌+◌, ◌*◌, ◌<◌, ◌≤◌, ◌++◌, IfOk, OnOk, length};
-ghost use Rattle.carp_base.specs.Problem.{IsValid, IsVertex};
-ghost use Rattle.deadhead_paths.specs.Prices.{IsLeastPrice, costs_of, price_of};
-ghost use Rattle.ruin_recreate.specs.Boards.{IsBoard, IsBoardOf, end_of, other_way, start_of};
-ghost use Rattle.ruin_recreate.specs.Tables.{AddsRow, AreDemands, AreLinks, AreTurns};
+ghost use Rattle.deadhead_paths.specs.Prices.{costs_of};
+ghost use Rattle.ruin_recreate.specs.Boards.{IsBoard, IsBoardOf, end_of, start_of};
+ghost use Rattle.ruin_recreate.specs.Tables.{AddsRow, AreDemands, AreLinks, AreTurns, IsLink};
+ghost use Rattle.task_tours.specs.Tours.{IsStand};
 
 use crate::board::Board;
-use carp_base::{Instance, Memory};
-use deadhead_paths::{Distances, least_prices_are_there};
+use carp_base::{Instance, Memory, Task};
+use deadhead_paths::Distances;
 use std::alloc::Global;
+use task_tours::{ends, least_cost};
 
 // The vertex where a stop starts, and the vertex where it ends.
-fn ends(inst: &Instance, x: u32) -> (u32, u32)
+fn stop_ends(inst: &Instance, x: u32) -> (u32, u32)
     requires { x < 2 * inst.now.required + 2 }
     ensures start { result.0 ≡ start_of inst.now x }
     ensures end { result.1 ≡ end_of inst.now x }
-    ensures start_in { IsVertex inst.now result.0 }
-    ensures end_in { IsVertex inst.now result.1 }
-    ensures valid { IsValid inst.now }
+    ensures start_stands { IsStand inst.now result.0 }
+    ensures end_stands { IsStand inst.now result.1 }
 {
-    let depot = inst.depot();
     if x / 2 == 0 {
+        let depot = inst.depot();
         return (depot, depot);
     }
-    let edge = inst.edge(x / 2);
-    if x % 2 == 0 {
-        (edge.u, edge.v)
-    } else {
-        (edge.v, edge.u)
-    }
+    let task = Task {
+        edge: x / 2,
+        forward: x % 2 == 0,
+    };
+    ends(inst, task)
 }
 
 // The least price from the end of a stop to the start of another.
@@ -37,13 +36,12 @@ fn link(inst: &Instance, dist: &Distances, x: u32, y: u32) -> u32
     requires prices { dist.now.prices ≡ costs_of inst.now }
     requires x { x < 2 * inst.now.required + 2 }
     requires y { y < 2 * inst.now.required + 2 }
-    ensures least { IsLeastPrice inst.now (price_of (costs_of inst.now)) (end_of inst.now x) (start_of inst.now y) result }
+    ensures least { IsLink inst.now x y result }
     ensures small { result ≤ 999000000 }
 {
-    least_prices_are_there();
-    let (_, from) = ends(inst, x);
-    let (to, _) = ends(inst, y);
-    dist.get(from, to).unwrap() as u32
+    let (_, from) = stop_ends(inst, x);
+    let (to, _) = stop_ends(inst, y);
+    least_cost(inst, dist, from, to) as u32
 }
 
 // Adds the links from a stop to all stops.

@@ -1,4 +1,4 @@
-use Rattle.std.proofs.Common.{◌≡◌, ◌+◌, ◌*◌, ap}
+use Rattle.std.proofs.Common.{◌+◌, ◌*◌, ap}
 use Rattle.ruin_recreate.proofs.Rows.{board_is}
 use Rattle.ruin_recreate.proofs.tables.board_of.Goals as goal
 

@@ -1,5 +1,5 @@
 use Rattle.ruin_recreate.specs.Search.{AreOn}
-use Rattle.ruin_recreate.proofs.ordering.order.Given as goal
+use Rattle.ruin_recreate.proofs.ordering.sort.Given as goal
 
 abbrev pub invariant-loop-i : goal.invariant-loop-i
 invariant-loop-i l = AreOn l.board.width l.removed

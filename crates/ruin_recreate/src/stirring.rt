@@ -1,0 +1,52 @@
+// Ruin and recreate.
+ghost use Rattle.std.specs.Prelude.{◌≡◌, ◌<◌, IfOk, length};
+ghost use Rattle.std.specs.List.{All};
+ghost use Rattle.ruin_recreate.specs.Boards.{IsBoard};
+
+use crate::annealing::Search;
+use crate::board::Board;
+use carp_base::Memory;
+use rand_pcg::Lcg64Xsh32;
+use std::alloc::Global;
+
+// The greatest number of steps in all.
+const MOST_STEPS: u32 = 120_000;
+
+/// Looks for a cheaper round by ruin and recreate (Schrimpf, Schneider, Stamm-Wilbrandt and Dueck 2000): strings of services near
+/// one another are taken out of their tours (Christiaens and Vanden Berghe 2020) and each is put back where it costs least, and
+/// annealing decides whether to go on from there. Loads above the room are permitted on the way, at a price that follows how
+/// many rounds are lawful.
+///
+/// A round is a list of stops of the board: the depot before, between and after the tours. `costs` has what a crossing of its
+/// edge costs, for each stop. Nothing but stops of the board is promised of the answer: its tours are to be tested. Where the
+/// start serves each edge once, so does the answer; it is the start, or costs fewer deadheads and loads no tour above the room.
+///
+/// The same generator gives the same answer, and is left further on. With m required edges there are up to six annealings, the
+/// first from the start and the others from one tour for each service, of 8,000 + 18 * m * m steps in all and at most 120,000;
+/// each takes time in proportion to m. It takes space in proportion to m.
+pub fn stir(
+    alloc: Global,
+    board: &Board,
+    costs: &[u32],
+    start: Vec<u32>,
+    generator: &mut Lcg64Xsh32,
+) -> Result<Vec<u32>, Memory>
+    requires board { IsBoard board.now }
+    requires costs { length costs.now ≡ board.now.width }
+    requires within { All (λ x. x < board.now.width) start.items }
+    ensures { IfOk result (λ round. All (λ x. x < board.now.width) round.items) }
+{
+    let edges = board.edges();
+    if edges < 2 {
+        return Ok(start);
+    }
+    let annealings = (600 / edges).clamp(1, 6);
+    let steps = (8_000 + 18 * edges * edges).min(MOST_STEPS) / annealings;
+    let mut search = Search::new(alloc, board, start)?;
+    search.anneal(board, costs, steps, generator)?;
+    for _ in 1..annealings {
+        search.current.scatter(board)?;
+        search.anneal(board, costs, steps, generator)?;
+    }
+    Ok(search.top)
+}
