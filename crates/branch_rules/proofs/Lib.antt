@@ -16,3 +16,12 @@ pub mod Turns
 pub mod Symmetry
 pub mod Small
 pub mod SmallTrees
+pub mod Labels
+pub mod ChainLoads
+pub mod Including
+pub mod Neighbouring
+pub mod Linking
+pub mod Barring
+pub mod TakingOut
+pub mod Settling
+pub mod Voiding

@@ -36,7 +36,7 @@ yes_turn (d ∷ branch) a b is = elim (or_cases (says_yes a b d) (list_any (says
 ]
 
 -- a path of yes pairs is a detour where the pair itself is no yes pair
-detour_of : (branch : List Decision) (a b x : ℕ) (path : List ℕ) (y : ℕ) → ¬ (IsYes branch a b) → YesPath branch x path y → Detour branch a b x path y
+pub detour_of : (branch : List Decision) (a b x : ℕ) (path : List ℕ) (y : ℕ) → ¬ (IsYes branch a b) → YesPath branch x path y → Detour branch a b x path y
 detour_of branch a b x [] y never joined = joined
 detour_of branch a b x (z ∷ path) y never joined = (
   joined.0,

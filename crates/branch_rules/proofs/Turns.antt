@@ -130,10 +130,10 @@ module _ (c : Support) (cost : ℕ) where
       doubled (open_pairs m branch + cuts) turns.0 turns.1 n (omega (arith, one, one_pow)) (omega (arith, two, two_pow)) turns.4
   turns_below branch cuts (cut shore k below above) n lean pairs turns =
       let m = c.problem.required in
-      let one = turns_below (branch ++ Low shore k ∷ []) (cuts - 1) below turns.0 lean.3 pairs.0 turns.2 in
-      let two = turns_below (branch ++ High shore k ∷ []) (cuts - 1) above turns.1 lean.4 pairs.1 turns.3 in
-      let one_pow : 2 ^ (open_pairs m (branch ++ Low shore k ∷ []) + (cuts - 1) + 1) ≤ 2 ^ (open_pairs m branch + cuts) = pow_mono (omega (arith, open_pairs_more m branch (Low shore k), lean.0)) in
-      let two_pow : 2 ^ (open_pairs m (branch ++ High shore k ∷ []) + (cuts - 1) + 1) ≤ 2 ^ (open_pairs m branch + cuts) = pow_mono (omega (arith, open_pairs_more m branch (High shore k), lean.0)) in
+      let one = turns_below (branch ++ Low shore k ∷ []) (cuts - 1) below turns.0 lean.1 pairs.0 turns.2 in
+      let two = turns_below (branch ++ High shore k ∷ []) (cuts - 1) above turns.1 lean.2 pairs.1 turns.3 in
+      let one_pow : 2 ^ (open_pairs m (branch ++ Low shore k ∷ []) + (cuts - 1) + 1) ≤ 2 ^ (open_pairs m branch + cuts) = pow_mono (omega (arith, open_pairs_more m branch (Low shore k), lean.0.0)) in
+      let two_pow : 2 ^ (open_pairs m (branch ++ High shore k ∷ []) + (cuts - 1) + 1) ≤ 2 ^ (open_pairs m branch + cuts) = pow_mono (omega (arith, open_pairs_more m branch (High shore k), lean.0.0)) in
       doubled (open_pairs m branch + cuts) turns.0 turns.1 n (omega (arith, one, one_pow)) (omega (arith, two, two_pow)) turns.4
   turns_below branch cuts (price set) n lean pairs turns = leaf_turns _ n (open_pairs c.problem.required branch + cuts) turns
   turns_below branch cuts void n lean pairs turns = leaf_turns _ n (open_pairs c.problem.required branch + cuts) turns

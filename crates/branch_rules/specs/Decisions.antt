@@ -1,6 +1,7 @@
 -- Decisions, what a plan must do to meet them, and the chains that they make (Bode and Irnich 2012).
-use Rattle.std.specs.Prelude.{◌≡◌, ◌≢◌, ℕ, ◌+◌, ◌%◌, ◌≤◌, ◌<◌, Bool, false, ◌&&◌, ◌||◌, ◌==◌, not, List, [], ◌∷◌, if◌then◌else◌, sum_by, IsTrue, ◌⊎◌, Option, Some, None, max}
+use Rattle.std.specs.Prelude.{◌≡◌, ◌≢◌, ℕ, ◌+◌, ◌%◌, ◌≤◌, ◌<◌, Bool, true, false, ◌&&◌, ◌||◌, ◌==◌, not, List, [], ◌∷◌, if◌then◌else◌, sum_by, count_by, IsTrue, ◌⊎◌, Option, Some, None, max}
 use Rattle.std.specs.List.{AllByRecursion, list_any}
+use Rattle.carp_base.specs.Allowed.{Relation, allows}
 use Rattle.carp_base.specs.Problem.{Problem, IsRequired, edge_at}
 use Rattle.plan_model.specs.Plans.{deadheads_over}
 use Rattle.plan_model.specs.Offers.{smaller}
@@ -94,6 +95,12 @@ pub data Excluded (p : Problem) (branch : List Decision) (a b : ℕ) : Type 0 wh
 abbrev pub IsDetermined : Problem → List Decision → ℕ → ℕ → Type 0
 IsDetermined p branch a b = IsYes branch a b ⊎ Excluded p branch a b
 
+-- a relation on the required edges permits just the pairs that are not excluded
+pub record PermitsUnexcluded (p : Problem) (branch : List Decision) (r : Relation) : Type 0 where
+  pub on : r.size ≡ p.required
+  pub permitted : (a b : ℕ) → IsRequired p a → IsRequired p b → allows r a b ≡ true → ¬ (Excluded p branch a b)
+  pub refused : (a b : ℕ) → IsRequired p a → IsRequired p b → allows r a b ≡ false → Excluded p branch a b
+
 -- the greatest k + 1 of the high decisions on a shore, and 0 where there is none
 abbrev pub highest : ℕ → List Decision → ℕ
 highest shore [] = 0
@@ -137,6 +144,17 @@ pub data IsVoid (p : Problem) (pool : List (List ℕ)) (branch : List Decision) 
   cycle : (a b : ℕ) (path : List ℕ) → a ≢ b → IsYes branch a b → Detour branch a b a path b → IsVoid p pool branch
   heavy_chain : (a : ℕ) → IsHeavy p branch a a → IsVoid p pool branch
   crossed : (shore k : ℕ) → lowest shore branch ≡ Some k → k < lower_of p pool branch shore → IsVoid p pool branch
+
+-- the decision is on a shore
+abbrev pub is_cut : Decision → Bool
+is_cut (Yes a b) = false
+is_cut (No a b) = false
+is_cut (Low shore k) = true
+is_cut (High shore k) = true
+
+-- the number of decisions on shores
+abbrev pub cuts_of : List Decision → ℕ
+cuts_of branch = count_by is_cut branch
 
 -- the branch is not void, and each pair of required edges is determined
 pub record IsFixed (p : Problem) (pool : List (List ℕ)) (branch : List Decision) : Type 0 where

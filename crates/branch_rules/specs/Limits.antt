@@ -9,6 +9,8 @@ use Rattle.branch_rules.specs.Prices.{Prices}
 use Rattle.branch_rules.specs.declared.weight.Weight.{Weight}
 use Rattle.branch_rules.specs.declared.decision.Decision.{Decision}
 use Rattle.branch_rules.specs.declared.decision.Decision.TheVariants.{Yes, No, Low, High}
+use Rattle.branch_rules.specs.declared.node.Node.{Node}
+use Rattle.branch_rules.specs.declared.node.Node.TheVariants.{Pair, Cut, Price, Void, Fixed}
 
 -- a price or a weight, within 10^15 either way
 pub record IsPriceNumber (z : ℤ) : Type 0 where
@@ -42,3 +44,41 @@ IsFineDecision (High shore k) = k ≤ 1000000
 pub record IsShoreOf (p : Problem) (pool : List (List ℕ)) (shore : ℕ) : Type 0 where
   pub number : IsShoreNumber pool shore
   pub belongs : Belongs p (shore_at pool shore)
+
+-- a pair of two different edges among the first m
+pub record IsPairWithin (m a b : ℕ) : Type 0 where
+  pub a_from_one : 1 ≤ a
+  pub a_in_range : a ≤ m
+  pub b_from_one : 1 ≤ b
+  pub b_in_range : b ≤ m
+  pub different : a ≢ b
+
+-- a decision on a pair is on two different edges among the first m
+abbrev pub HasPairWithin : ℕ → Decision → Type 0
+HasPairWithin m (Yes a b) = IsPairWithin m a b
+HasPairWithin m (No a b) = IsPairWithin m a b
+HasPairWithin m (Low shore k) = Unit {0}
+HasPairWithin m (High shore k) = Unit {0}
+
+-- the pairs of the decisions are of required edges
+abbrev pub ArePairsIn : Problem → List Decision → Type 0
+ArePairsIn p branch = All (HasPairWithin p.required) branch
+
+-- a decision on a shore is on one of the pool, which belongs to the instance
+abbrev pub HasShoreOf : Problem → List (List ℕ) → Decision → Type 0
+HasShoreOf p pool (Yes a b) = Unit {0}
+HasShoreOf p pool (No a b) = Unit {0}
+HasShoreOf p pool (Low shore k) = IsShoreOf p pool shore
+HasShoreOf p pool (High shore k) = IsShoreOf p pool shore
+
+-- the shores of the decisions are in the pool, and belong to the instance
+abbrev pub AreShoresIn : Problem → List (List ℕ) → List Decision → Type 0
+AreShoresIn p pool branch = All (HasShoreOf p pool) branch
+
+-- the pair of a node is of required edges, and its shore is one of the pool that belongs to the instance
+abbrev pub IsNodeIn : Problem → List (List ℕ) → Node → Type 0
+IsNodeIn p pool (Pair a b) = IsPairWithin p.required a b
+IsNodeIn p pool (Cut shore k) = IsShoreOf p pool shore
+IsNodeIn p pool (Price set) = Unit {0}
+IsNodeIn p pool Void = Unit {0}
+IsNodeIn p pool Fixed = Unit {0}

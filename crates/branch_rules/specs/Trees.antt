@@ -77,12 +77,21 @@ Shows c branch bound (price set) = PriceShows c branch bound set
 Shows c branch bound void = IsVoid c.problem c.pool branch
 Shows c branch bound fixed = FixedShows c branch bound
 
+-- an inner node may stand under the decisions so far, where so many cuts may still be made: its pair is open, or a cut may be
+-- made and lies within the numbers of its shore
+abbrev pub IsLeanNode : Problem → List (List ℕ) → List Decision → ℕ → Node → Type 0
+IsLeanNode p pool branch cuts (Pair a b) = ¬ (IsDetermined p branch a b)
+IsLeanNode p pool branch cuts (Cut shore k) = (1 ≤ cuts) × (lower_of p pool branch shore ≤ k) × IfSome (lowest shore branch) (λ u. k < u)
+IsLeanNode p pool branch cuts (Price set) = Unit {0}
+IsLeanNode p pool branch cuts Void = Unit {0}
+IsLeanNode p pool branch cuts Fixed = Unit {0}
+
 -- each pair is open where it is split, each cut lies within the numbers of its shore, and no path has more than so many cuts
 abbrev pub IsLean : Support → List Decision → ℕ → Tree → Type 0
 IsLean c branch cuts (pair a b together apart) =
-    ¬ (IsDetermined c.problem branch a b) × IsLean c (branch ++ Yes a b ∷ []) cuts together × IsLean c (branch ++ No a b ∷ []) cuts apart
+    IsLeanNode c.problem c.pool branch cuts (Pair a b) × IsLean c (branch ++ Yes a b ∷ []) cuts together × IsLean c (branch ++ No a b ∷ []) cuts apart
 IsLean c branch cuts (cut shore k below above) =
-    (1 ≤ cuts) × (lower_of c.problem c.pool branch shore ≤ k) × IfSome (lowest shore branch) (λ u. k < u)
+    IsLeanNode c.problem c.pool branch cuts (Cut shore k)
     × IsLean c (branch ++ Low shore k ∷ []) (cuts - 1) below × IsLean c (branch ++ High shore k ∷ []) (cuts - 1) above
 IsLean c branch cuts (price set) = Unit {0}
 IsLean c branch cuts void = Unit {0}

@@ -74,6 +74,13 @@ impl Branch {
         self.decisions.len()
     }
 
+    // The decisions in order.
+    pub(crate) fn decisions(&self) -> &[Decision]
+        ensures { result.now ≡ self.now }
+    {
+        &self.decisions
+    }
+
     /// The lower number of a shore: the least number of the parity of the required edges over the shore that is at least the
     /// shore's need, and at least the `k + 1` of each of its `High` decisions.
     ///
