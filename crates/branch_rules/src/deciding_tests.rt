@@ -1,0 +1,322 @@
+// What small branches allow and settle, worked by hand.
+ghost use Rattle.std.specs.Prelude.{IfSome, IsTrue};
+ghost use Rattle.branch_rules.specs.Limits.{ArePairsIn, AreShoresIn, HasPairWithin, HasShoreOf, IsFineDecision};
+
+use crate::{Branch, Decision, Node};
+use carp_base::{Instance, RawEdge};
+use cut_pool::{Shore, ShorePool};
+use std::alloc::{AllocError, Global};
+use std::process::Abort;
+use std::test::Fail;
+
+// An edge whose service costs as much as a crossing.
+fn street(u: u64, v: u64, cost: u64, demand: u64) -> RawEdge {
+    RawEdge {
+        u,
+        v,
+        cost,
+        demand,
+        service: cost,
+    }
+}
+
+// Whether the pair of a decision is of two different edges among the first so many.
+fn is_pair_within(required: u32, decision: &Decision) -> bool
+    ensures { IsTrue result → HasPairWithin required decision.now }
+{
+    match *decision {
+        Decision::Yes { a, b } | Decision::No { a, b } => {
+            1 <= a && a <= required && 1 <= b && b <= required && a != b
+        }
+        _ => true,
+    }
+}
+
+// Whether the pairs of the decisions are of required edges.
+fn are_pairs_in(inst: &Instance, decisions: &[Decision]) -> bool
+    ensures { IsTrue result → ArePairsIn inst.now decisions.now }
+{
+    for decision in decisions {
+        if !is_pair_within(inst.required(), decision) {
+            return false;
+        }
+    }
+    true
+}
+
+// Whether the shore of a decision is in the pool and belongs to the instance.
+fn is_on_shore(inst: &Instance, pool: &ShorePool, decision: &Decision) -> bool
+    ensures { IsTrue result → HasShoreOf inst.now pool.now decision.now }
+{
+    match *decision {
+        Decision::Low { shore, .. } | Decision::High { shore, .. } => {
+            1 <= shore && shore <= pool.len() && pool.shore(shore).belongs(inst)
+        }
+        _ => true,
+    }
+}
+
+// Whether the shores of the decisions are in the pool and belong to the instance.
+fn are_shores_in(inst: &Instance, pool: &ShorePool, decisions: &[Decision]) -> bool
+    ensures { IsTrue result → AreShoresIn inst.now pool.now decisions.now }
+{
+    for decision in decisions {
+        if !is_on_shore(inst, pool, decision) {
+            return false;
+        }
+    }
+    true
+}
+
+// A decision of three signs: `+12` is yes to the edges 1 and 2, `-12` no, `<13` at most 3 over the shore 1, `>13` more than 3.
+fn decision_of(kind: u8, first: u8, second: u8) -> Option<Decision>
+    ensures { IfSome result IsFineDecision }
+{
+    let (first, second) = (first.saturating_sub(b'0'), second.saturating_sub(b'0'));
+    let (a, b) = (u32::from(first), u32::from(second));
+    let (shore, k) = (a, u64::from(second));
+    match kind {
+        b'+' => Some(Decision::Yes { a, b }),
+        b'-' => Some(Decision::No { a, b }),
+        b'<' => Some(Decision::Low { shore, k }),
+        b'>' => Some(Decision::High { shore, k }),
+        _ => None,
+    }
+}
+
+// The branch of a text of decisions.
+fn branch_of(alloc: Global, text: &[u8]) -> Result<Branch, Fail> {
+    let mut branch = Branch::new(alloc);
+    for signs in text.chunks_exact(3) {
+        let &[kind, first, second] = signs else {
+            return Err("three signs")?;
+        };
+        branch.push(decision_of(kind, first, second).ok_or("a decision")?)?;
+    }
+    Ok(branch)
+}
+
+// The parts of a row between bars.
+fn parts_of(alloc: Global, row: &'static str) -> Result<Vec<&'static str>, AllocError> {
+    row.split('|').collect(alloc)
+}
+
+// The allowed pairs, each as two digits and a blank.
+fn allowed_text(alloc: Global, inst: &Instance, branch: &Branch) -> Result<Vec<u8>, Fail>
+    requires { ArePairsIn inst.now branch.now }
+{
+    let allowed = branch.allowed(alloc, inst)?;
+    let mut text = Vec::new(alloc);
+    for a in 1..inst.required() + 1 {
+        for b in a + 1..inst.required() + 1 {
+            if allowed.may(a, b) {
+                text.push(b'0' + (a % 10) as u8)?;
+                text.push(b'0' + (b % 10) as u8)?;
+                text.push(b' ')?;
+            }
+        }
+    }
+    Ok(text)
+}
+
+// A row has decisions, then the allowed pairs, and then `v` for a void branch, `f` for a fixed one and else a stop.
+fn expect_rows(
+    rt: &impl Abort,
+    alloc: Global,
+    inst: &Instance,
+    pool: &ShorePool,
+    rows: &'static str,
+) -> Result<(), Fail> {
+    for row in rows.split('\n') {
+        let parts = parts_of(alloc, row)?;
+        let [decisions, pairs, state] = parts.as_slice() else {
+            panic!(rt; "three parts in {row}");
+        };
+        let branch = branch_of(alloc, decisions.as_bytes())?;
+        let pairs_in = are_pairs_in(inst, branch.decisions());
+        assert!(rt; pairs_in);
+        let shores_in = are_shores_in(inst, pool, branch.decisions());
+        assert!(rt; shores_in);
+        let text = allowed_text(alloc, inst, &branch)?;
+        assert_eq!(rt; text.as_slice(), pairs.as_bytes(), "{row}");
+        let void = branch.void(alloc, inst, pool)?;
+        let fixed = branch.fixed(alloc, inst, pool)?;
+        assert_eq!(rt; void, *state == "v", "{row}");
+        assert_eq!(rt; fixed, *state == "f", "{row}");
+    }
+    Ok(())
+}
+
+// Three streets of demand 2 in a triangle, far from the depot.
+fn far_triangle(alloc: Global, capacity: u64) -> Result<Instance, Fail> {
+    let required = [street(2, 3, 1, 2), street(3, 4, 1, 2), street(4, 2, 1, 2)];
+    Ok(Instance::build(alloc, 4, 1, capacity, &required, &[street(1, 2, 10, 0)])?)
+}
+
+#[test]
+fn pairs_above_the_capacity_are_excluded(rt: HostRuntime) -> Result<(), Fail> {
+    let alloc = rt.alloc();
+    let pool = ShorePool::new(alloc);
+    expect_rows(&rt, alloc, &far_triangle(alloc, 3)?, &pool, "||f")?;
+    expect_rows(
+        &rt,
+        alloc,
+        &far_triangle(alloc, 5)?,
+        &pool,
+        "|12 13 23 |.\n+12|12 |f",
+    )
+}
+
+#[test]
+fn chains_in_a_triangle(rt: HostRuntime) -> Result<(), Fail> {
+    let alloc = rt.alloc();
+    let required = [street(1, 2, 5, 1), street(2, 3, 7, 1), street(1, 3, 4, 1)];
+    let inst = Instance::build(alloc, 3, 1, 3, &required, &[])?;
+    let rows = "\
+        |12 13 23 |.\n\
+        +12|12 13 23 |.\n\
+        +12+12|12 13 23 |.\n\
+        +12+21|12 13 23 |.\n\
+        +12+23|12 23 |f\n\
+        +12+23+13|12 13 23 |v\n\
+        -12|13 23 |.\n\
+        +12-12|13 23 |.\n\
+        -21-13-23||f";
+    expect_rows(&rt, alloc, &inst, &ShorePool::new(alloc), rows)
+}
+
+// Five streets side by side.
+fn side_by_side(alloc: Global, capacity: u64) -> Result<Instance, Fail> {
+    let required = [street(1, 2, 5, 1); 5];
+    Ok(Instance::build(alloc, 2, 1, capacity, &required, &[])?)
+}
+
+#[test]
+fn each_reason_excludes(rt: HostRuntime) -> Result<(), Fail> {
+    let alloc = rt.alloc();
+    let pool = ShorePool::new(alloc);
+    let rows = "\
+        +12+13|12 13 24 25 34 35 45 |.\n\
+        +12+13+14|25 35 45 |v\n\
+        +12+34|12 13 14 15 23 24 25 34 35 45 |.\n\
+        +12+34+13|12 13 25 34 45 |.";
+    expect_rows(&rt, alloc, &side_by_side(alloc, 10)?, &pool, rows)?;
+    expect_rows(
+        &rt,
+        alloc,
+        &side_by_side(alloc, 2)?,
+        &pool,
+        "+12|12 34 35 45 |.\n+12+34|12 34 |f",
+    )
+}
+
+// Five streets of demand 2 out of the vertex 2, all on one shore, and a street there from the depot.
+fn far_star(alloc: Global) -> Result<Instance, Fail> {
+    let required = [
+        street(2, 3, 1, 2),
+        street(2, 4, 1, 2),
+        street(2, 5, 1, 2),
+        street(2, 6, 1, 2),
+        street(2, 7, 1, 2),
+    ];
+    Ok(Instance::build(alloc, 7, 1, 5, &required, &[street(1, 2, 100, 0)])?)
+}
+
+// The pool of the shore of all vertices but the depot.
+fn far_shore(rt: &impl Abort, alloc: Global) -> Result<ShorePool, Fail> {
+    let mut pool = ShorePool::new(alloc);
+    let number = pool.add(Shore::from_list(alloc, &[2, 3, 4, 5, 6, 7])?);
+    let first = matches!(number, Ok(1));
+    assert!(rt; first);
+    Ok(pool)
+}
+
+#[test]
+fn a_shore_needs_four_deadheads(rt: HostRuntime) -> Result<(), Fail> {
+    let alloc = rt.alloc();
+    let rows = "\
+        <14|12 13 14 15 23 24 25 34 35 45 |.\n\
+        <13|12 13 14 15 23 24 25 34 35 45 |v\n\
+        >13<14|12 13 14 15 23 24 25 34 35 45 |.\n\
+        >14<15|12 13 14 15 23 24 25 34 35 45 |v";
+    expect_rows(&rt, alloc, &far_star(alloc)?, &far_shore(&rt, alloc)?, rows)
+}
+
+// Whether a node of two signs after a letter may stand after some decisions: `p12` splits by the edges 1 and 2, and `c14` by the
+// shore 1 at 4.
+fn may_stand(
+    rt: &impl Abort,
+    alloc: Global,
+    inst: &Instance,
+    pool: &ShorePool,
+    decisions: &str,
+    node: &str,
+) -> Result<bool, Fail> {
+    let branch = branch_of(alloc, decisions.as_bytes())?;
+    let pairs_in = are_pairs_in(inst, branch.decisions());
+    assert!(rt; pairs_in);
+    let &[kind, first, second] = node.as_bytes() else {
+        panic!(rt; "three signs in {node}");
+    };
+    let (first, second) = (first.saturating_sub(b'0'), second.saturating_sub(b'0'));
+    let (a, b) = (u32::from(first), u32::from(second));
+    if kind == b'p' {
+        assert!(rt; 1 <= a && a < b && b <= inst.required());
+        return Ok(branch.lean(alloc, inst, pool, &Node::Pair { a, b })?);
+    }
+    assert!(rt; 1 <= a && a <= pool.len());
+    let belongs = pool.shore(a).belongs(inst);
+    assert!(rt; belongs);
+    Ok(branch.lean(
+        alloc,
+        inst,
+        pool,
+        &Node::Cut {
+            shore: a,
+            k: u64::from(second),
+        },
+    )?)
+}
+
+#[test]
+fn nodes_of_a_lean_tree(rt: HostRuntime) -> Result<(), Fail> {
+    let alloc = rt.alloc();
+    let inst = far_star(alloc)?;
+    let pool = far_shore(&rt, alloc)?;
+    let rows = "\
+        |c13|no\n\
+        |c14|yes\n\
+        <15|c14|yes\n\
+        <14|c14|no\n\
+        <19<18<17|c14|yes\n\
+        <19<18<17<16|c14|no\n\
+        |p12|yes\n\
+        -12|p12|no\n\
+        +12|p12|no\n\
+        +12|p23|no\n\
+        +12|p34|yes";
+    for row in rows.split('\n') {
+        let parts = parts_of(alloc, row)?;
+        let [decisions, node, want] = parts.as_slice() else {
+            panic!(&rt; "three parts in {row}");
+        };
+        let may = may_stand(&rt, alloc, &inst, &pool, decisions, node)?;
+        assert_eq!(&rt; may, *want == "yes", "{row}");
+    }
+    Ok(())
+}
+
+#[test]
+fn a_pair_is_determined_for_a_reason(rt: HostRuntime) -> Result<(), Fail> {
+    let alloc = rt.alloc();
+    let inst = side_by_side(alloc, 10)?;
+    let branch = branch_of(alloc, b"+12-34")?;
+    let pairs_in = are_pairs_in(&inst, branch.decisions());
+    assert!(&rt; pairs_in);
+    assert!(&rt; inst.required() == 5);
+    assert_eq!(&rt; branch.determined(alloc, &inst, 2, 1)?, true, "yes");
+    assert_eq!(&rt; branch.determined(alloc, &inst, 4, 3)?, true, "no");
+    assert_eq!(&rt; branch.determined(alloc, &inst, 5, 5)?, true, "one edge");
+    assert_eq!(&rt; branch.determined(alloc, &inst, 2, 3)?, false, "open");
+    Ok(())
+}
