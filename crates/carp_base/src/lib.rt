@@ -31,6 +31,4 @@ pub use laws::valid_where_no_fault;
 #[cfg(test)]
 mod examples;
 #[cfg(test)]
-mod fault_tests;
-#[cfg(test)]
 mod tests;

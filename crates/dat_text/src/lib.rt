@@ -9,8 +9,6 @@
 mod draft;
 mod edge_line;
 mod fault;
-#[cfg(test)]
-mod fault_tests;
 mod key;
 mod key_line;
 mod kind;
@@ -20,10 +18,8 @@ mod number;
 mod parts;
 mod reading;
 #[cfg(test)]
-mod reading_tests;
+mod tests;
 mod write;
-#[cfg(test)]
-mod writing_tests;
 
 pub use fault::DatFault;
 pub use key::Key;

@@ -1,28 +1,33 @@
-// Texts that are read or refused, against the rules of the format.
-ghost use Rattle.std.specs.Prelude.{◌<◌, ◌^◌, length};
-
-use crate::read_dat;
-use carp_base::{Edge, Fail, Instance};
+// Texts that are read or refused, against the rules of the format, and texts that are written.
+use crate::{read_dat, write_dat};
+use carp_base::{Fail as Refusal, Instance, RawEdge};
 use std::alloc::{AllocError, Global};
+use std::test::Fail;
 
-// Whether a row, the words of an answer and then a text with `~` for each line feed, agrees with what is read.
-fn agrees(alloc: Global, row: &[u8]) -> Result<bool, std::test::Fail>
-    requires { length row.now < 2 ^ 32 }
-{
-    let Some(cut) = row.iter().position(|byte| *byte == b'|') else {
-        return Ok(false);
-    };
-    let mut text = Vec::from_slice(alloc, &row[cut + 1..])?;
-    for byte in text.iter_mut() {
-        if *byte == b'~' {
-            *byte = b'\n';
-        }
+// The bytes of a text, in which `~` stands for each line feed and `^` for a byte that is no character.
+fn bytes_of(alloc: Global, text: &str) -> Result<Vec<u8>, AllocError> {
+    let mut bytes = Vec::from_slice(alloc, text.as_bytes())?;
+    for byte in bytes.iter_mut() {
+        *byte = match *byte {
+            b'~' => b'\n',
+            b'^' => 0xff,
+            other => other,
+        };
     }
-    let words = &row[..cut];
-    match read_dat(alloc, &text) {
-        Ok(_) => Ok(words == b"read".as_slice()),
-        Err(Fail::Refused(fault)) => Ok(words == fault.to_string(alloc)?.as_bytes()),
-        Err(Fail::Memory) => Err(AllocError)?,
+    Ok(bytes)
+}
+
+// Whether a row, the words of an answer and then a text, agrees with what is read.
+fn agrees(alloc: Global, row: &str) -> Result<bool, Fail> {
+    let (words, text) = row.split_once('|').unwrap_or(("", row));
+    let bytes = bytes_of(alloc, text)?;
+    if bytes.len() > 1000 {
+        return Ok(false);
+    }
+    match read_dat(alloc, &bytes) {
+        Ok(_) => Ok(words == "read"),
+        Err(Refusal::Refused(fault)) => Ok(words == fault.to_string(alloc)?.as_str()),
+        Err(Refusal::Memory) => Err(AllocError)?,
     }
 }
 
@@ -140,96 +145,63 @@ const WHOLE_TEXTS: &str = "\
     999999999999999999 vertices are too many|VERTICES 999999999999999999~ARISTAS_REQ 0~CAPACIDAD 1~DEPOSITO 1~";
 
 #[test]
-fn tells_key_lines_from_others(rt: HostRuntime) -> Result<(), std::test::Fail> {
-    for row in KEY_LINES.split('\n') {
-        assert!(rt; row.len() < 1000);
-        assert!(rt; agrees(rt.alloc(), row.as_bytes())?, "{row:?}");
+fn answers_the_first_fault(rt: HostRuntime) -> Result<(), Fail> {
+    for rows in [KEY_LINES, REQUIRED_LINES, OTHER_LINES, WHOLE_TEXTS] {
+        for row in rows.split('\n') {
+            assert!(rt; agrees(rt.alloc(), row)?, "{row:?}");
+        }
     }
     Ok(())
+}
+
+// Texts, and what is written of the instances that they describe: the street in two other layouts, one with a service cost of
+// its own; a file in the layout of the data set gdb; a star; lists that change places behind the depot; and no edge at all.
+const WRITTEN: &str = "\
+    vertices : 2\r~aristas_req 1\r~\tComentario café^\r~Capacidad: 1\r~lista_aristas_req :\r~\r~(1,2)COSTE 5 Demanda 1\r~deposito : 1|NOMBRE : carp~COMENTARIO : none~VERTICES : 2~ARISTAS_REQ : 1~ARISTAS_NOREQ : 0~VEHICULOS : 1~CAPACIDAD : 1~TIPO_COSTES_ARISTAS : EXPLICITOS~COSTE_TOTAL_REQ : 5~LISTA_ARISTAS_REQ :~( 1, 2) coste 5 demanda 1~LISTA_ARISTAS_NOREQ :~DEPOSITO : 1~\n\
+    vertices : 2\r~aristas_req 1\r~Capacidad: 1\r~lista_aristas_req :\r~(1,2)COSTE 5 Demanda 1 servicio 9\r~deposito : 2 central\r~END|NOMBRE : carp~COMENTARIO : none~VERTICES : 2~ARISTAS_REQ : 1~ARISTAS_NOREQ : 0~VEHICULOS : 1~CAPACIDAD : 1~TIPO_COSTES_ARISTAS : EXPLICITOS~COSTE_TOTAL_REQ : 9~LISTA_ARISTAS_REQ :~( 1, 2) coste 5 demanda 1 servicio 9~LISTA_ARISTAS_NOREQ :~DEPOSITO : 2~\n\
+    NOMBRE : sample~COMENTARIO : 22 streets, all required~VERTICES : 12~ARISTAS_REQ : 22~ARISTAS_NOREQ : 0~VEHICULOS : 5~CAPACIDAD : 5~TIPO_COSTES_ARISTAS : EXPLICITOS~COSTE_TOTAL_REQ : 252~LISTA_ARISTAS_REQ :~( 1, 2)   coste 13   demanda 1~( 1, 4)   coste 17   demanda 1~( 1, 7)   coste 19   demanda 1~( 1,10)   coste 19   demanda 1~( 1,12)   coste 4   demanda 1~( 2, 3)   coste 18   demanda 1~( 2, 4)   coste 9   demanda 1~( 2, 9)   coste 2   demanda 1~( 3, 4)   coste 20   demanda 1~( 3, 5)   coste 5   demanda 1~( 5, 6)   coste 7   demanda 1~( 5,11)   coste 20   demanda 1~( 5,12)   coste 11   demanda 1~( 6, 7)   coste 4   demanda 1~( 6,12)   coste 3   demanda 1~( 7, 8)   coste 8   demanda 1~( 7,12)   coste 18   demanda 1~( 8,10)   coste 3   demanda 1~( 8,11)   coste 10   demanda 1~( 9,10)   coste 16   demanda 1~( 9,11)   coste 14   demanda 1~(10,11)   coste 12   demanda 1~DEPOSITO :   1~|NOMBRE : carp~COMENTARIO : none~VERTICES : 12~ARISTAS_REQ : 22~ARISTAS_NOREQ : 0~VEHICULOS : 5~CAPACIDAD : 5~TIPO_COSTES_ARISTAS : EXPLICITOS~COSTE_TOTAL_REQ : 252~LISTA_ARISTAS_REQ :~( 1, 2) coste 13 demanda 1~( 1, 4) coste 17 demanda 1~( 1, 7) coste 19 demanda 1~( 1, 10) coste 19 demanda 1~( 1, 12) coste 4 demanda 1~( 2, 3) coste 18 demanda 1~( 2, 4) coste 9 demanda 1~( 2, 9) coste 2 demanda 1~( 3, 4) coste 20 demanda 1~( 3, 5) coste 5 demanda 1~( 5, 6) coste 7 demanda 1~( 5, 11) coste 20 demanda 1~( 5, 12) coste 11 demanda 1~( 6, 7) coste 4 demanda 1~( 6, 12) coste 3 demanda 1~( 7, 8) coste 8 demanda 1~( 7, 12) coste 18 demanda 1~( 8, 10) coste 3 demanda 1~( 8, 11) coste 10 demanda 1~( 9, 10) coste 16 demanda 1~( 9, 11) coste 14 demanda 1~( 10, 11) coste 12 demanda 1~LISTA_ARISTAS_NOREQ :~DEPOSITO : 1~\n\
+    NOMBRE : star~VERTICES : 7~ARISTAS_REQ : 5~ARISTAS_NOREQ : 1~VEHICULOS : 3~CAPACIDAD : 5~LISTA_ARISTAS_REQ :~( 2, 3) coste 1 demanda 2~( 2, 4) coste 1 demanda 2~( 2, 5) coste 1 demanda 2~( 2, 6) coste 1 demanda 2~( 2, 7) coste 1 demanda 2~LISTA_ARISTAS_NOREQ :~( 1, 2) coste 100~DEPOSITO : 1~|NOMBRE : carp~COMENTARIO : none~VERTICES : 7~ARISTAS_REQ : 5~ARISTAS_NOREQ : 1~VEHICULOS : 2~CAPACIDAD : 5~TIPO_COSTES_ARISTAS : EXPLICITOS~COSTE_TOTAL_REQ : 5~LISTA_ARISTAS_REQ :~( 2, 3) coste 1 demanda 2~( 2, 4) coste 1 demanda 2~( 2, 5) coste 1 demanda 2~( 2, 6) coste 1 demanda 2~( 2, 7) coste 1 demanda 2~LISTA_ARISTAS_NOREQ :~( 1, 2) coste 100~DEPOSITO : 1~\n\
+    DEPOSITO 3~LISTA_ARISTAS_NOREQ~(3,1)coste7demanda0~CAPACIDAD 9~LISTA_ARISTAS_REQ~(1,2)coste5demanda3servicio9~VERTICES 3~( 2 , 3 ) coste 004 demanda 09~ARISTAS_REQ 2|NOMBRE : carp~COMENTARIO : none~VERTICES : 3~ARISTAS_REQ : 2~ARISTAS_NOREQ : 1~VEHICULOS : 2~CAPACIDAD : 9~TIPO_COSTES_ARISTAS : EXPLICITOS~COSTE_TOTAL_REQ : 13~LISTA_ARISTAS_REQ :~( 1, 2) coste 5 demanda 3 servicio 9~( 2, 3) coste 4 demanda 9~LISTA_ARISTAS_NOREQ :~( 3, 1) coste 7~DEPOSITO : 3~\n\
+    VERTICES 1~ARISTAS_REQ 0~CAPACIDAD 30000~DEPOSITO 1|NOMBRE : carp~COMENTARIO : none~VERTICES : 1~ARISTAS_REQ : 0~ARISTAS_NOREQ : 0~VEHICULOS : 0~CAPACIDAD : 30000~TIPO_COSTES_ARISTAS : EXPLICITOS~COSTE_TOTAL_REQ : 0~LISTA_ARISTAS_REQ :~LISTA_ARISTAS_NOREQ :~DEPOSITO : 1~";
+
+fn read_of(alloc: Global, text: &str) -> Result<Option<Instance>, Fail> {
+    let bytes = bytes_of(alloc, text)?;
+    if bytes.len() > 2000 {
+        return Ok(None);
+    }
+    match read_dat(alloc, &bytes) {
+        Ok(inst) => Ok(Some(inst)),
+        Err(_) => Ok(None),
+    }
+}
+
+fn is_written_as(alloc: Global, inst: &Instance, text: &str) -> Result<bool, Fail> {
+    match write_dat(alloc, inst) {
+        Ok(written) => Ok(written[..] == bytes_of(alloc, text)?[..]),
+        Err(_) => Err(AllocError)?,
+    }
+}
+
+// Whether a text is read, and the instance written as the other text.
+fn is_rewritten(alloc: Global, text: &str, wanted: &str) -> Result<bool, Fail> {
+    match read_of(alloc, text)? {
+        Some(inst) => is_written_as(alloc, &inst, wanted),
+        None => Ok(false),
+    }
 }
 
 #[test]
-fn tells_required_edges(rt: HostRuntime) -> Result<(), std::test::Fail> {
-    for row in REQUIRED_LINES.split('\n') {
-        assert!(rt; row.len() < 1000);
-        assert!(rt; agrees(rt.alloc(), row.as_bytes())?, "{row:?}");
+fn what_is_read_is_written(rt: HostRuntime) -> Result<(), Fail> {
+    for row in WRITTEN.split('\n') {
+        let (text, wanted) = row.split_once('|').unwrap_or(("", row));
+        assert!(rt; is_rewritten(rt.alloc(), text, wanted)?, "{row:?}");
+        assert!(rt; is_rewritten(rt.alloc(), wanted, wanted)?, "{row:?}");
     }
     Ok(())
 }
 
-#[test]
-fn tells_other_edges(rt: HostRuntime) -> Result<(), std::test::Fail> {
-    for row in OTHER_LINES.split('\n') {
-        assert!(rt; row.len() < 1000);
-        assert!(rt; agrees(rt.alloc(), row.as_bytes())?, "{row:?}");
-    }
-    Ok(())
-}
-
-#[test]
-fn answers_the_first_fault(rt: HostRuntime) -> Result<(), std::test::Fail> {
-    for row in WHOLE_TEXTS.split('\n') {
-        assert!(rt; row.len() < 1000);
-        assert!(rt; agrees(rt.alloc(), row.as_bytes())?, "{row:?}");
-    }
-    Ok(())
-}
-
-// A file in the layout of the data set gdb.
-const SAMPLE: &[u8] = b"NOMBRE : sample\n\
-    COMENTARIO : 22 streets, all required\n\
-    VERTICES : 12\n\
-    ARISTAS_REQ : 22\n\
-    ARISTAS_NOREQ : 0\n\
-    VEHICULOS : 5\n\
-    CAPACIDAD : 5\n\
-    TIPO_COSTES_ARISTAS : EXPLICITOS\n\
-    COSTE_TOTAL_REQ : 252\n\
-    LISTA_ARISTAS_REQ :\n\
-    ( 1, 2)   coste 13   demanda 1\n\
-    ( 1, 4)   coste 17   demanda 1\n\
-    ( 1, 7)   coste 19   demanda 1\n\
-    ( 1,10)   coste 19   demanda 1\n\
-    ( 1,12)   coste 4   demanda 1\n\
-    ( 2, 3)   coste 18   demanda 1\n\
-    ( 2, 4)   coste 9   demanda 1\n\
-    ( 2, 9)   coste 2   demanda 1\n\
-    ( 3, 4)   coste 20   demanda 1\n\
-    ( 3, 5)   coste 5   demanda 1\n\
-    ( 5, 6)   coste 7   demanda 1\n\
-    ( 5,11)   coste 20   demanda 1\n\
-    ( 5,12)   coste 11   demanda 1\n\
-    ( 6, 7)   coste 4   demanda 1\n\
-    ( 6,12)   coste 3   demanda 1\n\
-    ( 7, 8)   coste 8   demanda 1\n\
-    ( 7,12)   coste 18   demanda 1\n\
-    ( 8,10)   coste 3   demanda 1\n\
-    ( 8,11)   coste 10   demanda 1\n\
-    ( 9,10)   coste 16   demanda 1\n\
-    ( 9,11)   coste 14   demanda 1\n\
-    (10,11)   coste 12   demanda 1\n\
-    DEPOSITO :   1\n";
-
-const CRLF: &[u8] =
-    b"vertices : 2\r\naristas_req 1\r\n\tComentario caf\xc3\xa9\xff\r\nCapacidad: 1\r\n\
-    lista_aristas_req :\r\n\r\n(1,2)COSTE 5 Demanda 1\r\ndeposito : 1";
-
-const CRLF_CENTRAL: &[u8] =
-    b"vertices : 2\r\naristas_req 1\r\n\tComentario caf\xc3\xa9\xff\r\nCapacidad: 1\r\n\
-    lista_aristas_req :\r\n\r\n(1,2)COSTE 5 Demanda 1\r\ndeposito : 1 central\r\nEND";
-
-const STAR: &[u8] =
-    b"NOMBRE : star\nVERTICES : 7\nARISTAS_REQ : 5\nARISTAS_NOREQ : 1\nVEHICULOS : 3\nCAPACIDAD : 5\n\
-    LISTA_ARISTAS_REQ :\n( 2, 3) coste 1 demanda 2\n( 2, 4) coste 1 demanda 2\n( 2, 5) coste 1 demanda 2\n\
-    ( 2, 6) coste 1 demanda 2\n( 2, 7) coste 1 demanda 2\nLISTA_ARISTAS_NOREQ :\n( 1, 2) coste 100\nDEPOSITO : 1\n";
-
-// The lists change places, and the depot stands first.
-const SERVICES: &[u8] =
-    b"DEPOSITO 3\nLISTA_ARISTAS_NOREQ\n(3,1)coste7demanda0\nCAPACIDAD 9\nLISTA_ARISTAS_REQ\n\
-    (1,2)coste5demanda3servicio9\nVERTICES 3\n( 2 , 3 ) coste 004 demanda 09\nARISTAS_REQ 2";
-
-fn edge(u: u32, v: u32, cost: u64, demand: u64, service: u64) -> Edge {
-    Edge {
+fn raw(u: u64, v: u64, cost: u64, demand: u64, service: u64) -> RawEdge {
+    RawEdge {
         u,
         v,
         cost,
@@ -238,63 +210,30 @@ fn edge(u: u32, v: u32, cost: u64, demand: u64, service: u64) -> Edge {
     }
 }
 
-// Each row: a text; the vertices, depot, capacity, required edges and edges; the cost of all edges; the first edge and
-// the last.
+// Two required edges, of which one has a service cost of its own, and one other edge.
+const TWO_LISTS: &str =
+    "NOMBRE : carp~COMENTARIO : none~VERTICES : 4~ARISTAS_REQ : 2~ARISTAS_NOREQ : 1~VEHICULOS : 2~CAPACIDAD : 5~TIPO_COSTES_ARISTAS : EXPLICITOS~COSTE_TOTAL_REQ : 15~LISTA_ARISTAS_REQ :~( 1, 2) coste 3 demanda 3~( 2, 3) coste 10 demanda 4 servicio 12~LISTA_ARISTAS_NOREQ :~( 3, 4) coste 1000000~DEPOSITO : 2~";
+
 #[test]
-fn reads_instances(rt: HostRuntime) {
-    let street = edge(1, 2, 5, 1, 5);
-    let rows = [
+fn an_instance_is_written_and_read_back(rt: HostRuntime) -> Result<(), Fail> {
+    let required = [raw(1, 2, 3, 3, 3), raw(2, 3, 10, 4, 12)];
+    let others = [raw(3, 4, 1_000_000, 7, 8)];
+    let Ok(inst) = Instance::build(rt.alloc(), 4, 2, 5, &required, &others) else {
+        panic!(rt; "it is valid");
+    };
+    assert!(rt; is_written_as(rt.alloc(), &inst, TWO_LISTS)?);
+    let Some(read) = read_of(rt.alloc(), TWO_LISTS)? else {
+        panic!(rt; "a text that was written is refused");
+    };
+    assert_eq!(rt;
         (
-            SAMPLE,
-            [12, 1, 5, 22, 22],
-            252,
-            edge(1, 2, 13, 1, 13),
-            edge(10, 11, 12, 1, 12),
+            read.vertices(),
+            read.depot(),
+            read.capacity(),
+            read.required()
         ),
-        (CRLF, [2, 1, 1, 1, 1], 5, street, street),
-        (CRLF_CENTRAL, [2, 1, 1, 1, 1], 5, street, street),
-        (
-            STAR,
-            [7, 1, 5, 5, 6],
-            105,
-            edge(2, 3, 1, 2, 1),
-            edge(1, 2, 100, 0, 0),
-        ),
-        (
-            SERVICES,
-            [3, 3, 9, 2, 3],
-            16,
-            edge(1, 2, 5, 3, 9),
-            edge(3, 1, 7, 0, 0),
-        ),
-    ];
-    for (text, numbers, cost, first, last) in rows {
-        assert!(rt; text.len() < 2000);
-        let Ok(instance) = read_dat(rt.alloc(), text) else {
-            panic!(rt; "a text of {numbers:?} is refused");
-        };
-        assert_eq!(rt; numbers_of(&instance), numbers);
-        assert_eq!(rt; total_cost(&instance), cost);
-        assert!(rt; instance.edge_count() > 0);
-        assert_eq!(rt; instance.edge(1), first);
-        assert_eq!(rt; instance.edge(instance.edge_count()), last);
-    }
-}
-
-fn numbers_of(instance: &Instance) -> [u64; 5] {
-    [
-        u64::from(instance.vertices()),
-        u64::from(instance.depot()),
-        instance.capacity(),
-        u64::from(instance.required()),
-        u64::from(instance.edge_count()),
-    ]
-}
-
-fn total_cost(instance: &Instance) -> u64 {
-    let mut total: u64 = 0;
-    for e in 1..=instance.edge_count() {
-        total = total.saturating_add(instance.edge(e).cost);
-    }
-    total
+        (4, 2, 5, 2)
+    );
+    assert_eq!(rt; read.edges(), inst.edges());
+    Ok(())
 }
