@@ -1,0 +1,82 @@
+// The top call with the four helpers that `main` makes, over files in memory.
+use augment_merge::Merger;
+use carp_cli::{Status, run};
+use carp_engine::dismiss;
+use carp_outside::{MemShelf, MemSink};
+use giant_split::Splitter;
+use local_moves::Mover;
+use path_scanning::Scanner;
+use plan_model::Proposer;
+use std::alloc::Global;
+use std::process::Abort;
+use std::test::Fail;
+
+// A triangle of streets that fits one vehicle, and two streets between the same vertices.
+const TRIANGLE: &str = "VERTICES : 3
+ARISTAS_REQ : 3
+CAPACIDAD : 3
+LISTA_ARISTAS_REQ :
+( 1, 2) coste 5 demanda 1
+( 2, 3) coste 7 demanda 1
+( 1, 3) coste 4 demanda 1
+DEPOSITO : 1
+";
+const TWO_STREETS: &str = "VERTICES : 2
+ARISTAS_REQ : 2
+CAPACIDAD : 2
+LISTA_ARISTAS_REQ :
+( 1, 2) coste 3 demanda 1
+( 1, 2) coste 4 demanda 1
+DEPOSITO : 1
+";
+
+// What is answered to a file, with helpers of ids 1 to 4, and the front of what is written.
+fn expect(
+    rt: &impl Abort,
+    alloc: Global,
+    file: &str,
+    status: Status,
+    front: &str,
+) -> Result<(), Fail> {
+    let mut shelf = MemShelf::new(alloc, 65_536, Vec::new(alloc), Vec::new(alloc));
+    shelf.place("file", file.as_bytes())?;
+    shelf.ready("cert", 16_777_216)?;
+    let mut out = MemSink::new(alloc, 1_048_576, 65_536, Vec::new(alloc))?;
+    let mut words = Vec::new(alloc);
+    for word in ["solve", "file", "cert"] {
+        words.push(String::from_str(alloc, word)?)?;
+    }
+    let mut helpers: Vec<Box<dyn Proposer>> = Vec::new(alloc);
+    helpers.push(Box::new(alloc, Scanner::new(alloc, 1))?)?;
+    helpers.push(Box::new(alloc, Merger::new(alloc, 2))?)?;
+    helpers.push(Box::new(alloc, Splitter::new(alloc, 3))?)?;
+    helpers.push(Box::new(alloc, Mover::new(alloc, 4))?)?;
+    assert_eq!(rt; run(alloc, &words, &mut shelf, &mut out, &mut helpers), status);
+    assert!(rt; out.written().starts_with(front.as_bytes()));
+    dismiss(&mut helpers);
+    assert_eq!(rt; helpers.len(), 4);
+    Ok(())
+}
+
+#[test]
+fn round_tours_are_found_and_proven(rt: HostRuntime) -> Result<(), Fail> {
+    let alloc = rt.alloc();
+    let front = "instance vertices 3 edges 3 required 3 capacity 3 demand 3
+cost 16
+bound 16
+turns 1
+proven
+tours 1
+tour 1 load 3 cost 16 route 1=";
+    expect(&rt, alloc, TRIANGLE, Status::Proven, front)?;
+    let front = "instance vertices 2 edges 2 required 2 capacity 2 demand 2
+cost 7
+bound 7
+turns 1
+proven
+tours 1
+tour 1 load 2 cost 7 route 1=2=1
+";
+    expect(&rt, alloc, TWO_STREETS, Status::Proven, front)?;
+    Ok(())
+}
