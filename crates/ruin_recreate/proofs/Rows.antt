@@ -1,12 +1,12 @@
 -- Links that come to a row, and rows that come to a table.
-use Rattle.std.proofs.Common.{◌≡◌, ℕ, ◌+◌, ◌-◌, ◌*◌, ◌<◌, ◌≤◌, List, [], ◌∷◌, ◌++◌, length, get_or, sym, ap, ◌∙◌, arith, subst, append_assoc, inl, inr}
+use Rattle.std.proofs.Common.{◌≡◌, ℕ, ◌+◌, ◌-◌, ◌*◌, ◌/◌, ◌<◌, ◌≤◌, List, [], ◌∷◌, ◌++◌, length, get_or, sym, ap, ◌∙◌, arith, subst, append_assoc, inl, inr}
 use Rattle.std.proofs.lemmas.List.{length-append, length_push, get_or_append_left, get_or-append_right, get_or_push}
 use Rattle.std.proofs.lemmas.List.Elements.{All-push, All-append}
 use Rattle.std.proofs.lemmas.Bool.{cases_lt}
 use Rattle.std.proofs.lemmas.Nat.{row_fits}
-use Rattle.carp_base.specs.Problem.{Problem}
+use Rattle.carp_base.specs.Problem.{Problem, edge_at}
 use Rattle.ruin_recreate.specs.declared.board.Board.{Board}
-use Rattle.ruin_recreate.specs.Boards.{IsBoardOf}
+use Rattle.ruin_recreate.specs.Boards.{IsBoardOf, edge_of, other_way}
 use Rattle.ruin_recreate.specs.Tables.{IsLink, IsRow, AddsLinks, AddsRow, AreRows, AreLinks, AreDemands, AreTurns}
 
 -- one more link of a row
@@ -45,6 +45,27 @@ rows_more p x before after rows adds = subst (AreRows p (2 * p.required + 2) (x 
       ];
       near = All-append (λ k. k ≤ 999000000) before row rows.near is.near;
     }
+
+-- one more number of a list that has what a function gives for each place
+place_more : (f : ℕ → ℕ) (xs : List ℕ) (n v : ℕ) → length xs ≡ n → ((x : ℕ) → x < n → get_or xs x 0 ≡ f x) → v ≡ f n → (x : ℕ) → x < n + 1 → get_or (xs ++ v ∷ []) x 0 ≡ f x
+place_more f xs n v long each is x before = elim (cases_lt x n) [
+  | inl earlier ↦ get_or_append_left xs (v ∷ []) 0 x (omega (arith, long)) ∙ each x earlier
+  | inr here ↦ let same : x ≡ n = omega arith in get_or_push xs v 0 x (long ∙ sym same) ∙ is ∙ ap f (sym same)
+]
+
+pub demands_more : (p : Problem) (n v : ℕ) (xs next : List ℕ) → AreDemands p n xs → v ≡ (edge_at p (edge_of n)).demand → v ≤ 30000 → next ≡ xs ++ v ∷ [] → AreDemands p (n + 1) next
+demands_more p n v xs next are value light is = subst (AreDemands p (n + 1)) (sym is) (record {
+  long = omega (arith, are.long, length_push xs v);
+  each = place_more (λ x. (edge_at p (edge_of x)).demand) xs n v are.long are.each value;
+  light = All-push (λ k. k ≤ 30000) xs v are.light light;
+})
+
+pub turns_more : (r n v : ℕ) (xs next : List ℕ) → AreTurns (2 * r + 2) n xs → n < 2 * r + 2 → v ≡ other_way n → v / 2 ≡ n / 2 → next ≡ xs ++ v ∷ [] → AreTurns (2 * r + 2) (n + 1) next
+turns_more r n v xs next are within value same is = subst (AreTurns (2 * r + 2) (n + 1)) (sym is) (record {
+  long = omega (arith, are.long, length_push xs v);
+  each = place_more other_way xs n v are.long are.each value;
+  within = All-push (λ k. k < 2 * r + 2) xs v are.within (omega (arith, same, within));
+})
 
 -- the tables as a board
 pub board_is : (p : Problem) (b : Board) → b.width ≡ 2 * p.required + 2 → b.room ≡ p.capacity → AreLinks p (2 * p.required + 2) b.links.items → AreDemands p (2 * p.required + 2) b.demands.items →

@@ -1,5 +1,5 @@
 // The nearest edges of each edge.
-ghost use Rattle.std.specs.Prelude.{◌≡◌, ◌/◌, ◌<◌, IfOk, length};
+ghost use Rattle.std.specs.Prelude.{◌≡◌, ◌+◌, ◌*◌, ◌/◌, ◌<◌, IfOk, length};
 ghost use Rattle.ruin_recreate.specs.Boards.{IsBoard};
 
 use crate::board::Board;
@@ -15,22 +15,21 @@ pub(crate) type Neighbours = [u32; COUNT];
 // The least of the links between two edges, in any directions.
 fn apart(board: &Board, e: u32, f: u32) -> u32
     requires board { IsBoard board.now }
-    requires first { e < board.now.width / 2 }
-    requires second { f < board.now.width / 2 }
+    requires first { 2 * e + 1 < board.now.width }
+    requires second { 2 * f + 1 < board.now.width }
 {
-    let ahead = board
-        .between(2 * e, 2 * f)
-        .min(board.between(2 * e, 2 * f + 1));
+    let (from, to) = (2 * e, 2 * f);
+    let ahead = board.between(from, to).min(board.between(from, to + 1));
     let back = board
-        .between(2 * e + 1, 2 * f)
-        .min(board.between(2 * e + 1, 2 * f + 1));
+        .between(from + 1, to)
+        .min(board.between(from + 1, to + 1));
     ahead.min(back)
 }
 
 // Lists the other edges by rising distance, and then by number.
 fn sort_others(board: &Board, e: u32, others: &mut Vec<(u32, u32)>) -> Result<(), Memory>
     requires board { IsBoard board.now }
-    requires edge { e < board.now.width / 2 }
+    requires edge { 2 * e + 1 < board.now.width }
 {
     others.clear();
     for f in 1..board.edges() + 1 {

@@ -2,7 +2,7 @@
 ghost use Rattle.std.specs.Prelude.{◌≡◌, ◌+◌, ◌/◌, ◌<◌, ◌≤◌, [], IfOk, OnOk, length};
 ghost use Rattle.std.specs.List.{All};
 ghost use Rattle.ruin_recreate.specs.Boards.{IsBoard};
-ghost use Rattle.ruin_recreate.specs.Search.{IsRoundOn};
+ghost use Rattle.ruin_recreate.specs.Search.{IsGapOn, IsRoundOn};
 
 use crate::board::Board;
 use carp_base::Memory;
@@ -16,6 +16,30 @@ pub(crate) struct Gap {
     pub(crate) turned: u32,
     pub(crate) to: u32,
     pub(crate) price: u32,
+}
+
+impl Gap {
+    // The gaps before and behind a stop that is put in between.
+    fn halves(self, board: &Board, stop: u32) -> (Gap, Gap)
+        requires board { IsBoard board.now }
+        requires gap { IsGapOn board.now.width self }
+        requires stop { stop < board.now.width }
+        ensures before { IsGapOn board.now.width result.0 }
+        ensures behind { IsGapOn board.now.width result.1 }
+    {
+        let turned = board.turn(stop);
+        let before = Gap {
+            turned: self.turned,
+            to: stop,
+            price: board.between(turned, self.turned),
+        };
+        let behind = Gap {
+            turned,
+            to: self.to,
+            price: board.between(stop, self.to),
+        };
+        (before, behind)
+    }
 }
 
 #[derive(Clone, Copy)]
@@ -201,23 +225,10 @@ impl Round {
             return Ok(());
         }
         let gap = self.gaps[place];
-        let turned = board.turn(stop);
-        let before = board.between(turned, gap.turned);
-        let behind = board.between(stop, gap.to);
-        self.gaps[place] = Gap {
-            turned: gap.turned,
-            to: stop,
-            price: before,
-        };
-        self.gaps.insert(
-            place + 1,
-            Gap {
-                turned,
-                to: gap.to,
-                price: behind,
-            },
-        )?;
-        let rise = u64::from(before) + u64::from(behind);
+        let (before, behind) = gap.halves(board, stop);
+        self.gaps[place] = before;
+        self.gaps.insert(place + 1, behind)?;
+        let rise = u64::from(before.price) + u64::from(behind.price);
         self.deadheads = self
             .deadheads
             .saturating_add(rise)

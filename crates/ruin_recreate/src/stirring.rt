@@ -1,5 +1,5 @@
 // Ruin and recreate.
-ghost use Rattle.std.specs.Prelude.{◌≡◌, ◌<◌, IfOk, length};
+ghost use Rattle.std.specs.Prelude.{◌≡◌, ◌<◌, ◌≤◌, IfOk, length};
 ghost use Rattle.std.specs.List.{All};
 ghost use Rattle.ruin_recreate.specs.Boards.{IsBoard};
 
@@ -11,6 +11,13 @@ use std::alloc::Global;
 
 // The greatest number of steps in all.
 const MOST_STEPS: u32 = 120_000;
+
+// How many steps there are in all.
+fn steps(edges: u32) -> u32
+    requires { edges ≤ 600 }
+{
+    (8_000 + 18 * edges * edges).min(MOST_STEPS)
+}
 
 /// Looks for a cheaper round by ruin and recreate (Schrimpf, Schneider, Stamm-Wilbrandt and Dueck 2000): strings of services near
 /// one another are taken out of their tours (Christiaens and Vanden Berghe 2020) and each is put back where it costs least, and
@@ -41,7 +48,7 @@ pub fn stir(
         return Ok(start);
     }
     let annealings = (600 / edges).clamp(1, 6);
-    let steps = (8_000 + 18 * edges * edges).min(MOST_STEPS) / annealings;
+    let steps = steps(edges) / annealings;
     let mut search = Search::new(alloc, board, start)?;
     search.anneal(board, costs, steps, generator)?;
     for _ in 1..annealings {

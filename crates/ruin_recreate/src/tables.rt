@@ -1,7 +1,8 @@
 // The board of an instance.
-ghost use Rattle.std.specs.Prelude.{◌≡◌, ◌+◌, ◌*◌, ◌<◌, ◌≤◌, ◌++◌, IfOk, OnOk, length};
+ghost use Rattle.std.specs.Prelude.{◌≡◌, ◌+◌, ◌*◌, ◌/◌, ◌^◌, ◌<◌, ◌≤◌, IfOk, OnOk};
+ghost use Rattle.carp_base.specs.Problem.{edge_at};
 ghost use Rattle.deadhead_paths.specs.Prices.{costs_of};
-ghost use Rattle.ruin_recreate.specs.Boards.{IsBoard, IsBoardOf, end_of, start_of};
+ghost use Rattle.ruin_recreate.specs.Boards.{IsBoard, IsBoardOf, edge_of, end_of, other_way, start_of};
 ghost use Rattle.ruin_recreate.specs.Tables.{AddsRow, AreDemands, AreLinks, AreTurns, IsLink};
 ghost use Rattle.task_tours.specs.Tours.{IsStand};
 
@@ -71,18 +72,45 @@ fn links_of(alloc: Global, inst: &Instance, dist: &Distances) -> Result<Vec<u32>
     Ok(links)
 }
 
+// What a stop loads.
+fn demand(inst: &Instance, x: u32) -> u32
+    requires { x < 2 * inst.now.required + 2 }
+    ensures value { result ≡ (edge_at inst.now (edge_of x)).demand }
+    ensures light { result ≤ 30000 }
+{
+    // What a read of the instance says of it is needed: that it is valid.
+    let _ = inst.vertices();
+    if x / 2 == 0 {
+        return 0;
+    }
+    inst.edge(x / 2).demand as u32
+}
+
 // What each stop loads.
 fn demands_of(alloc: Global, inst: &Instance) -> Result<Vec<u32>, Memory>
     ensures { IfOk result (λ demands. AreDemands inst.now (2 * inst.now.required + 2) demands.items) }
 {
     let width = 2 * inst.required() + 2;
     let mut demands = Vec::with_capacity(alloc, width as usize)?;
-    demands.push(0)?;
-    demands.push(0)?;
-    for x in 2..width {
-        demands.push(inst.edge(x / 2).demand as u32)?;
+    for x in 0..width {
+        demands.push(demand(inst, x))?;
     }
     Ok(demands)
+}
+
+// The service of the same edge in the other direction.
+fn turn(x: u32) -> u32
+    requires { x < 2 ^ 31 }
+    ensures value { result ≡ other_way x }
+    ensures same_edge { result / 2 ≡ x / 2 }
+{
+    if x / 2 == 0 {
+        x
+    } else if x % 2 == 0 {
+        x + 1
+    } else {
+        x - 1
+    }
 }
 
 // The other direction of each stop.
@@ -91,10 +119,8 @@ fn turns_of(alloc: Global, inst: &Instance) -> Result<Vec<u32>, Memory>
 {
     let width = 2 * inst.required() + 2;
     let mut turns = Vec::with_capacity(alloc, width as usize)?;
-    turns.push(0)?;
-    turns.push(1)?;
-    for x in 2..width {
-        turns.push(if x % 2 == 0 { x + 1 } else { x - 1 })?;
+    for x in 0..width {
+        turns.push(turn(x))?;
     }
     Ok(turns)
 }
