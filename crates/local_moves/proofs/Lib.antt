@@ -1,0 +1,6 @@
+mod Deltas
+mod Later
+mod Kept
+mod Rooms
+mod Quiet
+mod Closing

@@ -1,0 +1,9 @@
+use Rattle.std.proofs.Common.{◌≡◌, ◌≤◌, ◌*◌, drop}
+use Rattle.local_moves.specs.Rounds.{fits, fits_from}
+use Rattle.local_moves.proofs.rounds.fits.Given as goal
+
+abbrev pub invariant-loop-i : goal.invariant-loop-i
+invariant-loop-i l = record {
+  small : l.load ≤ 30000 * l.i;
+  same : fits l.board l.round ≡ fits_from l.board l.load (drop l.i l.round);
+}

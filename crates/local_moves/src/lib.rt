@@ -1,0 +1,11 @@
+//! Plans that no small change makes cheaper.
+#![tactic(auto)]
+
+mod flips;
+mod loads;
+mod moves;
+mod opening;
+mod rounds;
+mod searching;
+mod settling;
+mod swaps;

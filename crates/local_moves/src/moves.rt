@@ -1,0 +1,110 @@
+// Moves of one service to another place.
+ghost use Rattle.std.specs.Prelude.{◌≡◌, ◌≢◌, ℕ, ◌<◌, ◌≤◌, ◌+◌, IfOk, MatchOption, length, slice_index};
+ghost use Rattle.std.specs.List.{remove};
+ghost use Rattle.ruin_recreate.specs.Boards.{edge_of};
+ghost use Rattle.local_moves.specs.Loads.{AreLoads};
+ghost use Rattle.local_moves.specs.Rounds.{IsLater, IsRound, IsService, IsStopBoard, NoInsert, NoMove};
+
+use crate::loads::Loads;
+use crate::rounds::{accept, turn};
+use carp_base::Memory;
+use ruin_recreate::Board;
+use std::alloc::Global;
+
+// The round with a service taken from its place and put, as `x`, to a place of the rest, where that is better.
+fn try_insert(
+    alloc: Global,
+    board: &Board,
+    round: &[u32],
+    rest: &[u32],
+    loads: &Loads,
+    from: usize,
+    x: u32,
+    to: usize,
+) -> Result<Option<Vec<u32>>, Memory>
+    requires board { IsStopBoard board.now }
+    requires round { IsRound board.now round.now }
+    requires service { IsService round.now from }
+    requires rest { rest.now ≡ remove round.now from }
+    requires rest_round { IsRound board.now rest.now }
+    requires loads { AreLoads board.now rest.now loads.now }
+    requires x { x < board.now.width }
+    requires real { x ≢ 1 }
+    requires some { 1 ≤ x }
+    requires edge { edge_of x ≡ edge_of (slice_index round.now from) }
+    requires to_first { 1 ≤ to }
+    requires to_last { to < length rest.now }
+    ensures { IfOk result (λ found. MatchOption found (NoInsert board.now round.now from x to) (λ next. IsLater board.now round.now next.items)) }
+{
+    if !loads.has_room(board, to, to, x) {
+        return Ok(None);
+    }
+    let old = board.between(round[from - 1], round[from])
+        + board.between(round[from], round[from + 1])
+        + board.between(rest[to - 1], rest[to]);
+    let new = board.between(round[from - 1], round[from + 1])
+        + board.between(rest[to - 1], x)
+        + board.between(x, rest[to]);
+    if new >= old {
+        return Ok(None);
+    }
+    let mut changed = Vec::from_slice(alloc, rest)?;
+    changed.insert(to, x)?;
+    Ok(accept(board, changed))
+}
+
+// The same over all places of the rest.
+fn find_place(
+    alloc: Global,
+    board: &Board,
+    round: &[u32],
+    rest: &[u32],
+    loads: &Loads,
+    from: usize,
+    x: u32,
+) -> Result<Option<Vec<u32>>, Memory>
+    requires board { IsStopBoard board.now }
+    requires round { IsRound board.now round.now }
+    requires service { IsService round.now from }
+    requires rest { rest.now ≡ remove round.now from }
+    requires rest_round { IsRound board.now rest.now }
+    requires loads { AreLoads board.now rest.now loads.now }
+    requires x { x < board.now.width }
+    requires real { x ≢ 1 }
+    requires some { 1 ≤ x }
+    requires edge { edge_of x ≡ edge_of (slice_index round.now from) }
+    ensures { IfOk result (λ found. MatchOption found ((to : ℕ) → 1 ≤ to → to < length rest.now → NoInsert board.now round.now from x to) (λ next. IsLater board.now round.now next.items)) }
+{
+    for to in 1..rest.len() {
+        if let Some(next) = try_insert(alloc, board, round, rest, loads, from, x, to)? {
+            return Ok(Some(next));
+        }
+    }
+    Ok(None)
+}
+
+// A move of the service at a place that is better, if there is one.
+pub(crate) fn try_move(
+    alloc: Global,
+    board: &Board,
+    round: &[u32],
+    from: usize,
+) -> Result<Option<Vec<u32>>, Memory>
+    requires board { IsStopBoard board.now }
+    requires round { IsRound board.now round.now }
+    requires after_first { 1 ≤ from }
+    requires before_last { from + 1 < length round.now }
+    ensures { IfOk result (λ found. MatchOption found (NoMove board.now round.now from) (λ next. IsLater board.now round.now next.items)) }
+{
+    let x = round[from];
+    if x == 0 {
+        return Ok(None);
+    }
+    let mut rest = Vec::from_slice(alloc, round)?;
+    rest.remove(from);
+    let loads = Loads::of(alloc, board, &rest)?;
+    if let Some(next) = find_place(alloc, board, round, &rest, &loads, from, x)? {
+        return Ok(Some(next));
+    }
+    find_place(alloc, board, round, &rest, &loads, from, turn(board, x))
+}
