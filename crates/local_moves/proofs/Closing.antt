@@ -1,12 +1,12 @@
 -- A round without one of two depots that stand side by side.
-use Rattle.std.proofs.Common.{◌≡◌, ◌≢◌, ℕ, zero, suc, ◌+◌, ◌-◌, ◌<◌, ◌≤◌, Bool, true, false, ◌&&◌, List, [], ◌∷◌, length, get_or, refl, sym, ap, ◌∙◌, inl, inr, arith, leb}
+use Rattle.std.proofs.Common.{◌≡◌, ◌≢◌, ℕ, zero, suc, ◌+◌, ◌-◌, ◌<◌, ◌≤◌, Bool, true, ◌&&◌, List, [], ◌∷◌, length, get_or, refl, sym, ap, ◌∙◌, inl, inr, arith, leb}
 use Rattle.std.specs.Prelude.{IsTrue}
 use Rattle.std.specs.List.{remove}
 use Rattle.std.proofs.lemmas.Bool.{cases_lt}
 use Rattle.std.proofs.lemmas.List.Edits.{length-remove, get_or-remove_below, get_or-remove_above}
 use Rattle.ruin_recreate.specs.declared.board.Board.{Board}
 use Rattle.ruin_recreate.specs.Boards.{demand_of, link}
-use Rattle.local_moves.specs.Rounds.{IsNoDearer, IsRound, fits_from, links_of, KeepsServices}
+use Rattle.local_moves.specs.Rounds.{IsNoDearer, IsRound, fits_from, links_of}
 use Rattle.local_moves.proofs.Kept.{all_remove, remove_depot}
 use Rattle.local_moves.proofs.Rooms.{both, over_service}
 

@@ -4,3 +4,7 @@ mod Kept
 mod Rooms
 mod Quiet
 mod Closing
+mod Rounding
+mod Boarding
+mod Changing
+mod Composing

@@ -1,8 +1,8 @@
 -- From what was found out about each place to what is said of the round.
-use Rattle.std.proofs.Common.{◌≡◌, ℕ, ◌+◌, ◌-◌, ◌<◌, ◌≤◌, min, List, length, arith, inl, inr, subst}
+use Rattle.std.proofs.Common.{◌≡◌, ℕ, ◌+◌, ◌<◌, ◌≤◌, min, List, length, arith, inl, inr, subst}
 use Rattle.std.proofs.lemmas.Bool.{cases_lt}
 use Rattle.ruin_recreate.specs.declared.board.Board.{Board}
-use Rattle.local_moves.specs.Rounds.{IsBetter, IsQuiet, IsRoundChange, IsSettledRound, flips, moves, opens, swaps}
+use Rattle.local_moves.specs.Rounds.{IsBetter, IsQuiet, IsSettledRound, flips, moves, opens, swaps}
 
 settled_places : (b : Board) (xs : List ℕ) → ((k : ℕ) → 1 ≤ k → k + 1 < length xs → IsQuiet b xs k) → IsSettledRound b xs
 settled_places b xs quiet after change better = elim change [

@@ -1,6 +1,5 @@
 -- A change that does not fit is known from the loads beside the places.
 use Rattle.std.proofs.Common.{◌≡◌, ℕ, zero, suc, ◌+◌, ◌-◌, ◌<◌, ◌≤◌, Bool, true, false, cond, ◌&&◌, List, [], ◌∷◌, ◌++◌, length, get_or, set, take, drop, refl, sym, ap, ◌∙◌, subst, arith, leb, add-one}
-use Rattle.std.specs.Prelude.{IsTrue}
 use Rattle.std.specs.List.{insert}
 use Rattle.std.proofs.lemmas.Bool.{ne_eqb, leb-true, false≢true}
 use Rattle.std.proofs.lemmas.List.{take-append-drop, drop_more, take-set-le, drop-set-lt, drop-set-add, get_or-set_same, get_or-set_other, get_or-drop, length-set}

@@ -1,2 +1,4 @@
 pub mod Rounds
 pub mod Loads
+pub mod Stops
+pub mod Changes

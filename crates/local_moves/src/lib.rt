@@ -5,7 +5,11 @@ mod flips;
 mod loads;
 mod moves;
 mod opening;
+mod plans;
 mod rounds;
 mod searching;
 mod settling;
 mod swaps;
+mod tours;
+
+pub use plans::settle;

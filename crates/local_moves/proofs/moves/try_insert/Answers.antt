@@ -1,8 +1,8 @@
-use Rattle.std.proofs.Common.{◌≡◌, ◌<◌, ◌-◌, List, ℕ, arith, ap, subst, ◌∙◌, sym}
+use Rattle.std.proofs.Common.{◌≡◌, ◌<◌, List, ℕ, arith, ap, subst, ◌∙◌, sym}
 use Rattle.std.specs.Prelude.{IsTrue}
 use Rattle.std.specs.List.{All, insert}
 use Rattle.std.proofs.lemmas.Bool.{false≢true}
-use Rattle.local_moves.specs.Rounds.{IsRound, KeepsServices, links_of, fits}
+use Rattle.local_moves.specs.Rounds.{KeepsServices, links_of, fits}
 use Rattle.local_moves.proofs.Deltas.{remove_delta, insert_delta}
 use Rattle.local_moves.proofs.Kept.{insert_round, move_services}
 use Rattle.local_moves.proofs.Later.{answered, later}

@@ -1,4 +1,4 @@
-use Rattle.std.proofs.Common.{◌≡◌, List, ℕ, arith, ap, subst, ◌∙◌, sym}
+use Rattle.std.proofs.Common.{◌≡◌, ap, subst, ◌∙◌, sym}
 use Rattle.std.specs.List.{remove}
 use Rattle.local_moves.specs.Rounds.{IsRound}
 use Rattle.local_moves.proofs.Kept.{remove_round}

@@ -1,0 +1,67 @@
+// Settled plans.
+ghost use Rattle.std.specs.Prelude.{◌≡◌, ◌≤◌, ◌+◌, IfOk};
+ghost use Rattle.carp_base.specs.Problem.{required_cost};
+ghost use Rattle.plan_model.specs.Plans.{IsLawful, plan_cost};
+ghost use Rattle.deadhead_paths.specs.Prices.{costs_of};
+ghost use Rattle.ruin_recreate.specs.Boards.{IsBoard, IsBoardOf};
+ghost use Rattle.local_moves.specs.Changes.{IsSettledPlan};
+ghost use Rattle.local_moves.specs.Rounds.{links_of};
+ghost use Rattle.local_moves.specs.Stops.{IsFullRound};
+
+use crate::settling::settle_round;
+use crate::tours::{plan_of_round, round_of_plan};
+use carp_base::{Instance, Memory};
+use deadhead_paths::Distances;
+use plan_model::{Plan, required_edges_are_served_once};
+use ruin_recreate::{Board, board_of};
+use std::alloc::Global;
+use task_tours::plans_are_tours;
+
+// The settled plan that comes of a round.
+pub(crate) fn settle_from(
+    alloc: Global,
+    inst: &Instance,
+    dist: &Distances,
+    board: &Board,
+    round: Vec<u32>,
+) -> Result<Plan, Memory>
+    requires problem { dist.now.problem ≡ inst.now }
+    requires prices { dist.now.prices ≡ costs_of inst.now }
+    requires board { IsBoard board.now }
+    requires of { IsBoardOf inst.now board.now }
+    requires round { IsFullRound inst.now board.now round.items }
+    ensures lawful { IfOk result (IsLawful inst.now) }
+    ensures cost { IfOk result (λ plan. plan_cost inst.now plan ≤ required_cost inst.now + links_of board.now round.items) }
+    ensures settled { IfOk result (IsSettledPlan inst.now) }
+{
+    plans_are_tours();
+    // What a read of the instance says of it is needed: that it is valid.
+    let _ = inst.vertices();
+    let settled = settle_round(alloc, board, round)?;
+    plan_of_round(alloc, inst, dist, &settled)
+}
+
+/// A plan that no small change makes cheaper, and that costs no more than a lawful plan from which it comes.
+///
+/// A small change turns the direction of one service, moves one service, in either direction, to any place of any tour or to a
+/// tour of its own, or lets two services change places. Of all lawful plans whose tours are one such change away none costs
+/// less. The distances are those by cost.
+///
+/// With m required edges it takes time and space in proportion to m * m, and that time once more for about each pass over all
+/// services in which it finds a change.
+pub fn settle(alloc: Global, inst: &Instance, dist: &Distances, plan: &Plan) -> Result<Plan, Memory>
+    requires problem { dist.now.problem ≡ inst.now }
+    requires prices { dist.now.prices ≡ costs_of inst.now }
+    requires lawful { IsLawful inst.now plan.now }
+    ensures lawful { IfOk result (IsLawful inst.now) }
+    ensures cost { IfOk result (λ after. plan_cost inst.now after ≤ plan_cost inst.now plan.now) }
+    ensures settled { IfOk result (IsSettledPlan inst.now) }
+{
+    plans_are_tours();
+    required_edges_are_served_once();
+    // What a read of the instance says of it is needed: that it is valid.
+    let _ = inst.vertices();
+    let board = board_of(alloc, inst, dist)?;
+    let round = round_of_plan(alloc, inst, plan)?;
+    settle_from(alloc, inst, dist, &board, round)
+}
