@@ -8,7 +8,7 @@ use Rattle.carp_base.specs.Problem.{Problem, IsRequired}
 use Rattle.task_tours.specs.Tours.{all_tasks}
 use Rattle.ruin_recreate.specs.declared.board.Board.{Board}
 use Rattle.ruin_recreate.specs.Boards.{IsBoardOf, turned}
-use Rattle.local_moves.specs.Rounds.{IsEitherWay, IsFlip, IsMove, IsNewTour, IsRoundChange, IsService, IsSwap, flips, moves, opens, swaps}
+use Rattle.local_moves.specs.Rounds.{IsEitherWay, IsMove, IsNewTour, IsRoundChange, IsService, IsSwap, moves, opens, swaps}
 use Rattle.local_moves.specs.Stops.{round_of, stop_of}
 use Rattle.local_moves.specs.Changes.{IsChange, IsSameService, MovesOne, OpensOne, SwapsBetween, SwapsWithin, TakesOutTask, TurnsOne, moves_on, opens_tour, other_direction, swaps_between, swaps_within, turns}
 use Rattle.local_moves.proofs.Boarding.{stop_some, turned_stop}
@@ -78,27 +78,6 @@ taken_out t before rest o =
 served_there : (x : ℕ) (before rest : List ℕ) (own : IsInRound x before rest) → 1 ≤ x → IsService before own.at
 served_there x before rest own some = record { after_first = own.one; before_last = own.within; no_depot = omega (arith, own.is, some) }
 
-as_flip : (p : Problem) (b : Board) → IsBoardOf p b → (before after : List (List Task)) → AllByRecursion (λ t. IsRequired p t.edge) (all_tasks before) → TurnsOne before after →
-    IsFlip b (round_of before) (round_of after)
-as_flip p b of before after all w =
-    let required = task_there (λ t. IsRequired p t.edge) w.earlier w.later w.left w.t w.right (subst (λ ts. AllByRecursion (λ t. IsRequired p t.edge) (all_tasks ts)) w.was all) in
-    let f = front w.earlier w.left in
-    let ys = map stop_of w.right ++ round_of w.later in
-    let whole : round_of before ≡ f ++ (stop_of w.t ∷ ys) = ap round_of w.was ∙ cut_round w.earlier w.later w.left (w.t ∷ w.right) in
-    let own = place f ys (stop_of w.t) (round_of before) (f ++ ys) (front_some w.earlier w.left) (omega (arith, length-append (map stop_of w.right) (round_of w.later), round_some w.later)) whole refl in
-    let put : set (round_of before) (length f) (turned b (stop_of w.t)) ≡ f ++ (turned b (stop_of w.t) ∷ ys) = ap (λ zs. set zs (length f) (turned b (stop_of w.t))) whole ∙ set_at f (stop_of w.t) ys (turned b (stop_of w.t)) (length f) refl in
-    let read : get_or (round_of before) (length f) 0 ≡ stop_of w.t = ap (λ zs. get_or zs (length f) 0) whole ∙ get_or_at f (stop_of w.t) ys 0 (length f) refl in
-    record {
-      at = length f;
-      service = record {
-        after_first = front_some w.earlier w.left;
-        before_last = omega (arith, ap (length {A = ℕ}) whole, length-append f (stop_of w.t ∷ ys), length-append (map stop_of w.right) (round_of w.later), round_some w.later);
-        no_depot = omega (arith, read, stop_some p w.t required);
-      };
-      is = ap round_of w.is ∙ cut_round w.earlier w.later w.left (other_direction w.t ∷ w.right)
-          ∙ ap (λ z. f ++ (z ∷ ys)) (sym (turned_stop p b w.t of required)) ∙ sym put ∙ ap (λ z. set (round_of before) (length f) (turned b z)) (sym read);
-    }
-
 either_way : (p : Problem) (b : Board) → IsBoardOf p b → (t u : Task) (x : ℕ) → IsRequired p t.edge → x ≡ stop_of t → IsSameService t u → IsEitherWay b x (stop_of u)
 either_way p b of t u x required is same = subst (λ y. IsEitherWay b y (stop_of u)) (sym is) (elim same [
   | inl e ↦ inl (ap stop_of e)
@@ -128,6 +107,19 @@ as_move p b of before after all w =
         ap (length {A = ℕ}) back.removed,
       );
       is = back.inserted ∙ ap (λ zs. insert zs back.at (stop_of w.u)) own.removed;
+    }
+
+-- a service that turns moves to its own place
+turned_there : (before after : List (List Task)) → TurnsOne before after → MovesOne before after
+turned_there before after w =
+    let rest = w.earlier ++ ((w.left ++ w.right) ∷ w.later) in
+    record {
+      t = w.t;
+      rest = rest;
+      out = record { earlier = w.earlier; later = w.later; left = w.left; right = w.right; was = w.was; is = refl };
+      u = other_direction w.t;
+      same = inr refl;
+      back = record { earlier = w.earlier; later = w.later; left = w.left; right = w.right; was = w.is; is = refl };
     }
 
 round_opened : (rest : List (List Task)) (u : Task) → round_of (rest ++ ((u ∷ []) ∷ [])) ≡ round_of rest ++ (stop_of u ∷ (0 ∷ []))
@@ -225,7 +217,7 @@ between_swap p before after all w =
 pub as_round_change : (p : Problem) (b : Board) → IsBoardOf p b → (before after : List (List Task)) → AllByRecursion (λ t. IsRequired p t.edge) (all_tasks before) → IsChange before after →
     IsRoundChange b (round_of before) (round_of after)
 as_round_change p b of before after all change = elim change [
-  | turns w ↦ flips (as_flip p b of before after all w)
+  | turns w ↦ moves (as_move p b of before after all (turned_there before after w))
   | moves_on w ↦ moves (as_move p b of before after all w)
   | opens_tour w ↦ opens (as_new_tour p b of before after all w)
   | swaps_within w ↦ swaps (within_swap p before after all w)

@@ -63,9 +63,6 @@ open_round b xs x round within real =
       last = ap (λ i. get_or (xs ++ (x ∷ (0 ∷ []))) i 0) at_end ∙ get_or-append-add xs (x ∷ (0 ∷ [])) 1 0;
     }
 
-pub set_services : (xs : List ℕ) (k y : ℕ) → k < length xs → edge_of y ≡ edge_of (get_or xs k 0) → KeepsServices xs (set xs k y)
-set_services xs k y short same g none = omega (arith, sum_by-set (λ x. g (edge_of x)) xs k y 0 short, ap g same)
-
 pub move_services : (xs : List ℕ) (from to x : ℕ) → from < length xs → edge_of x ≡ edge_of (get_or xs from 0) → KeepsServices xs (insert (remove xs from) to x)
 move_services xs from to x short same g none =
     omega (arith, sum_by-remove (λ x. g (edge_of x)) xs from 0 short, sum_by-insert (λ x. g (edge_of x)) (remove xs from) to x, ap g same)

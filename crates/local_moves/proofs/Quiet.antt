@@ -2,11 +2,10 @@
 use Rattle.std.proofs.Common.{◌≡◌, ℕ, ◌+◌, ◌<◌, ◌≤◌, min, List, length, arith, inl, inr, subst}
 use Rattle.std.proofs.lemmas.Bool.{cases_lt}
 use Rattle.ruin_recreate.specs.declared.board.Board.{Board}
-use Rattle.local_moves.specs.Rounds.{IsBetter, IsQuiet, IsSettledRound, flips, moves, opens, swaps}
+use Rattle.local_moves.specs.Rounds.{IsBetter, IsQuiet, IsSettledRound, moves, opens, swaps}
 
 settled_places : (b : Board) (xs : List ℕ) → ((k : ℕ) → 1 ≤ k → k + 1 < length xs → IsQuiet b xs k) → IsSettledRound b xs
 settled_places b xs quiet after change better = elim change [
-  | flips f ↦ (quiet f.at f.service.after_first f.service.before_last).flip f.service (subst (λ ys. IsBetter b xs ys) f.is better)
   | moves f ↦ (quiet f.from f.service.after_first f.service.before_last).move f.service f.x f.same f.to f.after_first f.before_last (subst (λ ys. IsBetter b xs ys) f.is better)
   | opens f ↦ (quiet f.from f.service.after_first f.service.before_last).open_tour f.service f.x f.same (subst (λ ys. IsBetter b xs ys) f.is better)
   | swaps f ↦ (quiet f.first f.first_in.after_first f.first_in.before_last).swap f.second f.order f.second_in.before_last f.first_in f.second_in (subst (λ ys. IsBetter b xs ys) f.is better)

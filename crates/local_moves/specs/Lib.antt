@@ -2,3 +2,4 @@ pub mod Rounds
 pub mod Loads
 pub mod Stops
 pub mod Changes
+pub mod Offering

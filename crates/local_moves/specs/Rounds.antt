@@ -51,17 +51,11 @@ pub record IsService (xs : List ℕ) (k : ℕ) : Type 0 where
   pub before_last : k + 1 < length xs
   pub no_depot : 1 ≤ slice_index xs k
 
--- one service turns its direction
-pub record IsFlip (b : Board) (before after : List ℕ) : Type 0 where
-  pub at : ℕ
-  pub service : IsService before at
-  pub is : after ≡ slice_set before at (turned b (slice_index before at))
-
 -- a stop in one of its directions
 abbrev pub IsEitherWay : Board → ℕ → ℕ → Type 0
 IsEitherWay b x y = (y ≡ x) ⊎ (y ≡ turned b x)
 
--- one service is taken out, and goes in one direction to a place of the rest
+-- one service is taken out, and goes in one direction to a place of the rest; to its own place in the other direction, where it turns
 pub record IsMove (b : Board) (before after : List ℕ) : Type 0 where
   pub from : ℕ
   pub service : IsService before from
@@ -90,7 +84,6 @@ pub record IsSwap (before after : List ℕ) : Type 0 where
   pub is : after ≡ slice_set (slice_set before first (slice_index before second)) second (slice_index before first)
 
 pub data IsRoundChange (b : Board) (before after : List ℕ) : Type 0 where
-  flips : IsFlip b before after → IsRoundChange b before after
   moves : IsMove b before after → IsRoundChange b before after
   opens : IsNewTour b before after → IsRoundChange b before after
   swaps : IsSwap before after → IsRoundChange b before after
@@ -116,10 +109,6 @@ pub record IsNoDearer (b : Board) (before after : List ℕ) : Type 0 where
 abbrev pub NoneEmpty : List ℕ → Type 0
 NoneEmpty xs = (k : ℕ) → k + 1 < length xs → slice_index xs k ≡ depot → slice_index xs (k + 1) ≡ depot → ⊥
 
--- no flip of the service at a place is better
-abbrev pub NoFlip : Board → List ℕ → ℕ → Type 0
-NoFlip b xs at = IsService xs at → IsBetter b xs (slice_set xs at (turned b (slice_index xs at))) → ⊥
-
 -- the service at a place is not better as x at another
 abbrev pub NoInsert : Board → List ℕ → ℕ → ℕ → ℕ → Type 0
 NoInsert b xs from x to = IsBetter b xs (insert (remove xs from) to x) → ⊥
@@ -139,7 +128,6 @@ NoSwap b xs first second =
 
 -- no change of the service at a place is better, and no swap with a later one
 pub record IsQuiet (b : Board) (xs : List ℕ) (at : ℕ) : Type 0 where
-  pub flip : NoFlip b xs at
   pub move : NoMove b xs at
   pub open_tour : NoOpen b xs at
   pub swap : (second : ℕ) → at < second → second + 1 < length xs → NoSwap b xs at second

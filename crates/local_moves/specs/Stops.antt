@@ -1,5 +1,5 @@
 -- Tours of tasks as a round of stops. No public contract speaks of this.
-use Rattle.std.specs.Prelude.{◌≡◌, ℕ, ◌+◌, ◌*◌, ◌≤◌, ◌==◌, List, [], ◌∷◌, ◌++◌, map, length, take, if◌then◌else◌, IsTrue, count_by, nat_le}
+use Rattle.std.specs.Prelude.{◌≡◌, ◌≢◌, ℕ, ◌+◌, ◌-◌, ◌*◌, ◌<◌, ◌≤◌, ◌==◌, List, [], ◌∷◌, ◌++◌, map, length, take, slice_index, if◌then◌else◌, IsTrue, count_by, nat_le}
 use Rattle.std.specs.List.{AllByRecursion}
 use Rattle.carp_base.specs.declared.edge.Task.{Task}
 use Rattle.carp_base.specs.Problem.{Problem, IsRequired}
@@ -39,3 +39,11 @@ pub record IsFullRound (p : Problem) (b : Board) (xs : List ℕ) : Type 0 where
   pub loads : IsTrue (fits b xs)
   pub once : (e : ℕ) → IsRequired p e → visits e xs ≡ 1
   pub few : services_in xs ≤ 10000
+
+-- stops that begin and end with the depot, at most 30,000 of them, of which none is stop 1
+pub record IsProperRound (xs : List ℕ) : Type 0 where
+  pub some : 1 ≤ length xs
+  pub short : length xs ≤ 30000
+  pub real : (k : ℕ) → k < length xs → slice_index xs k ≢ 1
+  pub first : slice_index xs 0 ≡ depot
+  pub last : slice_index xs (length xs - 1) ≡ depot

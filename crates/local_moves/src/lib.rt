@@ -1,15 +1,20 @@
 //! Plans that no small change makes cheaper.
+//!
+//! [`settle`] turns, moves and swaps services of a lawful plan as long as that makes it cheaper. [`Mover`] is a helper that
+//! changes the best plan by ruin and recreate before it settles it.
 #![tactic(auto)]
 
-mod flips;
 mod loads;
+mod mover;
 mod moves;
 mod opening;
 mod plans;
 mod rounds;
 mod searching;
 mod settling;
+mod stirred;
 mod swaps;
 mod tours;
 
+pub use mover::Mover;
 pub use plans::settle;

@@ -41,6 +41,31 @@ pub(crate) fn settle_from(
     plan_of_round(alloc, inst, dist, &settled)
 }
 
+// The same of a lawful plan, which it costs no more than.
+pub(crate) fn settle_on(
+    alloc: Global,
+    inst: &Instance,
+    dist: &Distances,
+    board: &Board,
+    plan: &Plan,
+) -> Result<Plan, Memory>
+    requires problem { dist.now.problem ≡ inst.now }
+    requires prices { dist.now.prices ≡ costs_of inst.now }
+    requires board { IsBoard board.now }
+    requires of { IsBoardOf inst.now board.now }
+    requires lawful { IsLawful inst.now plan.now }
+    ensures lawful { IfOk result (IsLawful inst.now) }
+    ensures cost { IfOk result (λ after. plan_cost inst.now after ≤ plan_cost inst.now plan.now) }
+    ensures settled { IfOk result (IsSettledPlan inst.now) }
+{
+    plans_are_tours();
+    required_edges_are_served_once();
+    // What a read of the instance says of it is needed: that it is valid.
+    let _ = inst.vertices();
+    let round = round_of_plan(alloc, inst, plan)?;
+    settle_from(alloc, inst, dist, board, round)
+}
+
 /// A plan that no small change makes cheaper, and that costs no more than a lawful plan from which it comes.
 ///
 /// A small change turns the direction of one service, moves one service, in either direction, to any place of any tour or to a
@@ -57,11 +82,6 @@ pub fn settle(alloc: Global, inst: &Instance, dist: &Distances, plan: &Plan) -> 
     ensures cost { IfOk result (λ after. plan_cost inst.now after ≤ plan_cost inst.now plan.now) }
     ensures settled { IfOk result (IsSettledPlan inst.now) }
 {
-    plans_are_tours();
-    required_edges_are_served_once();
-    // What a read of the instance says of it is needed: that it is valid.
-    let _ = inst.vertices();
     let board = board_of(alloc, inst, dist)?;
-    let round = round_of_plan(alloc, inst, plan)?;
-    settle_from(alloc, inst, dist, &board, round)
+    settle_on(alloc, inst, dist, &board, plan)
 }

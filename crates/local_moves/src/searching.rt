@@ -3,7 +3,6 @@ ghost use Rattle.std.specs.Prelude.{◌≡◌, ℕ, ◌<◌, ◌≤◌, ◌+◌,
 ghost use Rattle.local_moves.specs.Loads.{AreLoads};
 ghost use Rattle.local_moves.specs.Rounds.{IsLater, IsQuiet, IsRound, IsSettledRound, IsStopBoard};
 
-use crate::flips::try_flip;
 use crate::loads::Loads;
 use crate::moves::try_move;
 use crate::opening::try_open;
@@ -34,9 +33,6 @@ fn improve_at(
     requires before_last { at + 1 < length round.now }
     ensures { IfOk result (λ found. MatchOption found (IsQuiet board.now round.now at) (λ next. IsLater board.now round.now next.items)) }
 {
-    if let Some(next) = try_flip(alloc, board, round, at)? {
-        return Ok(Some(next));
-    }
     if let Some(next) = try_move(alloc, board, round, at)? {
         return Ok(Some(next));
     }
