@@ -7,7 +7,7 @@ use Rattle.carp_base.specs.declared.edge.Task.{Task}
 use Rattle.carp_base.specs.Problem.{Problem, IsRequired}
 use Rattle.task_tours.specs.Tours.{all_tasks}
 use Rattle.ruin_recreate.specs.declared.board.Board.{Board}
-use Rattle.ruin_recreate.specs.Boards.{IsBoardOf, turned}
+use Rattle.ruin_recreate.specs.Boards.{IsBoardOf}
 use Rattle.local_moves.specs.Rounds.{IsEitherWay, IsMove, IsNewTour, IsRoundChange, IsService, IsSwap, moves, opens, swaps}
 use Rattle.local_moves.specs.Stops.{round_of, stop_of}
 use Rattle.local_moves.specs.Changes.{IsChange, IsSameService, MovesOne, OpensOne, SwapsBetween, SwapsWithin, TakesOutTask, TurnsOne, moves_on, opens_tour, other_direction, swaps_between, swaps_within, turns}

@@ -8,3 +8,4 @@ mod Rounding
 mod Boarding
 mod Changing
 mod Composing
+mod Small

@@ -3,3 +3,4 @@ pub mod Loads
 pub mod Stops
 pub mod Changes
 pub mod Offering
+pub mod Examples

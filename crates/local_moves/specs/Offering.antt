@@ -1,5 +1,5 @@
 -- What the helper that settles plans offers.
-use Rattle.std.specs.Prelude.{ℕ, ◌≤◌, List, Option, None, Some}
+use Rattle.std.specs.Prelude.{◌≤◌, List, Option, None, Some}
 use Rattle.carp_base.specs.Problem.{Problem}
 use Rattle.plan_model.specs.declared.step.Step.{Step}
 use Rattle.plan_model.specs.Plans.{IsLawful, plan_cost}

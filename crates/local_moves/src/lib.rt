@@ -4,16 +4,19 @@
 //! changes the best plan by ruin and recreate before it settles it.
 #![tactic(auto)]
 
+#[cfg(test)]
+mod examples;
 mod loads;
 mod mover;
 mod moves;
 mod opening;
 mod plans;
-mod rounds;
 mod searching;
 mod settling;
 mod stirred;
 mod swaps;
+#[cfg(test)]
+mod tests;
 mod tours;
 
 pub use mover::Mover;

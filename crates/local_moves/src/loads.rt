@@ -1,8 +1,9 @@
 // What tours load beside a place, so that a change that does not fit is known before it is made.
-ghost use Rattle.std.specs.Prelude.{◌≡◌, ◌+◌, ◌<◌, ◌≤◌, ◌↔◌, IsTrue, slice_index, IfOk, length};
+ghost use Rattle.std.specs.Prelude.{◌≡◌, ◌+◌, ◌<◌, ◌≤◌, ◌↔◌, IfOk, IsTrue, MatchOption, length, slice_index};
 ghost use Rattle.std.specs.List.{All};
 ghost use Rattle.ruin_recreate.specs.Boards.{IsBoard, demand_of};
 ghost use Rattle.local_moves.specs.Loads.{AreLoads, AreLoadsAhead, AreLoadsBehind, load_with};
+ghost use Rattle.local_moves.specs.Rounds.{fits};
 
 use carp_base::Memory;
 use ruin_recreate::Board;
@@ -87,4 +88,34 @@ impl Loads {
     {
         self.behind[before] + board.demand(x) + self.ahead[from] <= board.room
     }
+}
+
+// Whether no tour of a round loads more than the room.
+pub(crate) fn fits(board: &Board, round: &[u32]) -> bool
+    requires board { IsBoard board.now }
+    requires within { All (λ x. x < board.now.width) round.now }
+    ensures { result ≡ fits board.now round.now }
+{
+    let mut load: u128 = 0;
+    for i in 0..round.len() {
+        let x = round[i];
+        if x == 0 {
+            if load > u128::from(board.room) {
+                return false;
+            }
+            load = 0;
+        } else {
+            load += u128::from(board.demand(x));
+        }
+    }
+    load <= u128::from(board.room)
+}
+
+// The round, where no tour of it loads more than the room.
+pub(crate) fn accept(board: &Board, next: Vec<u32>) -> Option<Vec<u32>>
+    requires board { IsBoard board.now }
+    requires within { All (λ x. x < board.now.width) next.items }
+    ensures { MatchOption result (IsTrue (fits board.now next.items) → ⊥) (λ same. (same.items ≡ next.items) × IsTrue (fits board.now next.items)) }
+{
+    if fits(board, &next) { Some(next) } else { None }
 }

@@ -1,15 +1,28 @@
 // Moves of one service to another place.
 ghost use Rattle.std.specs.Prelude.{◌≡◌, ◌≢◌, ℕ, ◌<◌, ◌≤◌, ◌+◌, IfOk, MatchOption, length, slice_index};
 ghost use Rattle.std.specs.List.{remove};
-ghost use Rattle.ruin_recreate.specs.Boards.{edge_of};
+ghost use Rattle.ruin_recreate.specs.Boards.{edge_of, turned};
 ghost use Rattle.local_moves.specs.Loads.{AreLoads};
 ghost use Rattle.local_moves.specs.Rounds.{IsLater, IsRound, IsService, IsStopBoard, NoInsert, NoMove};
 
-use crate::loads::Loads;
-use crate::rounds::{accept, turn};
+use crate::loads::{Loads, accept};
 use carp_base::Memory;
 use ruin_recreate::Board;
 use std::alloc::Global;
+
+// The service of the same edge in the other direction.
+pub(crate) fn turn(board: &Board, x: u32) -> u32
+    requires board { IsStopBoard board.now }
+    requires x { x < board.now.width }
+    requires service { 1 ≤ x }
+    requires real { x ≢ 1 }
+    ensures value { result ≡ turned board.now x }
+    ensures within { result < board.now.width }
+    ensures real { result ≢ 1 }
+    ensures edge { edge_of result ≡ edge_of x }
+{
+    board.turn(x)
+}
 
 // The round with a service taken from its place and put, as `x`, to a place of the rest, where that is better.
 fn try_insert(

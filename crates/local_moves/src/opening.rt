@@ -4,7 +4,8 @@ ghost use Rattle.std.specs.List.{remove};
 ghost use Rattle.ruin_recreate.specs.Boards.{depot, edge_of};
 ghost use Rattle.local_moves.specs.Rounds.{IsBetter, IsLater, IsRound, IsService, IsStopBoard, NoOpen};
 
-use crate::rounds::{accept, turn};
+use crate::loads::accept;
+use crate::moves::turn;
 use carp_base::Memory;
 use ruin_recreate::Board;
 use std::alloc::Global;

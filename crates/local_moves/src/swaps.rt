@@ -3,8 +3,7 @@ ghost use Rattle.std.specs.Prelude.{◌≡◌, ℕ, ◌<◌, ◌≤◌, ◌+◌,
 ghost use Rattle.local_moves.specs.Loads.{AreApart, AreLoads};
 ghost use Rattle.local_moves.specs.Rounds.{IsLater, IsRound, IsStopBoard, NoSwap};
 
-use crate::loads::Loads;
-use crate::rounds::accept;
+use crate::loads::{Loads, accept};
 use carp_base::Memory;
 use ruin_recreate::Board;
 use std::alloc::Global;

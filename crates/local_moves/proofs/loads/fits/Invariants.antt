@@ -1,6 +1,6 @@
 use Rattle.std.proofs.Common.{◌≡◌, ◌≤◌, ◌*◌, drop}
 use Rattle.local_moves.specs.Rounds.{fits, fits_from}
-use Rattle.local_moves.proofs.rounds.fits.Given as goal
+use Rattle.local_moves.proofs.loads.fits.Given as goal
 
 abbrev pub invariant-loop-i : goal.invariant-loop-i
 invariant-loop-i l = record {
