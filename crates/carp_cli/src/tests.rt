@@ -86,26 +86,37 @@ pub(crate) fn run_words(
     Ok(run(alloc, &all, shelf, out, &mut helpers))
 }
 
+// Whether a file is solved with this code, this report and this certificate, and the other file stays, with files and output that
+// take pieces of this length.
+fn is_solved(
+    alloc: Global,
+    piece: usize,
+    file: &str,
+    code: u8,
+    report: &str,
+    certificate: &str,
+) -> Result<bool, Fail>
+    requires { 0 < piece }
+{
+    let mut shelf = shelf_with(alloc, file.as_bytes(), piece, &[], &[])?;
+    let mut out = MemSink::new(alloc, REPORT_ROOM, piece, Vec::new(alloc))?;
+    let status = run_words(alloc, &["solve", "file", "cert"], &mut shelf, &mut out)?;
+    let same_files = shelf.held("cert").unwrap_or(b"") == certificate.as_bytes()
+        && shelf.held("other").unwrap_or(b"") == b"as it was".as_slice();
+    Ok(same_files && out.written() == report.as_bytes() && status.code() == code)
+}
+
 #[test]
 fn a_street_is_solved(rt: HostRuntime) -> Result<(), Fail> {
     let alloc = rt.alloc();
-    for piece in [1, 7, 65_536] {
-        let mut shelf = shelf_with(alloc, STREET.as_bytes(), piece, &[], &[])?;
-        let mut out = MemSink::new(alloc, REPORT_ROOM, piece, Vec::new(alloc))?;
-        let status = run_words(alloc, &["solve", "file", "cert"], &mut shelf, &mut out)?;
-        assert_eq!(rt; status, Status::Gap);
-        assert_eq!(rt; out.written(), REPORT.as_bytes());
-        assert_eq!(rt; shelf.held("cert").unwrap_or(b""), CERTIFICATE.as_bytes());
-        assert_eq!(rt; shelf.held("other").unwrap_or(b""), b"as it was".as_slice());
-    }
+    assert!(rt; is_solved(alloc, 1, STREET, 1, REPORT, CERTIFICATE)?);
+    assert!(rt; is_solved(alloc, 7, STREET, 1, REPORT, CERTIFICATE)?);
+    assert!(rt; is_solved(alloc, 65_536, STREET, 1, REPORT, CERTIFICATE)?);
     Ok(())
 }
 
 // Serving this street costs 3 and driving it nothing, so that the bound is the cost. It is served from its first end.
-#[test]
-fn a_plan_at_the_bound_is_proven(rt: HostRuntime) -> Result<(), Fail> {
-    let alloc = rt.alloc();
-    let file = "NOMBRE : carp
+const FREE_STREET: &str = "NOMBRE : carp
 COMENTARIO : none
 VERTICES : 3
 ARISTAS_REQ : 1
@@ -119,7 +130,8 @@ LISTA_ARISTAS_REQ :
 LISTA_ARISTAS_NOREQ :
 DEPOSITO : 3
 ";
-    let report = "instance vertices 3 edges 1 required 1 capacity 9 demand 2
+
+const FREE_REPORT: &str = "instance vertices 3 edges 1 required 1 capacity 9 demand 2
 cost 3
 bound 3
 turns 1
@@ -127,19 +139,23 @@ proven
 tours 1
 tour 1 load 2 cost 3 route 3-1=3
 ";
-    let mut shelf = shelf_with(alloc, file.as_bytes(), 65_536, &[], &[])?;
-    let mut out = MemSink::new(alloc, REPORT_ROOM, 65_536, Vec::new(alloc))?;
-    let status = run_words(alloc, &["solve", "file", "cert"], &mut shelf, &mut out)?;
-    assert_eq!(rt; status, Status::Proven);
-    assert_eq!(rt; out.written(), report.as_bytes());
-    Ok(())
-}
+
+const FREE_CERTIFICATE: &str = "carp-certificate 1
+cost 3
+bound 3
+tours 1
+tour 2 <1 +1
+shores 0
+sets 1
+prices 1 1 3
+weights 0
+nodes 1
+price 1
+end
+";
 
 // No edge at all: the plan has no tour, and the certificate no price.
-#[test]
-fn nothing_to_serve_is_proven(rt: HostRuntime) -> Result<(), Fail> {
-    let alloc = rt.alloc();
-    let file = "NOMBRE : carp
+const NO_EDGE: &str = "NOMBRE : carp
 COMENTARIO : none
 VERTICES : 1
 ARISTAS_REQ : 0
@@ -152,14 +168,16 @@ LISTA_ARISTAS_REQ :
 LISTA_ARISTAS_NOREQ :
 DEPOSITO : 1
 ";
-    let report = "instance vertices 1 edges 0 required 0 capacity 1 demand 0
+
+const NO_REPORT: &str = "instance vertices 1 edges 0 required 0 capacity 1 demand 0
 cost 0
 bound 0
 turns 1
 proven
 tours 0
 ";
-    let certificate = "carp-certificate 1
+
+const NO_CERTIFICATE: &str = "carp-certificate 1
 cost 0
 bound 0
 tours 0
@@ -171,12 +189,12 @@ nodes 1
 price 1
 end
 ";
-    let mut shelf = shelf_with(alloc, file.as_bytes(), 65_536, &[], &[])?;
-    let mut out = MemSink::new(alloc, REPORT_ROOM, 65_536, Vec::new(alloc))?;
-    let status = run_words(alloc, &["solve", "file", "cert"], &mut shelf, &mut out)?;
-    assert_eq!(rt; status, Status::Proven);
-    assert_eq!(rt; out.written(), report.as_bytes());
-    assert_eq!(rt; shelf.held("cert").unwrap_or(b""), certificate.as_bytes());
+
+#[test]
+fn plans_at_the_bound_are_proven(rt: HostRuntime) -> Result<(), Fail> {
+    let alloc = rt.alloc();
+    assert!(rt; is_solved(alloc, 65_536, FREE_STREET, 0, FREE_REPORT, FREE_CERTIFICATE)?);
+    assert!(rt; is_solved(alloc, 65_536, NO_EDGE, 0, NO_REPORT, NO_CERTIFICATE)?);
     Ok(())
 }
 
@@ -214,36 +232,44 @@ const CALLS: &str = "\
     Solve file cert | | | | 3 | no | usage\n\
     check file cert | | | | 3 | no | usage";
 
-// Whether a row of the table is true of the street.
-fn is_answered(alloc: Global, row: &str) -> Result<bool, Fail> {
-    let mut fields = row.split('|');
+// The words of a text.
+fn words_in(alloc: Global, text: &str) -> Result<Vec<&str>, Fail> {
     let mut words = Vec::new(alloc);
-    for word in fields.next().unwrap_or("").split_ascii_whitespace() {
+    for word in text.split_ascii_whitespace() {
         words.push(if word == "_" { "" } else { word })?;
     }
+    Ok(words)
+}
+
+// What is said to be written.
+fn text_of(alloc: Global, written: &str) -> Result<String, Fail> {
+    match written {
+        "report" => Ok(String::from_str(alloc, REPORT)?),
+        "usage" => Ok(String::from_str(alloc, USAGE)?),
+        text => Ok(text.replace(alloc, "~", "\n")?),
+    }
+}
+
+// Whether a row of the table is true of the street.
+fn is_answered(alloc: Global, row: &str) -> Result<bool, Fail> {
+    let mut fields = row.split('|').map(|field| field.trim_ascii());
+    let words = words_in(alloc, fields.next().unwrap_or(""))?;
     let looks = numbers_in(alloc, fields.next().unwrap_or(""))?;
     let keeps = numbers_in(alloc, fields.next().unwrap_or(""))?;
     let puts = numbers_in(alloc, fields.next().unwrap_or(""))?;
-    let code = fields.next().unwrap_or("").trim_ascii();
-    let cert = match fields.next().unwrap_or("").trim_ascii() {
-        "yes" => CERTIFICATE,
-        _ => "",
-    };
     let mut shelf = shelf_with(alloc, STREET.as_bytes(), 64, &looks, &keeps)?;
     let mut out = MemSink::new(alloc, REPORT_ROOM, 16, puts)?;
     let status = run_words(alloc, &words, &mut shelf, &mut out)?;
+    let same_code = status.code().to_string(alloc)?.as_str() == fields.next().unwrap_or("");
+    let cert = if fields.next() == Some("yes") {
+        CERTIFICATE
+    } else {
+        ""
+    };
     let same_files = shelf.held("cert").unwrap_or(b"") == cert.as_bytes()
         && shelf.held("other").unwrap_or(b"") == b"as it was".as_slice();
-    let written = match fields.next().unwrap_or("").trim_ascii() {
-        "report" => String::from_str(alloc, REPORT)?,
-        "usage" => String::from_str(alloc, USAGE)?,
-        text => text.replace(alloc, "~", "\n")?,
-    };
-    Ok(
-        same_files
-            && out.written() == written.as_bytes()
-            && status.code().to_string(alloc)?.as_str() == code,
-    )
+    let written = text_of(alloc, fields.next().unwrap_or(""))?;
+    Ok(same_code && same_files && out.written() == written.as_bytes())
 }
 
 #[test]
@@ -269,17 +295,10 @@ fn bad_usage_calls_for_no_file(rt: HostRuntime) -> Result<(), Fail> {
 
 #[test]
 fn each_status_has_its_code(rt: HostRuntime) {
-    let cases = [
-        (Status::Proven, 0),
-        (Status::Gap, 1),
-        (Status::BadUsage, 3),
-        (Status::BadInstance(DatFault::Syntax(1)), 4),
-        (Status::ReadFault, 6),
-        (Status::WriteFault, 7),
-        (Status::Memory, 8),
-        (Status::TooLong(9), 9),
-    ];
-    for (status, code) in cases {
-        assert_eq!(rt; status.code(), code);
-    }
+    assert!(rt; Status::Proven.code() == 0 && Status::Gap.code() == 1);
+    assert!(rt;
+        Status::BadUsage.code() == 3 && Status::BadInstance(DatFault::Syntax(1)).code() == 4
+    );
+    assert!(rt; Status::ReadFault.code() == 6 && Status::WriteFault.code() == 7);
+    assert!(rt; Status::Memory.code() == 8 && Status::TooLong(9).code() == 9);
 }
