@@ -21,6 +21,7 @@ LISTA_ARISTAS_REQ :
 ( 1, 3) coste 4 demanda 1
 DEPOSITO : 1
 ";
+
 const TWO_STREETS: &str = "VERTICES : 2
 ARISTAS_REQ : 2
 CAPACIDAD : 2
@@ -51,7 +52,10 @@ fn expect(
     helpers.push(Box::new(alloc, Merger::new(alloc, 2))?)?;
     helpers.push(Box::new(alloc, Splitter::new(alloc, 3))?)?;
     helpers.push(Box::new(alloc, Mover::new(alloc, 4))?)?;
-    assert_eq!(rt; run(alloc, &words, &mut shelf, &mut out, &mut helpers), status);
+    assert_eq!(rt;
+        run(alloc, &words, &mut shelf, &mut out, &mut helpers),
+        status
+    );
     assert!(rt; out.written().starts_with(front.as_bytes()));
     dismiss(&mut helpers);
     assert_eq!(rt; helpers.len(), 4);

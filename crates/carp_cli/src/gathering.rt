@@ -104,6 +104,7 @@ fn parse(alloc: Global, bytes: &[u8]) -> Result<Instance, Stop>
 
 /// The budget of turns, and the seed.
 const TURNS: u64 = 64;
+
 const SEED: u64 = 1;
 
 /// Solves an instance with the aid of helpers, and builds the texts of its certificate and its report.

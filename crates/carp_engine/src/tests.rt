@@ -158,18 +158,37 @@ fn heard_of(
         part,
     };
     let heard = consult(alloc, inst, &dist, &mut best, &mut helper);
-    Ok((heard, lawful_cost(alloc, inst, &best)?, helper.standing.fouls))
+    Ok((
+        heard,
+        lawful_cost(alloc, inst, &best)?,
+        helper.standing.fouls,
+    ))
 }
 
 #[test]
 fn hears_what_an_offer_is(rt: HostRuntime) -> Result<(), Fail> {
     let alloc = rt.alloc();
     let inst = triangle(alloc)?;
-    assert_eq!(rt; heard_of(alloc, &inst, Part::RoundTour)?, (Ok(Heard::Better), 16, 0));
-    assert_eq!(rt; heard_of(alloc, &inst, Part::Copy)?, (Ok(Heard::Same), 34, 0));
-    assert_eq!(rt; heard_of(alloc, &inst, Part::Nothing)?, (Ok(Heard::Same), 34, 0));
-    assert_eq!(rt; heard_of(alloc, &inst, Part::TwiceOverOne)?, (Ok(Heard::Foul), 34, 1));
-    assert_eq!(rt; heard_of(alloc, &inst, Part::NoMemory)?, (Err(Memory), 34, 0));
+    assert_eq!(rt;
+        heard_of(alloc, &inst, Part::RoundTour)?,
+        (Ok(Heard::Better), 16, 0)
+    );
+    assert_eq!(rt;
+        heard_of(alloc, &inst, Part::Copy)?,
+        (Ok(Heard::Same), 34, 0)
+    );
+    assert_eq!(rt;
+        heard_of(alloc, &inst, Part::Nothing)?,
+        (Ok(Heard::Same), 34, 0)
+    );
+    assert_eq!(rt;
+        heard_of(alloc, &inst, Part::TwiceOverOne)?,
+        (Ok(Heard::Foul), 34, 1)
+    );
+    assert_eq!(rt;
+        heard_of(alloc, &inst, Part::NoMemory)?,
+        (Err(Memory), 34, 0)
+    );
     Ok(())
 }
 
@@ -185,8 +204,14 @@ fn an_unlawful_walk_is_a_foul(rt: HostRuntime) -> Result<(), Fail> {
     assert_eq!(rt; solved.prices.as_slice(), [3, 4].as_slice());
     assert_eq!(rt; helpers.len(), 2);
     let (first, second) = (&helpers[0].standing, &helpers[1].standing);
-    assert_eq!(rt; (first.id, first.seed, first.asked, first.fouls), (11, u64::MAX, 1, 1));
-    assert_eq!(rt; (second.id, second.seed, second.asked, second.fouls), (12, 0, 1, 0));
+    assert_eq!(rt;
+        (first.id, first.seed, first.asked, first.fouls),
+        (11, u64::MAX, 1, 1)
+    );
+    assert_eq!(rt;
+        (second.id, second.seed, second.asked, second.fouls),
+        (12, 0, 1, 0)
+    );
     assert_eq!(rt; second.least, Some(20));
     dismiss(&mut helpers);
     assert_eq!(rt; helpers.len(), 1);
@@ -215,7 +240,10 @@ fn rounds_end_with_the_first_that_is_no_better(rt: HostRuntime) -> Result<(), Fa
     let again = solve(alloc, &inst, 64, 7, &mut helpers)?;
     assert_eq!(rt; again.cost, 16);
     assert_eq!(rt; helpers.len(), 3);
-    assert_eq!(rt; (helpers[0].standing.asked, helpers[0].standing.fouls), (1, 1));
+    assert_eq!(rt;
+        (helpers[0].standing.asked, helpers[0].standing.fouls),
+        (1, 1)
+    );
     assert_eq!(rt; helpers[2].standing.seed, 9);
     Ok(())
 }

@@ -96,8 +96,8 @@ module _ (p : Problem) (x : Priced) (problem : x.problem ≡ p) (prices : x.pric
   tasks_whole i at depot walk joined all goes depot_is adds =
       let least = subst (λ v. IsLeastPath p (price_of (costs_of p)) at v adds.path) depot_is (path_as at depot adds.path adds.least) in
       let whole : GoByLeastPaths p (service_steps tasks) p.depot p.depot joined =
-        subst (GoByLeastPaths p (service_steps tasks) p.depot p.depot) (sym adds.added)
-        (goes_home p (service_steps tasks) walk adds.path p.depot at p.depot (subst (λ ts. GoesThrough p (service_steps ts) p.depot at walk) (take_all i tasks all) goes) least) in
+      subst (GoByLeastPaths p (service_steps tasks) p.depot p.depot) (sym adds.added)
+      (goes_home p (service_steps tasks) walk adds.path p.depot at p.depot (subst (λ ts. GoesThrough p (service_steps ts) p.depot at walk) (take_all i tasks all) goes) least) in
       record {
         tasks = goes_tasks p tasks joined p.depot p.depot whole;
         paths = subst (λ ss. GoByLeastPaths p ss p.depot p.depot joined) (sym (goes_served p tasks joined p.depot p.depot whole)) whole;

@@ -5,8 +5,8 @@ ghost use Rattle.carp_base.specs.Problem.{IsRequired};
 ghost use Rattle.deadhead_paths.specs.Prices.{costs_of};
 ghost use Rattle.task_tours.specs.Tours.{JoinsTasks, PlanGoesByLeastPaths, plan_tours};
 
-use crate::stands::ends;
 use crate::laws::tours_are_linked;
+use crate::stands::ends;
 use carp_base::{Instance, Memory, Task};
 use deadhead_paths::Distances;
 use plan_model::{Plan, Step, Walk};

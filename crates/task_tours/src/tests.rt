@@ -71,7 +71,14 @@ fn joins_tasks_by_least_paths(rt: HostRuntime) -> Result<(), Fail> {
     // Out to 3 by the third street, served from 3 to 1; or over the first street from 2 to 3, and home by the third.
     expect_walk(&rt, alloc, &inst, task(1, true), task(2, true), "+1+2<3")?;
     expect_walk(&rt, alloc, &inst, task(1, true), task(3, false), "+1>2-3")?;
-    expect_walk(&rt, alloc, &inst, task(2, true), task(1, true), ">1+2<3+1<1")?;
+    expect_walk(
+        &rt,
+        alloc,
+        &inst,
+        task(2, true),
+        task(1, true),
+        ">1+2<3+1<1",
+    )?;
     let walk = join(alloc, &inst, &cost_distances(alloc, &inst)?, &[])?;
     assert_eq!(rt; walk.len(), 0);
     Ok(())
@@ -123,8 +130,14 @@ fn adds_tours_to_a_plan(rt: HostRuntime) -> Result<(), Fail> {
     add_tour(alloc, &inst, &dist, &mut plan, &first)?;
     add_tour(alloc, &inst, &dist, &mut plan, &second)?;
     assert_eq!(rt; plan.len(), 2);
-    assert_eq!(rt; text_of(alloc, plan.walk(0))?.as_slice(), b">3-2-1".as_slice());
-    assert_eq!(rt; text_of(alloc, plan.walk(1))?.as_slice(), b"+3<3".as_slice());
+    assert_eq!(rt;
+        text_of(alloc, plan.walk(0))?.as_slice(),
+        b">3-2-1".as_slice()
+    );
+    assert_eq!(rt;
+        text_of(alloc, plan.walk(1))?.as_slice(),
+        b"+3<3".as_slice()
+    );
     Ok(())
 }
 
@@ -135,13 +148,22 @@ fn keeps_the_numbers_of_a_helper(rt: HostRuntime) -> Result<(), Fail> {
     standing.offer(20);
     standing.ask();
     standing.offer(30);
-    assert_eq!(rt; (standing.asked, standing.least, standing.last), (2, Some(20), Some(30)));
+    assert_eq!(rt;
+        (standing.asked, standing.least, standing.last),
+        (2, Some(20), Some(30))
+    );
     standing.ask();
-    assert_eq!(rt; (standing.asked, standing.least, standing.last), (3, Some(20), None));
+    assert_eq!(rt;
+        (standing.asked, standing.least, standing.last),
+        (3, Some(20), None)
+    );
     standing.fouls = 1;
     standing.reseed(9);
     assert_eq!(rt; (standing.id, standing.seed, standing.asked), (7, 9, 0));
-    assert_eq!(rt; (standing.fouls, standing.least, standing.last), (0, None, None));
+    assert_eq!(rt;
+        (standing.fouls, standing.least, standing.last),
+        (0, None, None)
+    );
     Ok(())
 }
 
@@ -153,6 +175,9 @@ fn tells_what_a_lawful_plan_costs(rt: HostRuntime) -> Result<(), Fail> {
     let dist = cost_distances(alloc, &inst)?;
     let plan = single_tours(alloc, &inst, &dist)?;
     // Deadheads cost 5 home over the first, 5 out and 4 home beside the second, and 4 home over the third.
-    assert_eq!(rt; lawful_cost(alloc, &inst, &plan)?, 6 + 5 + 5 + 8 + 4 + 5 + 4);
+    assert_eq!(rt;
+        lawful_cost(alloc, &inst, &plan)?,
+        6 + 5 + 5 + 8 + 4 + 5 + 4
+    );
     Ok(())
 }
