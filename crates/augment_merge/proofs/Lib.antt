@@ -1,0 +1,15 @@
+pub mod Choosing
+pub mod Pairs
+pub mod Places
+pub mod Rows
+pub mod Turning
+pub mod Ending
+pub mod Savings
+pub mod Progress
+pub mod Walks
+pub mod Absorption
+pub mod Absorbed
+pub mod Taken
+pub mod Choice
+pub mod Lawful
+pub mod Ended

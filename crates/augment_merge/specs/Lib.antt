@@ -1,0 +1,7 @@
+pub mod Joins
+pub mod Augmenting
+pub mod Merging
+pub mod Outlines
+pub mod Absorbing
+pub mod Offering
+pub mod TourLaws
