@@ -25,3 +25,5 @@ pub mod Barring
 pub mod TakingOut
 pub mod Settling
 pub mod Voiding
+pub mod Walking
+pub mod Uniqueness

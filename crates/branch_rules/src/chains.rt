@@ -172,7 +172,7 @@ impl<'a> Chains<'a> {
     }
 
     // The yes neighbours of an edge.
-    fn near(&self, edge: u32) -> Near
+    pub(crate) fn near(&self, edge: u32) -> Near
         requires table { IsChainTable self.now }
         requires edge { IsRequired self.now.inst.now edge }
         ensures { result ≡ near_at self.now.near.items edge }

@@ -1,5 +1,6 @@
 // The yes neighbours of an edge.
 ghost use Rattle.std.specs.Prelude.{◌≡◌};
+ghost use Rattle.branch_rules.specs.ChainWalks.{near_besides};
 ghost use Rattle.branch_rules.specs.ChainTables.{has_two_besides, is_end, is_many, near_has, near_with};
 
 // The yes neighbours of an edge while they are at most two, and only that there are more.
@@ -59,5 +60,17 @@ impl Near {
         ensures { result ≡ is_many self }
     {
         matches!(self, Near::Many)
+    }
+
+    // The next neighbour on the way from another one.
+    pub(crate) fn besides(self, before: u32) -> Option<u32>
+        ensures { result ≡ near_besides self before }
+    {
+        match self {
+            Near::Free | Near::Many => None,
+            Near::One(x) => (x != before).then_some(x),
+            Near::Two(x, y) if x == before => Some(y),
+            Near::Two(x, _) => Some(x),
+        }
     }
 }
