@@ -177,10 +177,10 @@ module _ (t : Chains) (table : IsChainTable t) (untangled : t.tangled ≡ false)
   pub required_yes : (a b : ℕ) → IsYes t.decisions.now a b → IsRequired t.inst.now b
   required_yes a b is = let pair = yes_pair t.inst.now.required a b t.decisions.now table.pairs is in record { from_one = pair.b_from_one; in_range = pair.b_in_range }
 
-  different_yes : (a b : ℕ) → IsYes t.decisions.now a b → a ≢ b
+  pub different_yes : (a b : ℕ) → IsYes t.decisions.now a b → a ≢ b
   different_yes a b is = (yes_pair t.inst.now.required a b t.decisions.now table.pairs is).different
 
-  no_yes_zero : (a : ℕ) → IsYes t.decisions.now a 0 → ⊥
+  pub no_yes_zero : (a : ℕ) → IsYes t.decisions.now a 0 → ⊥
   no_yes_zero a is = omega (arith, (required_yes a 0 is).from_one)
 
   more_required : (edges : List ℕ) (e : ℕ) → AllByRecursion (IsRequired t.inst.now) edges → IsRequired t.inst.now e → AllByRecursion (IsRequired t.inst.now) (edges ++ e ∷ [])
