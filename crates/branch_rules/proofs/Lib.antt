@@ -27,3 +27,4 @@ pub mod Settling
 pub mod Voiding
 pub mod Walking
 pub mod Uniqueness
+pub mod ChainTours

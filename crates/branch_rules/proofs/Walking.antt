@@ -208,6 +208,7 @@ module _ (t : Chains) (table : IsChainTable t) (untangled : t.tangled ≡ false)
     };
     once = λ e. omega arith;
     all_required = tt;
+    fewer = omega arith;
     joined = λ e some. elim (cases_eq start e) [ inl same ↦ ([], same) | inr other ↦ absurd (omega (arith, some, times_other e start [] other)) ];
     runs = λ end rest runs. runs;
   }
@@ -244,6 +245,9 @@ module _ (t : Chains) (table : IsChainTable t) (untangled : t.tangled ≡ false)
     pub shorter : unmarked (set marks (at - 1) true) + 1 ≡ unmarked marks
     shorter = fewer_unmarked marks at way.required.from_one at_in way.free
 
+    fewer_now : length (edges ++ at ∷ []) + unmarked (set marks (at - 1) true) ≡ unmarked old
+    fewer_now = omega (arith, way.fewer, shorter, length-append edges (at ∷ []))
+
     pub walk_ends : near_besides (near_at t.near.items at) before ≡ None → IsWalked t start old (edges ++ at ∷ []) (set marks (at - 1) true)
     walk_ends none =
         let last = besides_none t.decisions.now at before (near_at t.near.items at) (few_at at) (table.chains.neighbours at) none in
@@ -257,6 +261,7 @@ module _ (t : Chains) (table : IsChainTable t) (untangled : t.tangled ≡ false)
           };
           once = λ e. omega (arith, once_now e, same_now e);
           all_required = more_required edges at way.all_required way.required;
+          fewer = fewer_now;
           joined = λ e some. way.joined e (omega (arith, some, same_now e));
           runs = λ end. way.runs end [] last;
           front = edges;
@@ -291,6 +296,7 @@ module _ (t : Chains) (table : IsChainTable t) (untangled : t.tangled ≡ false)
         marked = marked_now;
         once = once_now;
         all_required = more_required edges at way.all_required way.required;
+        fewer = fewer_now;
         joined = λ e some. elim (cases_eq next e) [
           | inl same ↦ subst (AreJoined t.decisions.now start) same (joined_more start at next (way.joined at (omega (arith, times_here at at way.behind refl))) next_yes.0)
           | inr other ↦ way.joined e (omega (arith, some, times_other e next (at ∷ way.behind) other))
@@ -348,6 +354,7 @@ module _ (t : Chains) (table : IsChainTable t) (untangled : t.tangled ≡ false)
       | inr some ↦ is.marked.added b (from_closed edges runs a b some yes_ab)
     ];
     all_required = is.all_required;
+    fewer = is.fewer;
     joined = λ e some. let rest = is.joined e some in (joined.0 ++ rest.0, path_append t.decisions.now edge end e joined.0 rest.0 joined.1 rest.1);
     each = λ e joined_e.
         let back = path_back t.decisions.now edge end joined.0 joined.1 in

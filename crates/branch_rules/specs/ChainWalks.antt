@@ -1,5 +1,5 @@
 -- Walks along yes pairs. No public contract speaks of this.
-use Rattle.std.specs.Prelude.{◌≡◌, ◌≢◌, ℕ, zero, suc, ◌≤◌, ◌==◌, ◌⊎◌, not, Bool, true, false, Option, Some, None, List, [], ◌∷◌, ◌++◌, length, slice_index_or, count_by, if◌then◌else◌}
+use Rattle.std.specs.Prelude.{◌≡◌, ◌≢◌, ℕ, zero, suc, ◌+◌, ◌≤◌, ◌==◌, ◌⊎◌, not, Bool, true, false, Option, Some, None, List, [], ◌∷◌, ◌++◌, length, slice_index_or, count_by, if◌then◌else◌}
 use Rattle.std.specs.List.{AllByRecursion}
 use Rattle.carp_base.specs.Problem.{IsRequired}
 use Rattle.branch_rules.specs.Neighbours.{times}
@@ -69,6 +69,7 @@ pub record IsOnWay (t : Chains) (start : ℕ) (old : List Bool) (edges : List �
   pub marked : AreMarkedToo old marks behind
   pub once : (e : ℕ) → times e behind ≤ 1
   pub all_required : AllByRecursion (IsRequired t.inst.now) edges
+  pub fewer : length edges + unmarked marks ≡ unmarked old
   pub joined : (e : ℕ) → 1 ≤ times e (at ∷ behind) → AreJoined t.decisions.now start e
   pub runs : IsChainEnd t.decisions.now start → (rest : List ℕ) → Runs t.decisions.now before at rest → RunsFrom t.decisions.now (edges ++ at ∷ rest)
 
@@ -78,6 +79,7 @@ pub record IsWalked (t : Chains) (start : ℕ) (old : List Bool) (edges : List �
   pub marked : AreMarkedToo old marks edges
   pub once : (e : ℕ) → times e edges ≤ 1
   pub all_required : AllByRecursion (IsRequired t.inst.now) edges
+  pub fewer : length edges + unmarked marks ≡ unmarked old
   pub joined : (e : ℕ) → 1 ≤ times e edges → AreJoined t.decisions.now start e
   pub runs : IsChainEnd t.decisions.now start → RunsFrom t.decisions.now edges
   pub front : List ℕ
@@ -91,6 +93,7 @@ pub record IsOrdered (t : Chains) (edge : ℕ) (old : List Bool) (edges : List �
   pub marked : AreMarkedToo old marks edges
   pub closed : AreClosed t.decisions.now marks
   pub all_required : AllByRecursion (IsRequired t.inst.now) edges
+  pub fewer : length edges + unmarked marks ≡ unmarked old
   pub joined : (e : ℕ) → 1 ≤ times e edges → AreJoined t.decisions.now edge e
   pub each : (e : ℕ) → AreJoined t.decisions.now edge e → times e edges ≡ 1
   pub runs : RunsFrom t.decisions.now edges
