@@ -158,7 +158,7 @@ module _ (p : Problem) where
     abbrev pub services : List ℕ → ℕ
     services es = sum_by (λ e. (edge_at p e).service) es
 
-    walk_serves : served_edges walk ≡ edges
+    pub walk_serves : served_edges walk ≡ edges
     walk_serves = sym (tasks_serve walk) ∙ ap (map (λ t. t.edge)) joins.tasks ∙ cheapest.directs
 
     number_of : (e : ℕ) → IsRequired p e → IsEdgeNumber p e

@@ -28,3 +28,4 @@ pub mod Voiding
 pub mod Walking
 pub mod Uniqueness
 pub mod ChainTours
+pub mod PlanParts

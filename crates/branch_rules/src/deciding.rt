@@ -1,16 +1,21 @@
 // What a branch excludes, determines and settles.
-ghost use Rattle.std.specs.Prelude.{◌≡◌, ◌-◌, ◌↔◌, All, IfOk, IsTrue, false};
+ghost use Rattle.std.specs.Prelude.{◌≡◌, ◌-◌, ◌≤◌, ◌↔◌, All, IfOk, IsTrue, length, false};
 ghost use Rattle.branch_rules.specs.ChainTables.{IsChainTable, IsCrossed, IsCrossing, IsUncrossed};
 ghost use Rattle.branch_rules.specs.Decisions.{IsDetermined, IsFixed, IsVoid, PermitsUnexcluded, cuts_of};
+ghost use Rattle.branch_rules.specs.FixedValue.{HasFixedValue};
 ghost use Rattle.branch_rules.specs.Limits.{ArePairsIn, AreShoresIn, HasShoreOf, IsNodeIn, IsShoreOf};
 ghost use Rattle.branch_rules.specs.Trees.{IsLeanNode};
 ghost use Rattle.branch_rules.specs.declared.node.Node.TheVariants.{Cut};
 ghost use Rattle.carp_base.specs.Problem.{IsRequired};
+ghost use Rattle.deadhead_paths.specs.Prices.{costs_of};
+ghost use Rattle.plan_model.specs.Plans.{IsLawful, plan_cost, steps_of};
 
 use crate::chains::Chains;
 use crate::{Branch, Decision, Node};
 use carp_base::{Allowed, Instance, Memory};
 use cut_pool::ShorePool;
+use deadhead_paths::Distances;
+use plan_model::Plan;
 use std::alloc::Global;
 
 // The most decisions on shores that a path of a tree may have.
@@ -103,6 +108,35 @@ impl Branch {
         }
         let allowed = chains.allowed(alloc)?;
         Ok(chains.determines_all(&allowed))
+    }
+
+    /// A plan of the cheapest tour along each chain, for a fixed branch. The distances are those by cost.
+    ///
+    /// It is lawful and costs the fixed value of the branch, which no lawful plan that meets the branch is below
+    /// ([`fixed_value_bounds`](crate::fixed_value_bounds)). It has at most a tour for each required edge and 2,000,000 steps.
+    ///
+    /// With m required edges and d decisions it takes time in proportion to m * m + d and to the steps that it writes.
+    pub fn fixed_plan(
+        &self,
+        alloc: Global,
+        inst: &Instance,
+        pool: &ShorePool,
+        dist: &Distances,
+    ) -> Result<Plan, Memory>
+        requires pairs { ArePairsIn inst.now self.now }
+        requires fixed { IsFixed inst.now pool.now self.now }
+        requires problem { dist.now.problem ≡ inst.now }
+        requires prices { dist.now.prices ≡ costs_of inst.now }
+        ensures lawful { IfOk result (IsLawful inst.now) }
+        ensures value { IfOk result (λ plan. HasFixedValue inst.now self.now (plan_cost inst.now plan)) }
+        ensures few_tours { IfOk result (λ plan. length plan ≤ inst.now.required) }
+        ensures few_steps { IfOk result (λ plan. length (steps_of plan) ≤ 2000000) }
+    {
+        // The pool tells only that the branch is fixed.
+        let _ = pool;
+        let chains = Chains::of(alloc, inst, self.decisions())?;
+        let plan = chains.plan(alloc, dist)?;
+        Ok(plan)
     }
 
     // The number of decisions on shores.
