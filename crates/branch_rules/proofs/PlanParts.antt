@@ -105,7 +105,6 @@ steps_more plan walk = sym (flat_map_more (λ w. w) [] plan walk)
 
 module _ (t : Chains) (table : IsChainTable t) (untangled : t.tangled ≡ false) (light : (e : ℕ) → ¬ (IsHeavy t.inst.now t.decisions.now e e)) (valid : IsValid t.inst.now)
     (symmetric : LeastPriceIsSymmetric) (there : LeastDeadheadIsThere) (least : LeastDeadheadIsLeast) (paths_cost : LeastPathsCost) where
-
   pub first_part : (marks : List Bool) → length marks ≡ t.inst.now.required → ((e : ℕ) → is_marked marks e ≡ false) → unmarked marks ≡ t.inst.now.required → IsPartPlan t 1 marks []
   first_part marks long none all = record {
     long = long;
@@ -345,8 +344,10 @@ module _ (t : Chains) (table : IsChainTable t) (untangled : t.tangled ≡ false)
           | inl same ↦ rw same first_k
           | inr other ↦ first_old e other ∙ is
         ]
+
         here : (if first' k then cost' k else 0) ≡ (if part.first k then part.cost k else 0) + walk_cost t.inst.now walk
         here = omega (arith, ap (λ b. if b then cost' k else 0) first_k, ap (λ b. if b then part.cost k else 0) not_first, cost_k)
+
         elsewhere : (e : ℕ) → e ≢ k → (if first' e then cost' e else 0) ≡ (if part.first e then part.cost e else 0)
         elsewhere e other = ap (λ b. if b then cost' e else 0) (first_old e other) ∙ ap (λ c. if part.first e then c else 0) (cost_old e other)
 

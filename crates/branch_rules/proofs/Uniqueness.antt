@@ -46,13 +46,13 @@ module _ (branch : List Decision) where
       let z_other : z ≢ b = elim first [ inl other ↦ other | inr none ↦ cc ] in
       let z_y : z ≡ y = elim (runs.2 z trail.0) [ inl back ↦ absurd (z_other back) | inr on ↦ on ] in
       let rest = same_run x y ys zs runs.3 (subst (λ e. IsTrail branch e zs) z_y trail.1)
-          (ahead zs (λ same. omega (arith, once x, times_here x x (z ∷ zs) refl, times-cons x z zs, same)))
-          (λ e. omega (arith, once e, times-cons e x (z ∷ zs), ap (λ w. times e (w ∷ zs)) z_y))
-          (λ e. omega (arith, distinct e, times-cons e x (y ∷ ys)))
-          (λ e some. elim (cases_eq z e) [
-            | inl same ↦ absurd (omega (arith, some, distinct e, times-cons e x (y ∷ ys), times_here e y ys (sym z_y ∙ same)))
-            | inr other ↦ omega (arith, covers e (omega (arith, some, times-cons e y ys)), times_other e z zs other)
-          ]) in
+      (ahead zs (λ same. omega (arith, once x, times_here x x (z ∷ zs) refl, times-cons x z zs, same)))
+      (λ e. omega (arith, once e, times-cons e x (z ∷ zs), ap (λ w. times e (w ∷ zs)) z_y))
+      (λ e. omega (arith, distinct e, times-cons e x (y ∷ ys)))
+      (λ e some. elim (cases_eq z e) [
+        | inl same ↦ absurd (omega (arith, some, distinct e, times-cons e x (y ∷ ys), times_here e y ys (sym z_y ∙ same)))
+        | inr other ↦ omega (arith, covers e (omega (arith, some, times-cons e y ys)), times_other e z zs other)
+      ]) in
       ap (λ w. w ∷ zs) z_y ∙ ap (λ ws. y ∷ ws) rest
     where
       ahead : (ws : List ℕ) → (1 ≤ times x ws → ⊥) → first_or_none ws ≢ x ⊎ (ws ≡ [])
@@ -72,6 +72,7 @@ module _ (t : Chains) (table : IsChainTable t) (untangled : t.tangled ≡ false)
     where
       y_x : IsYes t.decisions.now y x
       y_x = yes_turn t.decisions.now x y runs.0
+
       back_y : (n : ℕ) → ((z : ℕ) → IsYes t.decisions.now y z → (z ≡ x) ⊎ (z ≡ n)) → n ≢ x ⊎ (x ≡ 0) → Runs t.decisions.now n y (x ∷ acc)
       back_y n near differ = (
         y_x,

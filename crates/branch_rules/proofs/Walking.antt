@@ -365,6 +365,7 @@ module _ (t : Chains) (table : IsChainTable t) (untangled : t.tangled ≡ false)
     where
       runs : RunsFrom t.decisions.now edges
       runs = is.runs ends
+
       end_in : (es : List ℕ) → RunsFrom t.decisions.now es → ((e : ℕ) → 1 ≤ times e es → AreJoined t.decisions.now end e) → 1 ≤ times end es
       end_in [] runs' joined' = absurd runs'
       end_in (x ∷ xs) runs' joined' =

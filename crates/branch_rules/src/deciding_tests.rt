@@ -8,6 +8,7 @@ use cut_pool::{Shore, ShorePool};
 use std::alloc::{AllocError, Global};
 use std::process::Abort;
 use std::test::Fail;
+use task_tours::{cost_distances, lawful_cost};
 
 // An edge whose service costs as much as a crossing.
 fn street(u: u64, v: u64, cost: u64, demand: u64) -> RawEdge {
@@ -319,4 +320,35 @@ fn a_pair_is_determined_for_a_reason(rt: HostRuntime) -> Result<(), Fail> {
     assert_eq!(&rt; branch.determined(alloc, &inst, 5, 5)?, true, "one edge");
     assert_eq!(&rt; branch.determined(alloc, &inst, 2, 3)?, false, "open");
     Ok(())
+}
+
+// Under these decisions the branch is fixed, and its plan costs this.
+fn expect_fixed_cost(
+    rt: &impl Abort,
+    alloc: Global,
+    inst: &Instance,
+    decisions: &str,
+    want: u128,
+) -> Result<(), Fail> {
+    let pool = ShorePool::new(alloc);
+    let branch = branch_of(alloc, decisions.as_bytes())?;
+    let pairs_in = are_pairs_in(inst, branch.decisions());
+    assert!(rt; pairs_in);
+    let shores_in = are_shores_in(inst, &pool, branch.decisions());
+    assert!(rt; shores_in);
+    let fixed = branch.fixed(alloc, inst, &pool)?;
+    assert!(rt; fixed);
+    let plan = branch.fixed_plan(alloc, inst, &pool, &cost_distances(alloc, inst)?)?;
+    assert_eq!(rt; lawful_cost(alloc, inst, &plan)?, want);
+    Ok(())
+}
+
+#[test]
+fn a_fixed_branch_has_a_plan(rt: HostRuntime) -> Result<(), Fail> {
+    let alloc = rt.alloc();
+    expect_fixed_cost(&rt, alloc, &far_triangle(alloc, 3)?, "", 67)?;
+    let required = [street(1, 2, 5, 1), street(3, 2, 7, 1), street(3, 1, 4, 1)];
+    let inst = Instance::build(alloc, 3, 1, 3, &required, &[])?;
+    expect_fixed_cost(&rt, alloc, &inst, "+12+23", 16)?;
+    expect_fixed_cost(&rt, alloc, &inst, "+13-12-23", 32)
 }
