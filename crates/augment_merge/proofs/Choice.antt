@@ -52,8 +52,8 @@ module _ (p : Problem) (valid : IsValid p) (singles : List (List Step)) (single 
     flagged = ap (λ k. get_or (set flags place true) k false) back ∙ get_or-set_same flags place true false found.in_range;
   })
 
-  module _ (load : ℕ) (load_is : load ≡ (edge_at p (place + 1)).demand) (before after : List Bool) (tour : List Task)
-      (absorbed : IsAbsorbed p load (walk_at singles place) before after (taken ++ task_of (service_of (place + 1)) ∷ []) tour) where
+  module _ (load : ℕ) (load_is : load ≡ (edge_at p (place + 1)).demand) (after : List Bool) (tour : List Task)
+      (absorbed : IsAbsorbed p load (walk_at singles place) after (taken ++ task_of (service_of (place + 1)) ∷ []) tour) where
     tasks : tour ≡ augmented_tasks p (taken ++ task_of (service_of (place + 1)) ∷ []) (edge_at p (place + 1)).demand (walk_at singles place)
     tasks = absorbed.tasks ∙ ap (λ n. augmented_tasks p (taken ++ task_of (service_of (place + 1)) ∷ []) n (walk_at singles place)) load_is
 

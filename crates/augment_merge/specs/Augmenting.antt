@@ -12,7 +12,7 @@ use Rattle.deadhead_paths.specs.Tours.{task_of}
 abbrev pub is_among : ℕ → List Task → Bool
 is_among e tasks = list_any (λ t. t.edge == e) tasks
 
--- the edge is required, its service stands in no tour that is taken, and it fits beside this load; these tasks stand in taken tours
+-- the edge is required, its service stands in no taken tour, and it fits beside this load, where these tasks stand in taken tours
 abbrev pub is_absorbed : Problem → List Task → ℕ → ℕ → Bool
 is_absorbed p taken load e = nat_le 1 e && nat_le e p.required && not (is_among e taken) && nat_le (load + (edge_at p e).demand) p.capacity
 

@@ -14,6 +14,7 @@ reversed_task t = record { edge = t.edge; forward = not t.forward }
 abbrev pub reversed_tour : List Task → List Task
 reversed_tour tour = reverse (map reversed_task tour)
 
+-- the tour as it stands, or reversed
 abbrev pub oriented_tour : Bool → List Task → List Task
 oriented_tour turned tour = if turned then reversed_tour tour else tour
 

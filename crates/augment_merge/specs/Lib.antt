@@ -5,3 +5,4 @@ pub mod Outlines
 pub mod Absorbing
 pub mod Offering
 pub mod TourLaws
+pub mod Examples

@@ -69,6 +69,7 @@ pub record AreJoined (p : Problem) (tours merged : List (List Task)) : Type 0 wh
   pub leads : JoinsLead p tours joins merged
   pub none_saves : (j : Join) → IsSavingJoin p merged j → ⊥
 
+-- the tour serves something
 abbrev pub has_tasks : List Task → Bool
 has_tasks [] = false
 has_tasks (t ∷ ts) = true

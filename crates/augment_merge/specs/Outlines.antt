@@ -24,6 +24,7 @@ pub record IsDoable (p : Problem) (tour : List Task) : Type 0 where
   pub required : AllByRecursion (λ t. IsRequired p t.edge) tour
   pub load : tour_load p tour ≤ p.capacity
 
+-- each of the tours is so
 abbrev pub AreDoable : Problem → List (List Task) → Type 0
 AreDoable p tours = (k : ℕ) → k < length tours → IsDoable p (nth_tour tours k)
 
@@ -44,12 +45,15 @@ pub record IsOutlineOf (p : Problem) (tour : List Task) (o : Outline) : Type 0 w
   pub ends : o.end ≡ tour_ends_at p p.depot tour
   pub loaded : o.load ≡ tour_load p tour
 
+-- what stands where there is no outline
 abbrev pub no_outline : Outline
 no_outline = record { start = 0; end = 0; out = 0; home = 0; load = 0 }
 
+-- the outline at a place from 0
 abbrev pub nth_outline : List Outline → ℕ → Outline
 nth_outline outlines k = slice_index_or outlines k no_outline
 
+-- each is an outline that some tour can have
 abbrev pub AreOutlines : Problem → List Outline → Type 0
 AreOutlines p outlines = (k : ℕ) → k < length outlines → IsOutline p (nth_outline outlines k)
 
@@ -66,6 +70,7 @@ pub record AreReoutlined (p : Problem) (tours : List (List Task)) (j : Join) (be
   pub emptied_is : IsOutlineOf p [] emptied
   pub outlines : after ≡ slice_set (slice_set before j.first joined) j.second emptied
 
+-- the outline of the tour as it stands, or reversed
 abbrev pub oriented_outline : Bool → Outline → Outline
 oriented_outline turned o = if turned then record { start = o.end; end = o.start; out = o.home; home = o.out; load = o.load } else o
 

@@ -80,7 +80,7 @@ fn absorb(
     requires load { load ≤ inst.now.capacity }
     requires flags { length served.old ≡ inst.now.required }
     requires own { AllByRecursion (λ s. IsTrue s.served → IsFlagged inst.now served.old s.edge) walk.now }
-    ensures tour { IfOk result (λ tour. (taken : List Task) → FlagsSay inst.now served.old taken → IsAbsorbed inst.now load walk.now served.old served.new taken tour) }
+    ensures tour { IfOk result (λ tour. (taken : List Task) → FlagsSay inst.now served.old taken → IsAbsorbed inst.now load walk.now served.new taken tour) }
     ensures fewer { unflagged served.new ≤ unflagged served.old }
 {
     // What a read of the instance says of it is needed: that it is valid.

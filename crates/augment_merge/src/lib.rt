@@ -4,6 +4,8 @@
 #![tactic(auto)]
 
 mod augmenting;
+#[cfg(test)]
+mod examples;
 mod joins;
 mod laws;
 mod making;

@@ -1,5 +1,5 @@
 use Rattle.std.proofs.Common.{List, ◌≡◌, ◌+◌, true, [], ◌∷◌, ◌++◌, sym, ap, subst, ◌∙◌, arith}
-use Rattle.std.specs.Prelude.{IsTrue, slice_set}
+use Rattle.std.specs.Prelude.{IsTrue}
 use Rattle.std.specs.List.{AllByRecursion}
 use Rattle.std.proofs.lemmas.List.{length_push}
 use Rattle.carp_base.specs.declared.edge.Task.{Task}
@@ -34,13 +34,13 @@ loop-place-preserved c =
     let after = c.absorb.new.served in
     let own : List Task = all_tasks tours ++ task_of (service_of (place + 1)) ∷ [] in
     let now = flags_now p c.vertices.ensures.valid c.args.singles.now c.requires.singles c.args.costs.now c.requires.costs c.loop-place.served (all_tasks tours) loop.says place found in
-    let absorbed : IsAbsorbed p c.edge-load.result.demand (walk_at c.args.singles.now place) (slice_set c.loop-place.served place true) after own tour =
-    subst (λ walk. IsAbsorbed p c.edge-load.result.demand walk (slice_set c.loop-place.served place true) after own tour) c.walk.ensures.value (c.in_ok-tour.ensures.tour own now) in
+    let absorbed : IsAbsorbed p c.edge-load.result.demand (walk_at c.args.singles.now place) after own tour =
+    subst (λ walk. IsAbsorbed p c.edge-load.result.demand walk after own tour) c.walk.ensures.value (c.in_ok-tour.ensures.tour own now) in
     let load_is : c.edge-load.result.demand ≡ (edge_at p (place + 1)).demand = ap (λ x. x.demand) c.edge-load.ensures in
     let taken = is_taken p c.vertices.ensures.valid c.args.singles.now c.requires.singles c.args.costs.now c.requires.costs c.loop-place.served (all_tasks tours) loop.says place found
-    c.edge-load.result.demand load_is (slice_set c.loop-place.served place true) after tour absorbed in
+    c.edge-load.result.demand load_is after tour absorbed in
     let says = flags_after p c.vertices.ensures.valid c.args.singles.now c.requires.singles c.args.costs.now c.requires.costs c.loop-place.served (all_tasks tours) loop.says place found
-    c.edge-load.result.demand load_is (slice_set c.loop-place.served place true) after tour absorbed in
+    c.edge-load.result.demand load_is after tour absorbed in
     rw c.in_ok-push.ensures.items record {
       says = subst (FlagsSay p after) (sym (tasks_more tours tour)) says;
       taken = taken_more p c.args.singles.now [] tours tour loop.taken taken;
