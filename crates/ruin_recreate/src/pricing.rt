@@ -1,4 +1,6 @@
 // What loads above the room cost while a search goes on.
+ghost use Rattle.ruin_recreate.specs.Boards.{IsBoard};
+
 use crate::board::Board;
 
 // The greatest price of a unit of load, in 256ths.
@@ -19,10 +21,11 @@ fn total_demand(board: &Board) -> u64 {
 }
 
 // The first price: a unit of load costs four times what there is to cross without service for each unit of demand.
-pub(crate) fn first_price(board: &Board, scale: u64) -> u64 {
-    let services = board.width as u64 / 2;
-    let cost = scale.saturating_mul(1024).saturating_mul(services);
-    (cost / total_demand(board).saturating_add(1))
+pub(crate) fn first_price(board: &Board, scale: u64) -> u64
+    requires { IsBoard board.now }
+{
+    let deadheads = scale.saturating_mul(u64::from(board.edges()));
+    (deadheads.saturating_mul(4 * 256) / total_demand(board).saturating_add(1))
         .saturating_add(1)
         .min(GREATEST)
 }

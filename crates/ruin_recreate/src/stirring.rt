@@ -12,7 +12,7 @@ use std::alloc::Global;
 // The greatest number of steps in all.
 const MOST_STEPS: u32 = 120_000;
 
-// How many steps there are in all.
+// How many steps there are in all: more for more pairs of edges, up to 78 edges.
 fn steps(edges: u32) -> u32
     requires { edges ≤ 600 }
 {
@@ -25,12 +25,13 @@ fn steps(edges: u32) -> u32
 /// many rounds are lawful.
 ///
 /// A round is a list of stops of the board: the depot before, between and after the tours. `costs` has what a crossing of its
-/// edge costs, for each stop. Nothing but stops of the board is promised of the answer: its tours are to be tested. Where the
-/// start serves each edge once, so does the answer; it is the start, or costs fewer deadheads and loads no tour above the room.
+/// edge costs, for each stop. The answer is meant to be the start, or a round with the same services that costs fewer deadheads
+/// and loads no tour above the room. It is promised to have stops of the board alone, so the caller has to test it.
 ///
 /// The same generator gives the same answer, and is left further on. With m required edges there are up to six annealings, the
-/// first from the start and the others from one tour for each service, of 8,000 + 18 * m * m steps in all and at most 120,000;
-/// each takes time in proportion to m. It takes space in proportion to m.
+/// first from the start and the others from one tour for each service, of 8,000 + 18 * m * m steps in all and at most 120,000.
+/// A step takes time in proportion to m, and the neighbours of all edges, once, in proportion to m * m log m. Beside the board
+/// it takes space in proportion to m.
 pub fn stir(
     alloc: Global,
     board: &Board,
@@ -47,6 +48,7 @@ pub fn stir(
     if edges < 2 {
         return Ok(start);
     }
+    // New starts gain where there are few edges; where there are many one long annealing is better than some short ones.
     let annealings = (600 / edges).clamp(1, 6);
     let steps = steps(edges) / annealings;
     let mut search = Search::new(alloc, board, start)?;
