@@ -1,11 +1,10 @@
 -- What the examples need.
-use Rattle.std.proofs.Common.{◌≡◌, ◌≢◌, ℕ, ◌≤◌, List, [], ◌∷◌, ◌++◌, true, false, refl, sym, ap, ◌∙◌, subst, inl, inr, arith}
+use Rattle.std.proofs.Common.{◌≡◌, ◌≢◌, ℕ, List, [], ◌∷◌, ◌++◌, false, refl, sym, ap, ◌∙◌, inl, arith}
 use Rattle.std.proofs.lemmas.Bool.{false≢true}
 use Rattle.carp_base.specs.declared.edge.Task.{Task}
 use Rattle.carp_base.specs.Problem.{IsRequired}
-use Rattle.plan_model.specs.declared.step.Step.{Step}
-use Rattle.plan_model.specs.Plans.{IsLawful, plan_cost, services_of}
-use Rattle.task_tours.specs.Examples.{alley_out, lane_and_alley, lane_home, lane_out, lane_walk}
+use Rattle.plan_model.specs.Plans.{IsLawful, services_of}
+use Rattle.task_tours.specs.Examples.{lane_and_alley, lane_out, lane_walk}
 use Rattle.local_moves.specs.Changes.{IsChange, IsSettledPlan, MovesOne, OpensOne, SwapsBetween, SwapsWithin, TakesOutTask, TurnsOne, moves_on, opens_tour, other_direction, swaps_between, swaps_within, turns}
 use Rattle.local_moves.specs.Examples.{detour}
 

@@ -1,5 +1,5 @@
 // The search for a change that is better.
-ghost use Rattle.std.specs.Prelude.{◌≡◌, ℕ, ◌<◌, ◌≤◌, ◌+◌, IfOk, MatchOption, length};
+ghost use Rattle.std.specs.Prelude.{ℕ, ◌<◌, ◌≤◌, ◌+◌, IfOk, MatchOption, length};
 ghost use Rattle.local_moves.specs.Loads.{AreLoads};
 ghost use Rattle.local_moves.specs.Rounds.{IsLater, IsQuiet, IsRound, IsSettledRound, IsStopBoard};
 
