@@ -111,11 +111,20 @@ fn joins_no_more_than_a_load(rt: HostRuntime) -> Result<(), Fail> {
 }
 
 #[test]
-fn joins_again(rt: HostRuntime) -> Result<(), Fail> {
+fn joins_what_was_joined(rt: HostRuntime) -> Result<(), Fail> {
     let alloc = rt.alloc();
-    let required = [street(2, 3, 1, 1), street(3, 4, 1, 1), street(4, 2, 1, 1)];
-    let inst = Instance::build(alloc, 4, 1, 3, &required, &[street(1, 2, 10, 0)])?;
-    expect(&rt, alloc, &inst, ">4+1+2+3<4;", 23)
+    let required = [street(2, 3, 1, 1), street(4, 5, 1, 1), street(6, 7, 1, 1)];
+    let others = [
+        street(1, 2, 10, 0),
+        street(1, 4, 10, 0),
+        street(1, 6, 10, 0),
+        street(3, 4, 2, 0),
+        street(5, 6, 2, 0),
+    ];
+    let all = Instance::build(alloc, 7, 1, 3, &required, &others)?;
+    expect(&rt, alloc, &all, ">4+1>7+2>8+3<3<6;", 28)?;
+    let two = Instance::build(alloc, 7, 1, 2, &required, &others)?;
+    expect(&rt, alloc, &two, ">4+1>7+2<2<5;>6+3<3<6;", 47)
 }
 
 #[test]
