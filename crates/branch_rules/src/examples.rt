@@ -5,12 +5,13 @@ ghost use Rattle.cut_pool.specs.Examples.{in_a_row};
 ghost use Rattle.carp_base.specs.Problem.{edge_at};
 ghost use Rattle.branch_rules.specs.Neighbours.{AreNeighbours};
 ghost use Rattle.branch_rules.specs.Prices.{KeepsRules, deadhead_price, task_adds, value_of};
-ghost use Rattle.branch_rules.specs.Decisions.{Excluded, IsFixed, IsVoid, Meets, MeetsAll, Spells, lower_of, lowest, rules_of};
+ghost use Rattle.branch_rules.specs.Decisions.{Excluded, IsFixed, IsVoid, Meets, MeetsAll, Spells, cuts_of, lower_of, lowest, rules_of};
 ghost use Rattle.branch_rules.specs.FixedValue.{HasFixedValue};
 ghost use Rattle.branch_rules.specs.Laws.{FitsBranch, IsMet};
-ghost use Rattle.branch_rules.specs.Trees.{HasTurns, IsLean, IsSoundSupport, NodesShow, PairsIn, Shows, Tree, cut, fixed, pair, preorder, price, void};
+ghost use Rattle.branch_rules.specs.Limits.{ArePairsIn, AreShoresIn, IsNodeIn};
+ghost use Rattle.branch_rules.specs.Trees.{HasTurns, IsLean, IsLeanNode, IsSoundSupport, NodesShow, PairsIn, Shows, Tree, cut, fixed, pair, preorder, price, void};
 ghost use Rattle.branch_rules.specs.declared.decision.Decision.TheVariants.{High, Low, No, Yes};
-ghost use Rattle.branch_rules.specs.declared.node.Node.TheVariants.{Cut, Fixed, Price};
+ghost use Rattle.branch_rules.specs.declared.node.Node.TheVariants.{Cut, Fixed, Pair, Price};
 ghost use Rattle.branch_rules.specs.Examples.{heavy_prices, light_prices, one_row_tour, town_plan, town_pool, town_prices, town_support, two_row_tours};
 
 use crate::fixed_value_bounds;
@@ -107,4 +108,21 @@ fn a_lean_tree()
     ensures required { ¬ (PairsIn town (pair 1 2 fixed fixed)) }
     ensures closed { HasTurns town_support [] 12 (price 1) 1 }
     ensures open { HasTurns town_support [] 13 (price 1) 0 }
+{}
+
+fn premises_of_a_branch()
+    ensures pairs { ArePairsIn (in_a_row 3) (Yes 2 1 ∷ Low 1 5 ∷ []) }
+    ensures one_edge { ¬ (ArePairsIn (in_a_row 3) (No 1 1 ∷ [])) }
+    ensures not_required { ¬ (ArePairsIn (in_a_row 3) (Yes 1 3 ∷ [])) }
+    ensures no_shore { ¬ (AreShoresIn town town_pool (Low 2 0 ∷ [])) }
+    ensures node { ¬ (IsNodeIn town town_pool (Pair 1 1)) }
+    ensures cuts { cuts_of (Low 1 2 ∷ Yes 1 2 ∷ High 1 3 ∷ []) ≡ 2 }
+{}
+
+fn a_lean_node()
+    ensures cut { IsLeanNode town town_pool [] 4 (Cut 1 1) }
+    ensures below { ¬ (IsLeanNode town town_pool [] 4 (Cut 1 0)) }
+    ensures none_left { ¬ (IsLeanNode town town_pool [] 0 (Cut 1 1)) }
+    ensures one_edge { ¬ (IsLeanNode town town_pool [] 4 (Pair 1 1)) }
+    ensures leaf { IsLeanNode town town_pool [] 0 Fixed }
 {}
