@@ -1,4 +1,6 @@
 use Rattle.std.proofs.lemmas.Bool.{both_ways, false_from_ne_true}
+use Rattle.branch_rules.proofs.Uniqueness.{two_orders}
+use Rattle.branch_rules.proofs.ChainTours.{tour_least}
 use Rattle.branch_rules.proofs.Walking.{walked_order, joined_free, if_ok}
 use Rattle.branch_rules.proofs.chains.Chains.order.Goals as goal
 
