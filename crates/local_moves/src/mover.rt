@@ -16,7 +16,7 @@ use task_tours::{Standing, cost_distances, lawful_cost};
 /// A helper that changes the best plan so far by ruin and recreate, where that makes it no dearer, and settles it.
 ///
 /// It draws on from call to call from the seed that it was given, so that its offers are the same for the same seed, instance and
-/// best plans.
+/// best plans. Most of its time goes into ruin and recreate (at most 120,000 steps, each in proportion to the required edges).
 #[derive(Drop)]
 pub struct Mover {
     standing: Standing,

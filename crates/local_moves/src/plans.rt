@@ -72,8 +72,8 @@ pub(crate) fn settle_on(
 /// tour of its own, or lets two services change places. Of all lawful plans whose tours are one such change away none costs
 /// less. The distances are those by cost.
 ///
-/// With m required edges it takes time and space in proportion to m * m, and that time once more for about each pass over all
-/// services in which it finds a change.
+/// With m required edges a pass over all changes takes time in proportion to m * m, and so does the table of least prices
+/// that it reads. Passes go on until one finds nothing; each change found lowers the cost.
 pub fn settle(alloc: Global, inst: &Instance, dist: &Distances, plan: &Plan) -> Result<Plan, Memory>
     requires problem { dist.now.problem ≡ inst.now }
     requires prices { dist.now.prices ≡ costs_of inst.now }
