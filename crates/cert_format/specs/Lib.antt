@@ -1,0 +1,3 @@
+pub mod Certs
+pub mod Readers
+pub mod Held

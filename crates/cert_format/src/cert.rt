@@ -1,0 +1,43 @@
+// A certificate, and all of it but its nodes.
+use branch_rules::{PriceSet, Tree};
+use cert_lines::Counts;
+use cut_pool::ShorePool;
+use plan_model::Plan;
+
+/// A plan and a lower bound, with what shows that no lawful plan costs less.
+#[derive(Drop)]
+pub struct Cert {
+    /// The cost of the plan.
+    pub cost: u64,
+    /// The lower bound.
+    pub bound: u64,
+    /// The tours.
+    pub plan: Plan,
+    /// The shores on which the price sets have weights and the tree has cuts.
+    pub shores: ShorePool,
+    /// The price sets that leaves name, from 1.
+    pub sets: Vec<PriceSet>,
+    /// The nodes of the tree, in preorder.
+    pub tree: Tree,
+    /// The numbers of the instance: version 2 of the text has them, and version 1 has not.
+    pub counts: Option<Counts>,
+}
+
+/// A certificate without its nodes: what stands before the first of them.
+#[derive(Drop)]
+pub struct CertHead {
+    /// The cost of the plan.
+    pub cost: u64,
+    /// The lower bound.
+    pub bound: u64,
+    /// The tours.
+    pub plan: Plan,
+    /// The shores.
+    pub shores: ShorePool,
+    /// The price sets.
+    pub sets: Vec<PriceSet>,
+    /// How many nodes follow, 1 to 2,097,153.
+    pub nodes: u64,
+    /// The numbers of the instance, where the text has them.
+    pub counts: Option<Counts>,
+}

@@ -1,0 +1,15 @@
+// What a reader in pieces gives.
+use branch_rules::Node;
+
+/// What the bytes of one call complete.
+#[derive(Clone, Copy, Debug, PartialEq, Eq)]
+pub enum Item {
+    /// Nothing.
+    Quiet,
+    /// All lines up to the number of nodes.
+    Head,
+    /// A node of the tree.
+    Node(Node),
+    /// The line `end`: the certificate is whole.
+    Whole,
+}

@@ -1,0 +1,36 @@
+// Which line stands next.
+
+/// The kind of line that stands next in the text of a certificate.
+#[derive(Clone, Copy, Debug, PartialEq, Eq)]
+pub enum Next {
+    /// The version, with which the text begins.
+    Version,
+    /// The numbers of the instance, which only version 2 has.
+    Counts,
+    /// The cost of the plan.
+    Cost,
+    /// The lower bound.
+    Bound,
+    /// How many tours follow.
+    Tours,
+    /// A tour; so many are still to come, this one too.
+    Tour { left: u64 },
+    /// How many shores follow.
+    Shores,
+    /// A shore; so many are still to come.
+    Shore { left: u64 },
+    /// How many price sets follow.
+    Sets,
+    /// The prices of a set; so many sets are still to come.
+    Prices { left: u64 },
+    /// The weights of the set whose prices stand on the line before.
+    Weights { left: u64 },
+    /// How many nodes follow.
+    Nodes,
+    /// A node; so many nodes, and so many whole subtrees, are still to come.
+    Node { left: u64, open: u64 },
+    /// The line `end`.
+    End,
+    /// No line may follow.
+    Nothing,
+}
