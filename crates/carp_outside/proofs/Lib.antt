@@ -1,3 +1,3 @@
 mod Nowhere
-mod Pieces
+mod Files
 mod Updates

@@ -1,5 +1,6 @@
 pub mod Causes
 pub mod Told
+pub mod Pieces
 pub mod Calls
 pub mod Files
 pub mod MemShelf

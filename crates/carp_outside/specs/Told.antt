@@ -1,5 +1,5 @@
 -- What a look at told contents gives, and what a keep or a put leaves.
-use Rattle.std.specs.Prelude.{◌≡◌, ◌≢◌, ℕ, ◌≤◌, ◌++◌, List, length, take, drop, Option, Some, ◌⊎◌}
+use Rattle.std.specs.Prelude.{◌≡◌, ◌≢◌, ℕ, ◌≤◌, ◌++◌, [], List, length, take, drop, Option, Some, ◌⊎◌, IsSomeAnd}
 
 -- n bytes of the file from `at` on stand at the front of the buffer, and none only where none are left
 pub record IsPiece (file : List ℕ) (at n : ℕ) (buffer : List ℕ) : Type 0 where
@@ -24,3 +24,12 @@ SameContents before now = (name : List ℕ) → now name ≡ before name
 -- the first n bytes, all of them or fewer, were written
 abbrev pub WroteFront : List ℕ → List ℕ → List ℕ → Type 0
 WroteFront bytes before now = (n : ℕ) × (n ≤ length bytes) × (now ≡ before ++ take n bytes)
+
+-- the piece stands in the file at a place from 0, and is empty only where none of the file is left
+pub record IsPieceAt (file : List ℕ) (at : ℕ) (piece : List ℕ) : Type 0 where
+  pub is : piece ≡ take (length piece) (drop at file)
+  pub none_at_end : piece ≡ [] → length file ≤ at
+
+-- the name is held, and the piece stands in its bytes
+abbrev pub IsNextPiece : Option (List ℕ) → ℕ → List ℕ → Type 0
+IsNextPiece held at piece = IsSomeAnd held (λ file. IsPieceAt file at piece)

@@ -11,6 +11,9 @@ mod mem_file;
 mod mem_files;
 mod mem_shelf;
 mod mem_sink;
+mod pieces;
+#[cfg(test)]
+mod pieces_tests;
 mod reading;
 mod shelf;
 mod sink;
@@ -19,6 +22,7 @@ mod tests;
 
 pub use mem_shelf::MemShelf;
 pub use mem_sink::MemSink;
+pub use pieces::Pieces;
 pub use reading::{ReadFault, put_all, read_whole};
 pub use shelf::{Shelf, ShelfFault};
 pub use sink::{Sink, SinkFault};

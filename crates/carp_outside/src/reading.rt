@@ -5,8 +5,8 @@ ghost use Rattle.carp_outside.specs.declared.reading.ReadFault.TheVariants.{Faul
 ghost use Rattle.carp_outside.specs.Causes.{Rose, RoseBy, HasCause};
 ghost use Rattle.carp_outside.specs.Told.{SameContents, WroteFront};
 
-use crate::{Shelf, ShelfFault, Sink, SinkFault};
-use carp_base::{Fail, Memory};
+use crate::{Pieces, Shelf, Sink, SinkFault};
+use carp_base::Fail;
 use std::alloc::Global;
 
 /// Why a file was not read whole.
@@ -18,7 +18,7 @@ pub enum ReadFault {
     TooLong,
 }
 
-// The most bytes that one look asks for.
+// The most bytes of a piece.
 const PIECE: usize = 65_536;
 
 /// Reads all bytes of a name, where these are at most `limit`. It looks for pieces of 64 KiB at most until a look finds
@@ -57,26 +57,14 @@ pub fn read_whole<H: Shelf>(
     ensures looks { (other : List ℕ) → H.failed_looks shelf.old other ≤ H.failed_looks shelf.new other }
 {
     let mut bytes = Vec::new(alloc);
-    let mut room = zeros(alloc, PIECE)?;
-    let piece = room.as_mut_slice();
-    while bytes.len() as u64 <= limit {
-        let count = match shelf.look(name, bytes.len() as u64, piece) {
-            Ok(count) => count,
-            Err(ShelfFault) => return Err(Fail::Refused(ReadFault::Fault)),
-        };
-        if count == 0 {
-            return Ok(bytes);
+    let mut pieces = Pieces::new(alloc, PIECE, limit)?;
+    loop {
+        match pieces.next(shelf, name) {
+            Ok(0) => return Ok(bytes),
+            Ok(_) => bytes.extend_from_slice(pieces.piece())?,
+            Err(fault) => return Err(Fail::Refused(fault)),
         }
-        bytes.extend_from_slice(&piece[..count])?;
     }
-    Err(Fail::Refused(ReadFault::TooLong))
-}
-
-// So many bytes, each 0.
-fn zeros(alloc: Global, count: usize) -> Result<Vec<u8>, Memory>
-    ensures { IfOk result (λ bytes. length bytes.items ≡ count) }
-{
-    Ok(vec![in alloc; 0u8; count]?)
 }
 
 /// Writes all bytes, or answers the first failure of the sink. Where the sink tells what was written, that is all bytes, or

@@ -1,5 +1,5 @@
 use Rattle.std.proofs.Common.{rules}
-use Rattle.carp_outside.proofs.Pieces.{wrote_more}
+use Rattle.carp_outside.proofs.Files.{wrote_more}
 use Rattle.carp_outside.proofs.reading.put_all.Goals as goal
 
 pub loop-done-preserved : goal.loop-done-preserved

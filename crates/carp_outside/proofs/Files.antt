@@ -3,7 +3,7 @@ use Rattle.std.proofs.Common.{◌≡◌, ℕ, zero, suc, ◌+◌, ◌-◌, ◌�
 use Rattle.std.specs.Prelude.{IsSomeAnd, IsSome}
 use Rattle.std.proofs.Common.{rules}
 use Rattle.std.proofs.lemmas.List.{length-take, length-drop, length-append, take_rest}
-use Rattle.carp_outside.specs.Told.{IsPiece}
+use Rattle.carp_outside.specs.Told.{IsPieceAt, IsNextPiece}
 use Rattle.carp_outside.specs.Causes.{grown, RoseBy}
 
 pub take_add : {X : Type 0} (m n : ℕ) (xs : List X) → take (m + n) xs ≡ take m xs ++ take n (drop m xs)
@@ -19,26 +19,25 @@ wrote_more before now after bytes done n so_far more =
     rw (rest, so_far, take_add) (append_assoc before (take done bytes) (take n (drop done bytes)))
 
 -- one more piece was read
-pub read_more : (file read buffer after : List ℕ) (n : ℕ) → read ≡ take (length read) file → length read ≤ length file → IsPiece file (length read) n buffer
-    → after ≡ read ++ take n buffer → (after ≡ take (length after) file) × (length after ≤ length file)
-read_more file read buffer after n so_far inside piece is =
-    let piece_is : take n buffer ≡ take n (drop (length read) file) = piece.bytes in
-    let n_inside : n ≤ length file - length read = rw (← length-drop (length read) file) piece.within in
-    let piece_length : length (take n buffer) ≡ n = rw piece_is (length-take n (drop (length read) file) ∙ omega (arith, piece.within)) in
-    let after_length : length after ≡ length read + n = ap length is ∙ length-append read (take n buffer) ∙ ap (λ k. length read + k) piece_length in (
-      rw after_length (is ∙ ap (λ ys. read ++ ys) piece_is ∙ ap (λ ys. ys ++ take n (drop (length read) file)) so_far ∙ sym (take_add (length read) n file)),
+pub read_more : (file read piece after : List ℕ) → read ≡ take (length read) file → length read ≤ length file → IsPieceAt file (length read) piece
+    → after ≡ read ++ piece → (after ≡ take (length after) file) × (length after ≤ length file)
+read_more file read piece after so_far inside there is =
+    let cut : length piece ≡ length (take (length piece) (drop (length read) file)) = ap length there.is in
+    let few : length piece ≤ length file - length read = rw (cut, length-take (length piece) (drop (length read) file), length-drop (length read) file) (omega arith) in
+    let after_length : length after ≡ length read + length piece = ap length is ∙ length-append read piece in (
+      rw after_length (is ∙ ap (λ ys. read ++ ys) there.is ∙ ap (λ ys. ys ++ take (length piece) (drop (length read) file)) so_far ∙ sym (take_add (length read) (length piece) file)),
       omega arith,
     )
 
-pub read_more_told : (held held_now : Option (List ℕ)) (read buffer after : List ℕ) (at n : ℕ) → held_now ≡ held → at ≡ length read
+pub read_more_told : (held held_now : Option (List ℕ)) (read piece after : List ℕ) (at : ℕ) → held_now ≡ held → at ≡ length read
     → IfSome held (λ file. (read ≡ take (length read) file) × (length read ≤ length file))
-    → IsSomeAnd held_now (λ file. IsPiece file at n buffer)
-    → after ≡ read ++ take n buffer
+    → IsNextPiece held_now at piece
+    → after ≡ read ++ piece
     → IfSome held (λ file. (after ≡ take (length after) file) × (length after ≤ length file))
-read_more_told None held_now read buffer after at n same place so_far piece is = tt
-read_more_told (Some file) held_now read buffer after at n same place so_far piece is =
-    let here : IsPiece file at n buffer = subst (λ h. IsSomeAnd h (λ file. IsPiece file at n buffer)) same piece in
-    read_more file read buffer after n so_far.0 so_far.1 (subst (λ k. IsPiece file k n buffer) place here) is
+read_more_told None held_now read piece after at same place so_far there is = tt
+read_more_told (Some file) held_now read piece after at same place so_far there is =
+    let here : IsPieceAt file at piece = subst (λ h. IsSomeAnd h (λ file. IsPieceAt file at piece)) same there in
+    read_more file read piece after so_far.0 so_far.1 (subst (λ k. IsPieceAt file k piece) place here) is
 
 -- more bytes were given
 pub given_more : (before now after total n more : ℕ) → RoseBy total before now → after ≡ grown now n → more ≡ total + n → RoseBy more before after
