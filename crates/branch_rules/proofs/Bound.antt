@@ -11,7 +11,7 @@ use Rattle.plan_model.specs.Plans.{IsLawful, IsLawfulWalk, steps_of, step_cost, 
 use Rattle.plan_model.specs.declared.step.Step.{Step}
 use Rattle.plan_model.specs.Laws.{ServedOnceByNumber}
 use Rattle.plan_model.specs.Sums.{sum_to}
-use Rattle.branch_rules.specs.Neighbours.{served_edges}
+use Rattle.decision_chains.specs.Neighbours.{served_edges}
 use Rattle.deadhead_paths.specs.Tours.{IsFollowed}
 use Rattle.branch_rules.specs.Prices.{weigh, KeepsRules, Prices, signed_sum, crosses_shore, price_in, task_adds, deadhead_price, Rules, weight_value, value_of}
 use Rattle.branch_rules.specs.declared.weight.Weight.{Weight}

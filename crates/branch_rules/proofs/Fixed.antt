@@ -8,30 +8,20 @@ use Rattle.carp_base.specs.Problem.{Problem, IsRequired}
 use Rattle.plan_model.specs.Plans.{IsLawful, IsLawfulWalk, steps_of, walk_cost, step_cost, plan_cost}
 use Rattle.plan_model.specs.declared.step.Step.{Step}
 use Rattle.plan_model.specs.Laws.{ServedOnceByNumber}
-use Rattle.branch_rules.specs.Neighbours.{served_edges, times}
+use Rattle.decision_chains.specs.Neighbours.{served_edges, times}
 use Rattle.deadhead_paths.specs.Tours.{IsFollowed}
-use Rattle.branch_rules.specs.Neighbours.{AreNeighbours}
-use Rattle.branch_rules.specs.Decisions.{IsYes, YesPath, AreJoined, Spells}
-use Rattle.branch_rules.specs.FixedValue.{ServesChain, HasFixedValue}
-use Rattle.branch_rules.specs.declared.decision.Decision.{Decision}
+use Rattle.decision_chains.specs.Neighbours.{AreNeighbours}
+use Rattle.decision_chains.specs.Exclusions.{IsYes, YesPath, AreJoined}
+use Rattle.branch_rules.specs.Decisions.{Spells}
+use Rattle.chain_plans.specs.FixedValue.{ServesChain, HasFixedValue}
+use Rattle.decision_chains.specs.declared.decision.Decision.{Decision}
 use Rattle.branch_rules.proofs.Services.{map-cond, all_required}
 use Rattle.branch_rules.proofs.Line.{times-cons, times-same}
 use Rattle.branch_rules.proofs.Heavy.{IsWalkOf, walk_services, path_stays}
-use Rattle.branch_rules.proofs.Ruling.{yes_turn}
+use Rattle.branch_rules.proofs.ChainLaws.{ChainLaws}
 
 followed_later : (x : ℕ) (es : List ℕ) (a b : ℕ) → IsFollowed es a b → IsFollowed (x ∷ es) a b
 followed_later x es a b follows = record { before = x ∷ follows.before; after = follows.after; joined = ap (λ ys. x ∷ ys) follows.joined }
-
--- paths of yes pairs, joined and turned
-pub path_append : (branch : List Decision) (a b c : ℕ) (xs ys : List ℕ) → YesPath branch a xs b → YesPath branch b ys c → YesPath branch a (xs ++ ys) c
-path_append branch a b c [] ys one two = rw one two
-path_append branch a b c (x ∷ xs) ys one two = (one.0, path_append branch x b c xs ys one.1 two)
-
-pub path_back : (branch : List Decision) (a b : ℕ) (path : List ℕ) → YesPath branch a path b → AreJoined branch b a
-path_back branch a b [] joined = ([], sym joined)
-path_back branch a b (x ∷ path) joined =
-    let rest = path_back branch x b path joined.1 in
-    (rest.0 ++ a ∷ [], path_append branch b x a rest.0 (a ∷ []) rest.1 (yes_turn branch a x joined.0, refl))
 
 from_head : (branch : List Decision) (e : ℕ) (es : List ℕ) → ((a b : ℕ) → IsFollowed (e ∷ es) a b → IsYes branch a b) → (f : ℕ) → 1 ≤ times f (e ∷ es) → AreJoined branch e f
 from_head branch e [] order f in_it = elim (cases_eq e f) [
@@ -46,13 +36,12 @@ from_head branch e (x ∷ es) order f in_it = elim (cases_eq e f) [
       (x ∷ rest.0, (order e x (record { before = []; after = es; joined = refl }), rest.1))
 ]
 
-all_joined : (branch : List Decision) (es : List ℕ) → ((a b : ℕ) → IsFollowed es a b → IsYes branch a b) → (e f : ℕ) → 1 ≤ times e es → 1 ≤ times f es → AreJoined branch e f
-all_joined branch [] order e f e_in f_in = absurd (omega (arith, e_in))
-all_joined branch (x ∷ es) order e f e_in f_in =
+all_joined : (laws : ChainLaws) (branch : List Decision) (es : List ℕ) → ((a b : ℕ) → IsFollowed es a b → IsYes branch a b) → (e f : ℕ) → 1 ≤ times e es → 1 ≤ times f es → AreJoined branch e f
+all_joined laws branch [] order e f e_in f_in = absurd (omega (arith, e_in))
+all_joined laws branch (x ∷ es) order e f e_in f_in =
     let to_e = from_head branch x es order e e_in in
     let to_f = from_head branch x es order f f_in in
-    let back = path_back branch x e to_e.0 to_e.1 in
-    (back.0 ++ to_f.0, path_append branch e x f back.0 to_f.0 back.1 to_f.1)
+    laws.joins.on branch e x f (laws.joins.turned branch x e to_e) to_f
 
 -- a sum over edges of which at most one counts
 module _ (first : ℕ → Bool) (least : ℕ → ℕ) (cost : ℕ) where
@@ -109,7 +98,7 @@ member_all P (e ∷ es) all f in_it = elim (cases_eq e f) [
   | inr other ↦ member_all P es all.1 f (omega (arith, in_it, times-cons f e es, ap {B = ℕ} (λ b. cond b 1 0) (ne_eqb e f other)))
 ]
 
-module _ (p : Problem) (plan : List (List Step)) (branch : List Decision) (lawful : IsLawful p plan) (spells : Spells branch plan) (value : ℕ) (fixed : HasFixedValue p branch value) where
+module _ (laws : ChainLaws) (p : Problem) (plan : List (List Step)) (branch : List Decision) (lawful : IsLawful p plan) (spells : Spells branch plan) (value : ℕ) (fixed : HasFixedValue p branch value) where
   walk_once : (walk : List Step) → IsWalkOf walk plan → IsLawfulWalk p walk → (f : ℕ) → 1 ≤ times f (served_edges walk) → times f (served_edges walk) ≤ 1
   walk_once walk is own f f_in =
       let required = member_all (IsRequired p) (served_edges walk) (all_required p walk own.serves_required) f f_in in
@@ -122,9 +111,9 @@ module _ (p : Problem) (plan : List (List Step)) (branch : List Decision) (lawfu
       (e : ℕ) → 1 ≤ times e (served_edges walk) → ServesChain p branch e walk
   walk_serves walk is own near e e_in = record {
     leads = own.leads;
-    just = λ f f_in. all_joined branch (served_edges walk) (walk_order walk near) e f e_in f_in;
+    just = λ f f_in. all_joined laws branch (served_edges walk) (walk_order walk near) e f e_in f_in;
     each = λ f joined.
-        let f_in = path_stays p plan branch lawful spells.each_yes walk e f joined.0 is joined.1 e_in in
+        let f_in = path_stays laws p plan branch lawful spells.each_yes walk e f joined.0 is joined.1 e_in in
         omega (arith, f_in, walk_once walk is own f f_in);
     order = walk_order walk near;
   }
@@ -134,7 +123,7 @@ module _ (p : Problem) (plan : List (List Step)) (branch : List Decision) (lawfu
   walk_pays walk is own near =
       let paid = one_counted fixed.first fixed.cost (walk_cost p walk) (served_edges walk)
       (λ f. elim (cases_lt 0 (times f (served_edges walk))) [ inl some ↦ walk_once walk is own f some | inr none ↦ omega (arith, none) ])
-      (λ f h f_in h_in f_first h_first. fixed.one_first f h (all_joined branch (served_edges walk) (walk_order walk near) f h f_in h_in) f_first h_first)
+      (λ f h f_in h_in f_first h_first. fixed.one_first f h (all_joined laws branch (served_edges walk) (walk_order walk near) f h f_in h_in) f_first h_first)
       (λ f f_in f_first. (fixed.costs f (member_all (IsRequired p) (served_edges walk) (all_required p walk own.serves_required) f f_in) f_first).least walk (walk_serves walk is own near f f_in)) in
       omega (arith, paid, served_total (λ e. if fixed.first e then fixed.cost e else 0) walk)
 

@@ -1,3 +1,4 @@
+pub mod ChainLaws
 pub mod Signed
 pub mod EdgeCosts
 pub mod ShoreNumbers
@@ -13,19 +14,6 @@ pub mod Fixed
 pub mod TreeBound
 pub mod Preorder
 pub mod Turns
-pub mod Symmetry
 pub mod Small
 pub mod SmallTrees
-pub mod Labels
-pub mod ChainLoads
-pub mod Including
-pub mod Neighbouring
-pub mod Linking
-pub mod Barring
-pub mod TakingOut
-pub mod Settling
 pub mod Voiding
-pub mod Walking
-pub mod Uniqueness
-pub mod ChainTours
-pub mod PlanParts

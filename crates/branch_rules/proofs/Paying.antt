@@ -14,7 +14,7 @@ use Rattle.deadhead_paths.specs.Laws.{WalkIsTaskTour, LeastDeadheadIsThere, Leas
 use Rattle.deadhead_paths.specs.Prices.{price_of}
 use Rattle.deadhead_paths.specs.Tidy.{served_steps, serves_some}
 use Rattle.deadhead_paths.specs.Tours.{IsFollowed, IsTaskTour, task_of, tasks_of, dead_price}
-use Rattle.branch_rules.specs.Neighbours.{served_edges}
+use Rattle.decision_chains.specs.Neighbours.{served_edges}
 use Rattle.branch_rules.specs.Prices.{signed_sum, Prices, PaysAtLeast, task_adds, deadhead_price, crossing_prices}
 use Rattle.branch_rules.proofs.Services.{map-cond}
 use Rattle.branch_rules.proofs.Bound.{tour_price, Pays}

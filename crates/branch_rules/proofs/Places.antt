@@ -12,12 +12,12 @@ lower_by r wanted high n h s least least_is n_is h_is s_is =
     let same : least ≡ max wanted high = omega (arith, least_is, n_is, h_is) in
     parts ∙ ap (λ m. m + (m + s) % 2) same ∙ ap (λ m. max wanted high + (max wanted high + m) % 2) s_is
 
+pub all_at : {X : Type 0} (P : X → Type 0) (xs : List X) (d : X) → ((k : ℕ) → k < length xs → P (get_or xs k d)) → All P xs
+all_at P xs d each k e less = subst P (get_or_default xs k d e less) (each k less)
+
 -- what holds at each place below the next one
 pub one_more : (P : ℕ → Type 0) (i : ℕ) → ((k : ℕ) → k < i → P k) → P i → (k : ℕ) → k < i + 1 → P k
 one_more P i before here k less = elim (cases_eq k i) [
   | inl last ↦ rw last here
   | inr other ↦ before k (omega (arith, less, other))
 ]
-
-pub all_at : {X : Type 0} (P : X → Type 0) (xs : List X) (d : X) → ((k : ℕ) → k < length xs → P (get_or xs k d)) → All P xs
-all_at P xs d each k e less = subst P (get_or_default xs k d e less) (each k less)

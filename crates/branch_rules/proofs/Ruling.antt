@@ -9,41 +9,16 @@ use Rattle.plan_model.specs.Offers.{smaller}
 use Rattle.plan_model.specs.declared.step.Step.{Step}
 use Rattle.cut_pool.specs.Shores.{is_in}
 use Rattle.cut_pool.specs.Laws.{NeedIsMet}
-use Rattle.branch_rules.specs.Neighbours.{AreNeighbours}
+use Rattle.decision_chains.specs.Neighbours.{AreNeighbours}
 use Rattle.cut_pool.specs.Pools.{shore_at}
-use Rattle.branch_rules.specs.Decisions.{MeetsAll, says_yes, IsYes, YesPath, AreJoined, Detour, highest, lowest, to_parity, lower_of, Excluded, IsVoid, IsFixed, Spells, same, said_no, first_full, second_full, closes, heavy, three, cycle, heavy_chain, crossed}
-use Rattle.branch_rules.specs.declared.decision.Decision.{Decision}
-use Rattle.branch_rules.specs.declared.decision.Decision.TheVariants.{Yes, No, Low, High}
+use Rattle.branch_rules.specs.Decisions.{MeetsAll, highest, lowest, to_parity, lower_of, IsVoid, IsFixed, Spells, three, cycle, heavy_chain, crossed}
+use Rattle.decision_chains.specs.Exclusions.{says_yes, IsYes, YesPath, AreJoined, Detour, Excluded, same, said_no, first_full, second_full, closes, heavy}
+use Rattle.decision_chains.specs.declared.decision.Decision.{Decision}
+use Rattle.decision_chains.specs.declared.decision.Decision.TheVariants.{Yes, No, Low, High}
 use Rattle.branch_rules.proofs.Line.{neighbours_required}
 use Rattle.branch_rules.proofs.Meeting.{neighbours_turn, yes_neighbours, no_neighbours, not_itself, not_three, no_detour}
 use Rattle.branch_rules.proofs.Heavy.{walk_of_near, walk_of, not_heavy}
-
--- the order of a yes pair is free
-says_turn : (a b : ℕ) (d : Decision) → says_yes a b d ≡ true → says_yes b a d ≡ true
-says_turn a b (Yes c d) is = elim (or_cases ((c == a) && (d == b)) ((c == b) && (d == a)) is) [
-  | inl straight ↦ or_right ((c == b) && (d == a)) ((c == a) && (d == b)) straight
-  | inr turned ↦ or_left ((c == b) && (d == a)) ((c == a) && (d == b)) turned
-]
-says_turn a b (No c d) is = is
-says_turn a b (Low shore k) is = is
-says_turn a b (High shore k) is = is
-
-pub yes_turn : (branch : List Decision) (a b : ℕ) → IsYes branch a b → IsYes branch b a
-yes_turn [] a b is = is
-yes_turn (d ∷ branch) a b is = elim (or_cases (says_yes a b d) (list_any (says_yes a b) branch) is) [
-  | inl here ↦ or_left (says_yes b a d) (list_any (says_yes b a) branch) (says_turn a b d here)
-  | inr later ↦ or_right (says_yes b a d) (list_any (says_yes b a) branch) (yes_turn branch a b later)
-]
-
--- a path of yes pairs is a detour where the pair itself is no yes pair
-pub detour_of : (branch : List Decision) (a b x : ℕ) (path : List ℕ) (y : ℕ) → ¬ (IsYes branch a b) → YesPath branch x path y → Detour branch a b x path y
-detour_of branch a b x [] y never joined = joined
-detour_of branch a b x (z ∷ path) y never joined = (
-  joined.0,
-  (λ is. never (rw is.1 at (rw is.0 at joined.0))),
-  (λ is. never (yes_turn branch b a (rw is.1 at (rw is.0 at joined.0)))),
-  detour_of branch a b z path y never joined.1,
-)
+use Rattle.branch_rules.proofs.ChainLaws.{ChainLaws}
 
 -- the least of the low decisions is a bound from above, and the greatest of the high ones from below
 low_step : (b : Bool) (k n : ℕ) (o : Option ℕ) → (b ≡ true → n ≤ k) → IfSome o (λ j. n ≤ j) → IfSome (if b then smaller (Some k) o else o) (λ j. n ≤ j)
@@ -84,28 +59,29 @@ max_le : (a b n : ℕ) → a ≤ n → b ≤ n → max a b ≤ n
 max_le a b n x y = omega arith
 
 module _ (p : Problem) (pool : List (List ℕ)) (plan : List (List Step)) (branch : List Decision) (lawful : IsLawful p plan) (met : MeetsAll p pool plan branch) where
-  each_yes : (a b : ℕ) → IsYes branch a b → AreNeighbours plan a b
-  each_yes a b is = yes_neighbours p pool plan branch a b met is
-
-  pub excluded_law : (a b : ℕ) → Excluded p branch a b → ¬ (AreNeighbours plan a b)
-  excluded_law a b (same is) near = not_itself p pool plan branch lawful met a b is near
-  excluded_law a b (said_no is) near = no_neighbours p pool plan branch a b met is near
-  excluded_law a b (first_full two) near = not_three p pool plan branch lawful met a b two near
-  excluded_law a b (second_full two) near = not_three p pool plan branch lawful met b a two (neighbours_turn plan a b near)
-  excluded_law a b (closes joined a_end b_end never) near =
-      no_detour p pool plan branch lawful met a b joined.0 near (detour_of branch a b a joined.0 b never joined.1)
-  excluded_law a b (heavy apart over) near =
-      let found = walk_of_near plan a b near in
-      not_heavy p plan branch lawful each_yes found.0 a b found.1 found.2 found.3 over
-
   pub lower_law : NeedIsMet → IsValid p → (shore : ℕ) → is_in (shore_at pool shore) p.depot ≡ false → lower_of p pool branch shore ≤ deadheads_over p (is_in (shore_at pool shore)) plan
   lower_law need_is_met valid shore out =
       let needs = need_is_met p (is_in (shore_at pool shore)) plan valid lawful out in
       parity_up _ _ _ (max_le _ _ _ needs.enough (highest_law p pool plan shore branch met)) needs.parity
 
+module _ (laws : ChainLaws) (p : Problem) (pool : List (List ℕ)) (plan : List (List Step)) (branch : List Decision) (lawful : IsLawful p plan) (met : MeetsAll p pool plan branch) where
+  each_yes : (a b : ℕ) → IsYes branch a b → AreNeighbours plan a b
+  each_yes a b is = yes_neighbours laws p pool plan branch a b met is
+
+  pub excluded_law : (a b : ℕ) → Excluded p branch a b → ¬ (AreNeighbours plan a b)
+  excluded_law a b (same is) near = not_itself laws p pool plan branch lawful met a b is near
+  excluded_law a b (said_no is) near = no_neighbours laws p pool plan branch a b met is near
+  excluded_law a b (first_full two) near = not_three laws p pool plan branch lawful met a b two near
+  excluded_law a b (second_full two) near = not_three laws p pool plan branch lawful met b a two (neighbours_turn plan a b near)
+  excluded_law a b (closes joined a_end b_end never) near =
+      no_detour laws p pool plan branch lawful met a b joined.0 near (laws.joins.detour branch a b a joined.0 b never joined.1)
+  excluded_law a b (heavy apart over) near =
+      let found = walk_of_near plan a b near in
+      not_heavy laws p plan branch lawful each_yes found.0 a b found.1 found.2 found.3 over
+
   joined_required : (a e : ℕ) (path : List ℕ) → YesPath branch a path e → IsRequired p e → IsRequired p a
   joined_required a e [] joined required = rw joined required
-  joined_required a e (x ∷ path) joined required = (neighbours_required p plan a x lawful.walks (yes_neighbours p pool plan branch a x met joined.0)).0
+  joined_required a e (x ∷ path) joined required = (neighbours_required p plan a x lawful.walks (yes_neighbours laws p pool plan branch a x met joined.0)).0
 
   chain_required : (a : ℕ) (es : List ℕ) → AllByRecursion (λ e. IsRequired p e × (AreJoined branch a e ⊎ AreJoined branch a e)) es →
       p.capacity < sum_by (λ e. (edge_at p e).demand) es → IsRequired p a
@@ -116,15 +92,15 @@ module _ (p : Problem) (pool : List (List ℕ)) (plan : List (List Step)) (branc
   ]
 
   pub void_law : NeedIsMet → IsValid p → ((shore : ℕ) → is_in (shore_at pool shore) p.depot ≡ false) → IsVoid p pool branch → ⊥
-  void_law need_is_met valid out (three a b is two) = excluded_law a b (first_full two) (yes_neighbours p pool plan branch a b met is)
-  void_law need_is_met valid out (cycle a b path other is detour) = no_detour p pool plan branch lawful met a b path (yes_neighbours p pool plan branch a b met is) detour
+  void_law need_is_met valid out (three a b is two) = excluded_law a b (first_full two) (yes_neighbours laws p pool plan branch a b met is)
+  void_law need_is_met valid out (cycle a b path other is detour) = no_detour laws p pool plan branch lawful met a b path (yes_neighbours laws p pool plan branch a b met is) detour
   void_law need_is_met valid out (heavy_chain a over) =
       let required = chain_required a over.edges over.joined over.over in
       let found = walk_of plan a (omega (arith, lawful.once a required)) in
-      not_heavy p plan branch lawful each_yes found.0 a a found.1 found.2 found.2 over
+      not_heavy laws p plan branch lawful each_yes found.0 a a found.1 found.2 found.2 over
   void_law need_is_met valid out (crossed shore k is less) =
       let most : deadheads_over p (is_in (shore_at pool shore)) plan ≤ k = rw is at (upper_law p pool plan shore branch met) in
-      let least = lower_law need_is_met valid shore (out shore) in
+      let least = lower_law p pool plan branch lawful met need_is_met valid shore (out shore) in
       absurd (below_itself _ _ k least most less)
     where
       below_itself : (l d k : ℕ) → l ≤ d → d ≤ k → k < l → ⊥

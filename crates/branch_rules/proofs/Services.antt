@@ -5,7 +5,7 @@ use Rattle.std.specs.List.{AllByRecursion, count_by}
 use Rattle.std.proofs.lemmas.List.Sums.{sum_by-cons}
 use Rattle.carp_base.specs.Problem.{Problem, IsRequired}
 use Rattle.plan_model.specs.declared.step.Step.{Step}
-use Rattle.branch_rules.specs.Neighbours.{served_edges, times}
+use Rattle.decision_chains.specs.Neighbours.{served_edges, times}
 
 one_service : (b : Bool) (x e n : ℕ) (rest : List ℕ) → n ≡ times e rest →
     cond (b && (x == e)) 1 0 + n ≡ times e (cond b (x ∷ rest) rest)

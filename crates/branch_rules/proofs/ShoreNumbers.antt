@@ -4,8 +4,8 @@ use Rattle.std.specs.Prelude.{if◌then◌else◌}
 use Rattle.std.proofs.lemmas.List.{take_more}
 use Rattle.plan_model.specs.Offers.{smaller}
 use Rattle.branch_rules.specs.Decisions.{highest, lowest}
-use Rattle.branch_rules.specs.declared.decision.Decision.{Decision}
-use Rattle.branch_rules.specs.declared.decision.Decision.TheVariants.{Yes, No, Low, High}
+use Rattle.decision_chains.specs.declared.decision.Decision.{Decision}
+use Rattle.decision_chains.specs.declared.decision.Decision.TheVariants.{Yes, No, Low, High}
 
 if_max : (b : Bool) (k h one : ℕ) → (if b then max k (max h one) else max h one) ≡ max (if b then max k h else h) one
 if_max true k h one = omega arith

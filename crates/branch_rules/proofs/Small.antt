@@ -12,15 +12,16 @@ use Rattle.plan_model.specs.declared.step.Step.{Step}
 use Rattle.deadhead_paths.specs.Tidy.{served_steps}
 use Rattle.deadhead_paths.specs.Tours.{IsFollowed}
 use Rattle.deadhead_paths.specs.Examples.{town, serve, homeward}
-use Rattle.branch_rules.specs.Neighbours.{served_edges, times}
+use Rattle.decision_chains.specs.Neighbours.{served_edges, times}
 use Rattle.branch_rules.specs.Prices.{signed_sum, task_adds, deadhead_price}
-use Rattle.branch_rules.specs.Decisions.{IsYes, YesPath, AreJoined, IsVoid, IsFixed, three, cycle, heavy_chain, crossed, same}
-use Rattle.branch_rules.specs.FixedValue.{ServesChain, HasChainCost, HasFixedValue}
+use Rattle.decision_chains.specs.Exclusions.{IsYes, YesPath, AreJoined, same}
+use Rattle.branch_rules.specs.Decisions.{IsVoid, IsFixed, three, cycle, heavy_chain, crossed}
+use Rattle.chain_plans.specs.FixedValue.{ServesChain, HasChainCost, HasFixedValue}
 use Rattle.branch_rules.specs.Laws.{FitsBranch}
-use Rattle.branch_rules.specs.declared.decision.Decision.{Decision}
+use Rattle.decision_chains.specs.declared.decision.Decision.{Decision}
 use Rattle.branch_rules.specs.Examples.{town_pool, town_prices}
 use Rattle.branch_rules.proofs.Line.{times-cons}
-use Rattle.branch_rules.proofs.Heavy.{covered}
+use Rattle.decision_chains.specs.Laws.{DistinctSumToNoMore}
 
 pub only_task : (e : ℕ) → IsRequired town e → e ≡ 1
 only_task e required = omega (arith, required.from_one, required.in_range)
@@ -161,16 +162,16 @@ firsts : (P Q : ℕ → Type 0) (es : List ℕ) → AllByRecursion (λ e. P e ×
 firsts P Q [] all = tt
 firsts P Q (e ∷ es) all = (all.0.0, firsts P Q es all.1)
 
-pub town_is_not_void : IsVoid town town_pool [] → ⊥
-town_is_not_void (three a b is two) = no_yes a b is
-town_is_not_void (cycle a b path other is detour) = no_yes a b is
-town_is_not_void (heavy_chain a over) =
+pub town_is_not_void : DistinctSumToNoMore → IsVoid town town_pool [] → ⊥
+town_is_not_void distinct (three a b is two) = no_yes a b is
+town_is_not_void distinct (cycle a b path other is detour) = no_yes a b is
+town_is_not_void distinct (heavy_chain a over) =
     let weight : sum_by (λ e. (edge_at town e).demand) (1 ∷ []) ≡ 1 = refl in
-    omega (arith, over.over, weight, covered (λ e. (edge_at town e).demand) over.edges (1 ∷ []) over.distinct (all_there over.edges (firsts (IsRequired town) (λ e. AreJoined [] a e ⊎ AreJoined [] a e) over.edges over.joined)))
-town_is_not_void (crossed shore k is less) = cc
+    omega (arith, over.over, weight, distinct (λ e. (edge_at town e).demand) over.edges (1 ∷ []) over.distinct (all_there over.edges (firsts (IsRequired town) (λ e. AreJoined [] a e ⊎ AreJoined [] a e) over.edges over.joined)))
+town_is_not_void distinct (crossed shore k is less) = cc
 
-pub town_is_fixed : IsFixed town town_pool []
-town_is_fixed = record {
-  open_yet = town_is_not_void;
+pub town_is_fixed : DistinctSumToNoMore → IsFixed town town_pool []
+town_is_fixed distinct = record {
+  open_yet = town_is_not_void distinct;
   settled = λ a b a_required b_required. inr (same (only_task a a_required ∙ sym (only_task b b_required)));
 }

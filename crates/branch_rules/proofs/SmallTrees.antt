@@ -8,15 +8,15 @@ use Rattle.plan_model.specs.Plans.{IsLawful, services_of}
 use Rattle.deadhead_paths.specs.Tours.{IsFollowed}
 use Rattle.deadhead_paths.specs.Examples.{town}
 use Rattle.cut_pool.specs.Examples.{in_a_row}
-use Rattle.branch_rules.specs.Neighbours.{AreNeighbours, times}
-use Rattle.branch_rules.specs.Decisions.{says_yes, IsYes, YesPath, AreJoined, IsHeavy, Excluded, IsDetermined, IsVoid, Spells, same, said_no, first_full, second_full, closes, heavy, three, cycle, crossed}
+use Rattle.decision_chains.specs.Neighbours.{AreNeighbours, times}
+use Rattle.decision_chains.specs.Exclusions.{says_yes, IsYes, YesPath, AreJoined, IsHeavy, Excluded, IsDetermined, same, said_no, first_full, second_full, closes, heavy}
+use Rattle.branch_rules.specs.Decisions.{IsVoid, Spells, three, cycle, crossed}
 use Rattle.branch_rules.specs.Trees.{Shows, price}
-use Rattle.branch_rules.specs.declared.decision.Decision.{Decision}
-use Rattle.branch_rules.specs.declared.decision.Decision.TheVariants.{Yes, Low, High}
+use Rattle.decision_chains.specs.declared.decision.Decision.{Decision}
+use Rattle.decision_chains.specs.declared.decision.Decision.TheVariants.{Yes, Low, High}
 use Rattle.branch_rules.specs.Examples.{one_row_tour, two_row_tours, town_plan, town_pool, town_support}
-use Rattle.branch_rules.proofs.Heavy.{covered}
-use Rattle.branch_rules.proofs.Meeting.{pair_is}
 use Rattle.branch_rules.proofs.Small.{town_fits, only_task}
+use Rattle.decision_chains.specs.Laws.{YesPairsJoin, DistinctSumToNoMore}
 
 pub row_neighbours : AreNeighbours one_row_tour 1 2
 row_neighbours = inl (inl (record { before = []; after = []; joined = refl }))
@@ -77,26 +77,39 @@ pub crossed_now : IsVoid town town_pool (Low 1 0 ∷ [])
 crossed_now = crossed 1 0 refl (lit≤ tt)
 
 -- where 3 joins 1 and 2, it is the only yes neighbour of each
-one_next : (x : ℕ) → IsYes (Yes 1 3 ∷ Yes 3 2 ∷ []) 1 x → x ≡ 3
-one_next x is = elim (or_cases (says_yes 1 x (Yes 1 3)) (list_any (says_yes 1 x) (Yes 3 2 ∷ [])) is) [
-  | inl here ↦ omega (arith, pair_is 1 x 1 3 here)
-  | inr later ↦ elim (or_cases (says_yes 1 x (Yes 3 2)) false later) [
-    | inl there ↦ omega (arith, pair_is 1 x 3 2 there)
-    | inr never ↦ cc
+module _ (joins : YesPairsJoin) where
+  one_next : (x : ℕ) → IsYes (Yes 1 3 ∷ Yes 3 2 ∷ []) 1 x → x ≡ 3
+  one_next x is = elim (or_cases (says_yes 1 x (Yes 1 3)) (list_any (says_yes 1 x) (Yes 3 2 ∷ [])) is) [
+    | inl here ↦ elim (joins.names_yes 1 x (Yes 1 3) here) [
+      | inl straight ↦ cc
+      | inr turned ↦ let never : ◌≡◌ {A = ℕ} 3 1 = cc in omega (arith, never)
+    ]
+    | inr later ↦ elim (or_cases (says_yes 1 x (Yes 3 2)) false later) [
+      | inl there ↦ elim (joins.names_yes 1 x (Yes 3 2) there) [
+        | inl straight ↦ let never : ◌≡◌ {A = ℕ} 3 1 = cc in omega (arith, never)
+        | inr turned ↦ let never : ◌≡◌ {A = ℕ} 2 1 = cc in omega (arith, never)
+      ]
+      | inr never ↦ cc
+    ]
   ]
-]
 
-two_next : (x : ℕ) → IsYes (Yes 1 3 ∷ Yes 3 2 ∷ []) 2 x → x ≡ 3
-two_next x is = elim (or_cases (says_yes 2 x (Yes 1 3)) (list_any (says_yes 2 x) (Yes 3 2 ∷ [])) is) [
-  | inl here ↦ omega (arith, pair_is 2 x 1 3 here)
-  | inr later ↦ elim (or_cases (says_yes 2 x (Yes 3 2)) false later) [
-    | inl there ↦ omega (arith, pair_is 2 x 3 2 there)
-    | inr never ↦ cc
+  two_next : (x : ℕ) → IsYes (Yes 1 3 ∷ Yes 3 2 ∷ []) 2 x → x ≡ 3
+  two_next x is = elim (or_cases (says_yes 2 x (Yes 1 3)) (list_any (says_yes 2 x) (Yes 3 2 ∷ [])) is) [
+    | inl here ↦ elim (joins.names_yes 2 x (Yes 1 3) here) [
+      | inl straight ↦ let never : ◌≡◌ {A = ℕ} 1 2 = cc in omega (arith, never)
+      | inr turned ↦ let never : ◌≡◌ {A = ℕ} 3 2 = cc in omega (arith, never)
+    ]
+    | inr later ↦ elim (or_cases (says_yes 2 x (Yes 3 2)) false later) [
+      | inl there ↦ elim (joins.names_yes 2 x (Yes 3 2) there) [
+        | inl straight ↦ let never : ◌≡◌ {A = ℕ} 3 2 = cc in omega (arith, never)
+        | inr turned ↦ cc
+      ]
+      | inr never ↦ cc
+    ]
   ]
-]
 
-pub ends_now : Excluded (in_a_row 3) (Yes 1 3 ∷ Yes 3 2 ∷ []) 1 2
-ends_now = closes (3 ∷ (2 ∷ []), (refl, (refl, refl))) (λ x y x_yes y_yes. one_next x x_yes ∙ sym (one_next y y_yes)) (λ x y x_yes y_yes. two_next x x_yes ∙ sym (two_next y y_yes)) (λ is. cc)
+  pub ends_now : Excluded (in_a_row 3) (Yes 1 3 ∷ Yes 3 2 ∷ []) 1 2
+  ends_now = closes (3 ∷ (2 ∷ []), (refl, (refl, refl))) (λ x y x_yes y_yes. one_next x x_yes ∙ sym (one_next y y_yes)) (λ x y x_yes y_yes. two_next x x_yes ∙ sym (two_next y y_yes)) (λ is. cc)
 
 one_of_two : (e : ℕ) → 1 ≤ e → e ≤ 2 → 1 ≤ times e (1 ∷ (2 ∷ []))
 one_of_two e one two = elim (cases_eq e 1) [
@@ -108,19 +121,19 @@ row_all : (es : List ℕ) → AllByRecursion (λ e. IsRequired (in_a_row 3) e ×
 row_all [] all = tt
 row_all (e ∷ es) all = (one_of_two e all.0.0.from_one all.0.0.in_range, row_all es all.1)
 
-pub row_free : ¬ (Excluded (in_a_row 3) [] 1 2)
-row_free (same is) = omega (arith, is)
-row_free (said_no is) = cc
-row_free (first_full two) = cc
-row_free (second_full two) = cc
-row_free (closes joined one_end two_end never) = omega (arith, no_path 1 2 joined.0 joined.1)
-row_free (heavy apart over) =
+pub row_free : DistinctSumToNoMore → ¬ (Excluded (in_a_row 3) [] 1 2)
+row_free distinct (same is) = omega (arith, is)
+row_free distinct (said_no is) = cc
+row_free distinct (first_full two) = cc
+row_free distinct (second_full two) = cc
+row_free distinct (closes joined one_end two_end never) = omega (arith, no_path 1 2 joined.0 joined.1)
+row_free distinct (heavy apart over) =
     let weight : sum_by (λ e. (edge_at (in_a_row 3) e).demand) (1 ∷ (2 ∷ [])) ≡ 3 = refl in
-    omega (arith, over.over, weight, covered (λ e. (edge_at (in_a_row 3) e).demand) over.edges (1 ∷ (2 ∷ [])) over.distinct (row_all over.edges over.joined))
+    omega (arith, over.over, weight, distinct (λ e. (edge_at (in_a_row 3) e).demand) over.edges (1 ∷ (2 ∷ [])) over.distinct (row_all over.edges over.joined))
 
-pub free_pair : ¬ (IsDetermined (in_a_row 3) [] 1 2)
-free_pair (inl is) = cc
-free_pair (inr excluded) = row_free excluded
+pub free_pair : DistinctSumToNoMore → ¬ (IsDetermined (in_a_row 3) [] 1 2)
+free_pair distinct (inl is) = cc
+free_pair distinct (inr excluded) = row_free distinct excluded
 
 pub town_lawful : IsLawful town town_plan
 town_lawful = record {

@@ -10,12 +10,13 @@ use Rattle.cut_pool.specs.Shores.{is_in}
 use Rattle.cut_pool.specs.Laws.{NeedIsMet}
 use Rattle.plan_model.specs.Laws.{ServedOnceByNumber}
 use Rattle.deadhead_paths.specs.Laws.{WalkIsTaskTour, LeastDeadheadIsThere, LeastDeadheadIsLeast}
-use Rattle.branch_rules.specs.Neighbours.{served_edges, AreNeighbours}
+use Rattle.decision_chains.specs.Neighbours.{served_edges, AreNeighbours}
 use Rattle.branch_rules.specs.Prices.{Prices, KeepsRules, value_of}
 use Rattle.cut_pool.specs.Pools.{shore_at}
-use Rattle.branch_rules.specs.Decisions.{Meets, MeetsAll, rules_of, Excluded, IsVoid}
-use Rattle.branch_rules.specs.declared.decision.Decision.{Decision}
-use Rattle.branch_rules.specs.declared.decision.Decision.TheVariants.{Yes, No, Low, High}
+use Rattle.branch_rules.specs.Decisions.{Meets, MeetsAll, rules_of, IsVoid}
+use Rattle.decision_chains.specs.Exclusions.{Excluded}
+use Rattle.decision_chains.specs.declared.decision.Decision.{Decision}
+use Rattle.decision_chains.specs.declared.decision.Decision.TheVariants.{Yes, No, Low, High}
 use Rattle.branch_rules.specs.declared.weight.Weight.{Weight}
 use Rattle.branch_rules.specs.Trees.{Tree, pair, cut, price, void, fixed, Support, set_at, Shows, IsSoundSupport}
 use Rattle.branch_rules.specs.Laws.{NoDepot, IsMet, FitsBranch}
@@ -24,6 +25,7 @@ use Rattle.branch_rules.proofs.Bound.{value_le, deadheads_at}
 use Rattle.branch_rules.proofs.Paying.{each_pays}
 use Rattle.branch_rules.proofs.Ruling.{excluded_law, lower_law, upper_law, void_law, spells_fixed}
 use Rattle.branch_rules.proofs.Fixed.{fixed_value_law}
+use Rattle.branch_rules.proofs.ChainLaws.{ChainLaws}
 
 -- one of two cases holds, though it may be unknown which
 either_way : (P : Type 0) (m n : ℕ) → (P → m ≤ n) → (¬ P → m ≤ n) → m ≤ n
@@ -67,6 +69,7 @@ pub record Known : Type 0 where
   pub is_tour : WalkIsTaskTour
   pub there : LeastDeadheadIsThere
   pub below : LeastDeadheadIsLeast
+  pub chains : ChainLaws
 
 module _ (known : Known) (p : Problem) (pool : List (List ℕ)) (branch : List Decision) (set : Prices) (plan : List (List Step)) (fits : FitsBranch p pool branch set) (is : IsMet p pool branch plan) where
   keeps : (weights : List Weight) → AllByRecursion (λ w. KeepsRules (rules_of p pool branch) w.shore (count_by (deadheads_at p pool set w.shore) (steps_of plan))) weights
@@ -78,7 +81,7 @@ module _ (known : Known) (p : Problem) (pool : List (List ℕ)) (branch : List D
       value_le p pool set known.served_once (rules_of p pool branch) (λ a b. ¬ (Excluded p branch a b))
       (each_pays p pool set fits.fits.not_negative is.valid known.is_tour known.there known.below (λ a b. ¬ (Excluded p branch a b)) fits.fits.tours)
       fits.fits.has_upper fits.one_each plan is.lawful
-      (none_excluded (λ a b. ¬ (Excluded p branch a b)) plan (λ a b near excluded. excluded_law p pool plan branch is.lawful is.meets a b excluded near))
+      (none_excluded (λ a b. ¬ (Excluded p branch a b)) plan (λ a b near excluded. excluded_law known.chains p pool plan branch is.lawful is.meets a b excluded near))
       (keeps set.weights)
 
   pub price_law : (bound : ℕ) → (pos set.unit *ℤ (pos bound -ℤ pos 1)) <ℤ value_of (rules_of p pool branch) set → bound ≤ plan_cost p plan
@@ -100,16 +103,16 @@ module _ (known : Known) (c : Support) (bound : ℕ) (sound : IsSoundSupport c) 
       ]
   tree_law branch (price i) met shown =
       price_law known c.problem c.pool branch (set_at c i) plan (record { one_each = sound.sets i shown.0 shown.1; fits = shown.2.fits }) (met_by branch met) bound shown.2.above
-  tree_law branch void met shown = absurd (void_law c.problem c.pool plan branch lawful met known.need_is_met sound.valid (λ shore. out_of c.problem c.pool shore sound.shores) shown)
+  tree_law branch void met shown = absurd (void_law known.chains c.problem c.pool plan branch lawful met known.need_is_met sound.valid (λ shore. out_of c.problem c.pool shore sound.shores) shown)
   tree_law branch fixed met shown =
       omega (
         arith,
         shown.enough,
-        fixed_value_law c.problem plan branch lawful (spells_fixed c.problem c.pool plan branch lawful met shown.settled) shown.value shown.fixed known.served_once,
+        fixed_value_law known.chains c.problem plan branch lawful (spells_fixed known.chains c.problem c.pool plan branch lawful met shown.settled) shown.value shown.fixed known.served_once,
       )
 
 pub tree_bounds_law : Known → (c : Support) (bound : ℕ) (tree : Tree) → IsSoundSupport c → Shows c [] bound tree → (plan : List (List Step)) → IsLawful c.problem plan → bound ≤ plan_cost c.problem plan
 tree_bounds_law known c bound tree sound shown plan lawful = tree_law known c bound sound plan lawful [] tree tt shown
 
-pub void_met_law : NeedIsMet → (p : Problem) (pool : List (List ℕ)) (branch : List Decision) (plan : List (List Step)) → IsVoid p pool branch → ¬ (IsMet p pool branch plan)
-void_met_law need_is_met p pool branch plan shown is = void_law p pool plan branch is.lawful is.meets need_is_met is.valid (λ shore. out_of p pool shore is.no_depot) shown
+pub void_met_law : ChainLaws → NeedIsMet → (p : Problem) (pool : List (List ℕ)) (branch : List Decision) (plan : List (List Step)) → IsVoid p pool branch → ¬ (IsMet p pool branch plan)
+void_met_law laws need_is_met p pool branch plan shown is = void_law laws p pool plan branch is.lawful is.meets need_is_met is.valid (λ shore. out_of p pool shore is.no_depot) shown

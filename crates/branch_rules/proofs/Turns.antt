@@ -7,11 +7,11 @@ use Rattle.std.proofs.Math.Pow.{pow_mono}
 use Rattle.std.proofs.Math.Nat.{two-pow-succ}
 use Rattle.carp_base.specs.Problem.{Problem, IsRequired}
 use Rattle.plan_model.specs.Sums.{sum_to}
-use Rattle.branch_rules.specs.Decisions.{says_yes, says_no, IsYes, IsNo, IsDetermined, same, said_no}
+use Rattle.decision_chains.specs.Exclusions.{says_yes, says_no, IsYes, IsNo, IsDetermined, same, said_no}
 use Rattle.branch_rules.specs.Trees.{Tree, pair, cut, price, void, fixed, Support, IsLean, HasTurns, IsTest, PairsIn}
-use Rattle.branch_rules.specs.declared.decision.Decision.{Decision}
-use Rattle.branch_rules.specs.declared.decision.Decision.TheVariants.{Yes, No, Low, High}
-use Rattle.branch_rules.proofs.Ruling.{yes_turn}
+use Rattle.decision_chains.specs.declared.decision.Decision.{Decision}
+use Rattle.decision_chains.specs.declared.decision.Decision.TheVariants.{Yes, No, Low, High}
+use Rattle.decision_chains.specs.Laws.{YesPairsJoin}
 
 sum_to-le : (m : ℕ) (f g : ℕ → ℕ) → ((e : ℕ) → f e ≤ g e) → sum_to m f ≤ sum_to m g
 sum_to-le zero f g le = omega arith
@@ -76,35 +76,19 @@ decided_by (d ∷ branch) a b is = elim (or_cases (decides a b d) (list_any (dec
   ]
 ]
 
-no_says_turn : (a b : ℕ) (d : Decision) → says_no a b d ≡ true → says_no b a d ≡ true
-no_says_turn a b (Yes c d) is = is
-no_says_turn a b (No c d) is = elim (or_cases ((c == a) && (d == b)) ((c == b) && (d == a)) is) [
-  | inl straight ↦ or_right ((c == b) && (d == a)) ((c == a) && (d == b)) straight
-  | inr turned ↦ or_left ((c == b) && (d == a)) ((c == a) && (d == b)) turned
-]
-no_says_turn a b (Low shore k) is = is
-no_says_turn a b (High shore k) is = is
-
-pub no_turn : (branch : List Decision) (a b : ℕ) → IsNo branch a b → IsNo branch b a
-no_turn [] a b is = is
-no_turn (d ∷ branch) a b is = elim (or_cases (says_no a b d) (list_any (says_no a b) branch) is) [
-  | inl here ↦ or_left (says_no b a d) (list_any (says_no b a) branch) (no_says_turn a b d here)
-  | inr later ↦ or_right (says_no b a d) (list_any (says_no b a) branch) (no_turn branch a b later)
-]
-
 itself : (a b : ℕ) → ((a == a) && (b == b)) ≡ true
 itself a b = and_from (a == a) (b == b) (eq-eqb a a refl) (eq-eqb b b refl)
 
 -- both sides of a split at a pair that is not settled have fewer open pairs
-split_less : (p : Problem) (branch : List Decision) (a b : ℕ) (d : Decision) → IsRequired p a → IsRequired p b → ¬ (IsDetermined p branch a b) →
+split_less : (joins : YesPairsJoin) (p : Problem) (branch : List Decision) (a b : ℕ) (d : Decision) → IsRequired p a → IsRequired p b → ¬ (IsDetermined p branch a b) →
     decides a b d ≡ true → decides b a d ≡ true → open_pairs p.required (branch ++ d ∷ []) + 1 ≤ open_pairs p.required branch
-split_less p branch a b d a_required b_required settled_not here there = elim (cases_order a b) [
+split_less joins p branch a b d a_required b_required settled_not here there = elim (cases_order a b) [
   | inl is ↦ absurd (settled_not (inr (same is)))
   | inr apart ↦ elim apart [
     | inl below ↦ open_pairs_less p.required branch d a b a_required.from_one below b_required.in_range
         (false_from_ne_true _ (λ is. elim (decided_by branch a b is) [ inl agrees ↦ settled_not (inl agrees) | inr denies ↦ settled_not (inr (said_no denies)) ])) here
     | inr above ↦ open_pairs_less p.required branch d b a b_required.from_one above a_required.in_range
-        (false_from_ne_true _ (λ is. elim (decided_by branch b a is) [ inl agrees ↦ settled_not (inl (yes_turn branch b a agrees)) | inr denies ↦ settled_not (inr (said_no (no_turn branch b a denies))) ])) there
+        (false_from_ne_true _ (λ is. elim (decided_by branch b a is) [ inl agrees ↦ settled_not (inl (joins.yes_turned branch b a agrees)) | inr denies ↦ settled_not (inr (said_no (joins.no_turned branch b a denies))) ])) there
   ]
 ]
 
@@ -115,14 +99,14 @@ leaf_turns : (P : Type 0) (n x : ℕ) → IsTest P n → n + 1 ≤ 2 ^ (x + 1)
 leaf_turns P n x (inl holds) = let large : 2 ^ 1 ≤ 2 ^ (x + 1) = pow_mono {i = 1} {j = x + 1} (omega arith) in omega (arith, holds.1, large)
 leaf_turns P n x (inr fails) = let large : 2 ^ 1 ≤ 2 ^ (x + 1) = pow_mono {i = 1} {j = x + 1} (omega arith) in omega (arith, fails.1, large)
 
-module _ (c : Support) (cost : ℕ) where
+module _ (joins : YesPairsJoin) (c : Support) (cost : ℕ) where
   turns_below : (branch : List Decision) (cuts : ℕ) (tree : Tree) (n : ℕ) → IsLean c branch cuts tree → PairsIn c.problem tree → HasTurns c branch cost tree n →
       n + 1 ≤ 2 ^ (open_pairs c.problem.required branch + cuts + 1)
   turns_below branch cuts (pair a b together apart) n lean pairs turns =
       let m = c.problem.required in
-      let yes_less = split_less c.problem branch a b (Yes a b) pairs.0 pairs.1 lean.0
+      let yes_less = split_less joins c.problem branch a b (Yes a b) pairs.0 pairs.1 lean.0
       (or_left _ false (or_left _ _ (itself a b))) (or_left _ false (or_right ((a == b) && (b == a)) _ (itself a b))) in
-      let no_less = split_less c.problem branch a b (No a b) pairs.0 pairs.1 lean.0 (or_left _ _ (itself a b)) (or_right ((a == b) && (b == a)) _ (itself a b)) in
+      let no_less = split_less joins c.problem branch a b (No a b) pairs.0 pairs.1 lean.0 (or_left _ _ (itself a b)) (or_right ((a == b) && (b == a)) _ (itself a b)) in
       let one = turns_below (branch ++ Yes a b ∷ []) cuts together turns.0 lean.1 pairs.2 turns.2 in
       let two = turns_below (branch ++ No a b ∷ []) cuts apart turns.1 lean.2 pairs.3 turns.3 in
       let one_pow : 2 ^ (open_pairs m (branch ++ Yes a b ∷ []) + cuts + 1) ≤ 2 ^ (open_pairs m branch + cuts) = pow_mono (omega (arith, yes_less)) in
@@ -154,9 +138,9 @@ half_of (suc k) s twice =
     let even : 2 * s ≡ suc k * k = omega (arith, twice) in
     rw back (omega (arith, even))
 
-pub few_turns : (c : Support) (cost : ℕ) (tree : Tree) (n : ℕ) → IsLean c [] 4 tree → PairsIn c.problem tree → HasTurns c [] cost tree n →
+pub few_turns : (joins : YesPairsJoin) (c : Support) (cost : ℕ) (tree : Tree) (n : ℕ) → IsLean c [] 4 tree → PairsIn c.problem tree → HasTurns c [] cost tree n →
     n < 2 ^ (c.problem.required * (c.problem.required - 1) / 2 + 5)
-few_turns c cost tree n lean pairs turns =
+few_turns joins c cost tree n lean pairs turns =
     let m = c.problem.required in
     let same_power : open_pairs m [] + 4 + 1 ≤ m * (m - 1) / 2 + 5 = omega (arith, half_of m (open_pairs m []) (all_pairs m)) in
-    omega (arith, turns_below c cost [] 4 tree n lean pairs turns, pow_mono same_power)
+    omega (arith, turns_below joins c cost [] 4 tree n lean pairs turns, pow_mono same_power)

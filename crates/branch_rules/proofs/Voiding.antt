@@ -5,12 +5,13 @@ use Rattle.std.specs.List.{All}
 use Rattle.std.proofs.lemmas.Bool.{eqb-true, eq-eqb, both_ways, not-true, not_from_false, false_from_ne_true, true_from_ne_false}
 use Rattle.carp_base.specs.Problem.{Problem, IsRequired}
 use Rattle.plan_model.specs.Offers.{smaller}
-use Rattle.branch_rules.specs.Decisions.{lowest, lower_of, IsDetermined, IsFixed, IsHeavy, IsVoid, three, cycle, heavy_chain, crossed}
-use Rattle.branch_rules.specs.ChainTables.{IsChainTable, IsTangled, crowded, cyclic, IsOverloaded, IsCrossed, IsCrossing, IsUncrossed}
-use Rattle.branch_rules.specs.declared.chains.Chains.{Chains}
-use Rattle.branch_rules.specs.declared.decision.Decision.{Decision}
-use Rattle.branch_rules.specs.declared.decision.Decision.TheVariants.{Yes, No, Low, High}
-use Rattle.branch_rules.proofs.Barring.{overloaded_heavy, heavy_overloaded}
+use Rattle.branch_rules.specs.Decisions.{lowest, lower_of, IsFixed, IsVoid, three, cycle, heavy_chain, crossed}
+use Rattle.decision_chains.specs.Exclusions.{IsDetermined, IsHeavy}
+use Rattle.decision_chains.specs.ChainTables.{IsChainTable, IsTangled, crowded, cyclic}
+use Rattle.branch_rules.specs.Crossings.{IsCrossed, IsCrossing, IsUncrossed}
+use Rattle.decision_chains.specs.declared.chains.Chains.{Chains}
+use Rattle.decision_chains.specs.declared.decision.Decision.{Decision}
+use Rattle.decision_chains.specs.declared.decision.Decision.TheVariants.{Yes, No, Low, High}
 
 -- the upper number of a shore is at most the number of each of its low decisions
 abbrev pub HasUpTo : ℕ → List Decision → ℕ → Type 0
@@ -91,18 +92,17 @@ module _ (t : Chains) (table : IsChainTable t) (pool : List (List ℕ)) where
       go (crowded a b is_yes two) = three a b is_yes two
       go (cyclic a b path apart is_yes detour) = cycle a b path apart is_yes detour
 
-  pub overload_void : (e : ℕ) × IsOverloaded t e → IsVoid t.inst.now pool t.decisions.now
-  overload_void over = heavy_chain over.0 (overloaded_heavy t table over.0 over.1)
+  pub overload_void : (e : ℕ) × IsHeavy t.inst.now t.decisions.now e e → IsVoid t.inst.now pool t.decisions.now
+  overload_void over = heavy_chain over.0 over.1
 
-  pub not_void : (p : Problem) (branch : List Decision) → t.inst.now ≡ p → t.decisions.now ≡ branch → t.tangled ≡ false → ((e : ℕ) → IsOverloaded t e → ⊥) →
+  pub not_void : (p : Problem) (branch : List Decision) → t.inst.now ≡ p → t.decisions.now ≡ branch → t.tangled ≡ false → ((e : ℕ) → IsHeavy t.inst.now t.decisions.now e e → ⊥) →
       ¬ (IsCrossed p pool branch) → IsVoid p pool branch → ⊥
   not_void p branch same_inst same_decisions untangled light uncrossed (three a b is_yes two) =
       both_ways _ untangled (table.chains.tangle.1 (subst IsTangled (sym same_decisions) (crowded a b is_yes two)))
   not_void p branch same_inst same_decisions untangled light uncrossed (cycle a b path apart is_yes detour) =
       both_ways _ untangled (table.chains.tangle.1 (subst IsTangled (sym same_decisions) (cyclic a b path apart is_yes detour)))
   not_void p branch same_inst same_decisions untangled light uncrossed (heavy_chain a over) =
-      let found = heavy_overloaded t table a (subst (λ q. IsHeavy q t.decisions.now a a) (sym same_inst) (subst (λ ds. IsHeavy p ds a a) (sym same_decisions) over)) in
-      light found.0 found.1
+      light a (subst (λ q. IsHeavy q t.decisions.now a a) (sym same_inst) (subst (λ ds. IsHeavy p ds a a) (sym same_decisions) over))
   not_void p branch same_inst same_decisions untangled light uncrossed (crossed shore k upper below) =
       uncrossed (record { shore = shore; k = k; upper = upper; below = below })
 

@@ -1,17 +1,17 @@
--- Decisions, what a plan must do to meet them, and the chains that they make (Bode and Irnich 2012).
-use Rattle.std.specs.Prelude.{◌≡◌, ◌≢◌, ℕ, ◌+◌, ◌%◌, ◌≤◌, ◌<◌, Bool, true, false, ◌&&◌, ◌||◌, ◌==◌, not, List, [], ◌∷◌, if◌then◌else◌, sum_by, count_by, IsTrue, ◌⊎◌, Option, Some, None, max}
-use Rattle.std.specs.List.{AllByRecursion, list_any}
-use Rattle.carp_base.specs.Allowed.{Relation, allows}
-use Rattle.carp_base.specs.Problem.{Problem, IsRequired, edge_at}
+-- What a plan must do to meet its decisions, the numbers of shores, and void and fixed branches (Bode and Irnich 2012).
+use Rattle.std.specs.Prelude.{◌≡◌, ◌≢◌, ℕ, ◌+◌, ◌%◌, ◌≤◌, ◌<◌, Bool, true, false, ◌==◌, List, [], ◌∷◌, if◌then◌else◌, count_by, Option, Some, None, max}
+use Rattle.std.specs.List.{AllByRecursion}
+use Rattle.carp_base.specs.Problem.{Problem, IsRequired}
 use Rattle.plan_model.specs.Plans.{deadheads_over}
 use Rattle.plan_model.specs.Offers.{smaller}
 use Rattle.plan_model.specs.declared.step.Step.{Step}
 use Rattle.cut_pool.specs.Shores.{is_in, need, required_crossings}
-use Rattle.branch_rules.specs.Neighbours.{AreNeighbours}
-use Rattle.branch_rules.specs.Prices.{Rules}
 use Rattle.cut_pool.specs.Pools.{shore_at}
-use Rattle.branch_rules.specs.declared.decision.Decision.{Decision}
-use Rattle.branch_rules.specs.declared.decision.Decision.TheVariants.{Yes, No, Low, High}
+use Rattle.decision_chains.specs.Neighbours.{AreNeighbours}
+use Rattle.decision_chains.specs.Exclusions.{IsYes, HasTwoOthers, Detour, IsHeavy, IsDetermined}
+use Rattle.branch_rules.specs.Prices.{Rules}
+use Rattle.decision_chains.specs.declared.decision.Decision.{Decision}
+use Rattle.decision_chains.specs.declared.decision.Decision.TheVariants.{Yes, No, Low, High}
 
 -- a plan meets a decision
 abbrev pub Meets : Problem → List (List ℕ) → List (List Step) → Decision → Type 0
@@ -23,83 +23,6 @@ Meets p pool plan (High shore k) = k + 1 ≤ deadheads_over p (is_in (shore_at p
 -- a plan meets a branch, which is a list of decisions
 abbrev pub MeetsAll : Problem → List (List ℕ) → List (List Step) → List Decision → Type 0
 MeetsAll p pool plan branch = AllByRecursion (Meets p pool plan) branch
-
--- the decision is a yes to the pair, in either order
-abbrev pub says_yes : ℕ → ℕ → Decision → Bool
-says_yes a b (Yes c d) = ((c == a) && (d == b)) || ((c == b) && (d == a))
-says_yes a b (No c d) = false
-says_yes a b (Low shore k) = false
-says_yes a b (High shore k) = false
-
--- the decision is a no to the pair, in either order
-abbrev pub says_no : ℕ → ℕ → Decision → Bool
-says_no a b (Yes c d) = false
-says_no a b (No c d) = ((c == a) && (d == b)) || ((c == b) && (d == a))
-says_no a b (Low shore k) = false
-says_no a b (High shore k) = false
-
--- the branch says yes to the pair
-abbrev pub IsYes : List Decision → ℕ → ℕ → Type 0
-IsYes branch a b = IsTrue (list_any (says_yes a b) branch)
-
--- the branch says no to the pair
-abbrev pub IsNo : List Decision → ℕ → ℕ → Type 0
-IsNo branch a b = IsTrue (list_any (says_no a b) branch)
-
--- a path of yes pairs
-abbrev pub YesPath : List Decision → ℕ → List ℕ → ℕ → Type 0
-YesPath branch a [] b = a ≡ b
-YesPath branch a (x ∷ xs) b = IsYes branch a x × YesPath branch x xs b
-
--- two edges are of one chain: those that yes pairs join, and an edge without a yes pair by itself
-abbrev pub AreJoined : List Decision → ℕ → ℕ → Type 0
-AreJoined branch a b = (path : List ℕ) × YesPath branch a path b
-
--- an end of a chain has at most one yes neighbour
-abbrev pub IsChainEnd : List Decision → ℕ → Type 0
-IsChainEnd branch a = (x y : ℕ) → IsYes branch a x → IsYes branch a y → x ≡ y
-
--- two yes neighbours other than b
-pub record HasTwoOthers (branch : List Decision) (a b : ℕ) : Type 0 where
-  pub x : ℕ
-  pub y : ℕ
-  pub x_yes : IsYes branch a x
-  pub y_yes : IsYes branch a y
-  pub apart : x ≢ y
-  pub x_other : x ≢ b
-  pub y_other : y ≢ b
-
--- all different
-abbrev pub AreDistinct : List ℕ → Type 0
-AreDistinct [] = Unit {0}
-AreDistinct (e ∷ es) = IsTrue (not (list_any (λ x. x == e) es)) × AreDistinct es
-
--- some different required edges of the chains of a and b together weigh more than the capacity
-pub record IsHeavy (p : Problem) (branch : List Decision) (a b : ℕ) : Type 0 where
-  pub edges : List ℕ
-  pub distinct : AreDistinct edges
-  pub joined : AllByRecursion (λ e. IsRequired p e × (AreJoined branch a e ⊎ AreJoined branch b e)) edges
-  pub over : p.capacity < sum_by (λ e. (edge_at p e).demand) edges
-
--- why two edges can't be neighbours in a plan that meets the branch: they are one edge; a decision says no; one of them has two
--- yes neighbours besides; they are the two ends of a chain; or their two chains together are above the capacity
-pub data Excluded (p : Problem) (branch : List Decision) (a b : ℕ) : Type 0 where
-  same : a ≡ b → Excluded p branch a b
-  said_no : IsNo branch a b → Excluded p branch a b
-  first_full : HasTwoOthers branch a b → Excluded p branch a b
-  second_full : HasTwoOthers branch b a → Excluded p branch a b
-  closes : AreJoined branch a b → IsChainEnd branch a → IsChainEnd branch b → ¬ (IsYes branch a b) → Excluded p branch a b
-  heavy : ¬ (AreJoined branch a b) → IsHeavy p branch a b → Excluded p branch a b
-
--- a pair is determined where it is yes or excluded
-abbrev pub IsDetermined : Problem → List Decision → ℕ → ℕ → Type 0
-IsDetermined p branch a b = IsYes branch a b ⊎ Excluded p branch a b
-
--- a relation on the required edges permits just the pairs that are not excluded
-pub record PermitsUnexcluded (p : Problem) (branch : List Decision) (r : Relation) : Type 0 where
-  pub on : r.size ≡ p.required
-  pub permitted : (a b : ℕ) → IsRequired p a → IsRequired p b → allows r a b ≡ true → ¬ (Excluded p branch a b)
-  pub refused : (a b : ℕ) → IsRequired p a → IsRequired p b → allows r a b ≡ false → Excluded p branch a b
 
 -- the greatest k + 1 of the high decisions on a shore, and 0 where there is none
 abbrev pub highest : ℕ → List Decision → ℕ
@@ -131,11 +54,6 @@ lower_of p pool branch shore =
 -- the lower and upper numbers under a branch
 abbrev pub rules_of : Problem → List (List ℕ) → List Decision → Rules
 rules_of p pool branch = record { lower = lower_of p pool branch; upper = λ shore. lowest shore branch }
-
--- a path of yes pairs that never crosses between a and b directly
-abbrev pub Detour : List Decision → ℕ → ℕ → ℕ → List ℕ → ℕ → Type 0
-Detour branch a b x [] y = x ≡ y
-Detour branch a b x (z ∷ zs) y = IsYes branch x z × ¬ ((x ≡ a) × (z ≡ b)) × ¬ ((x ≡ b) × (z ≡ a)) × Detour branch a b z zs y
 
 -- why no lawful plan meets the branch: an edge has three yes neighbours or more; yes pairs form a cycle; a chain is above the
 -- capacity; or the upper number of a shore is below its lower number

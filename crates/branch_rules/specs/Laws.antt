@@ -6,13 +6,14 @@ use Rattle.plan_model.specs.Plans.{IsLawful, plan_cost, deadheads_over}
 use Rattle.plan_model.specs.Laws.{IsLowerBound}
 use Rattle.plan_model.specs.declared.step.Step.{Step}
 use Rattle.cut_pool.specs.Shores.{is_in}
-use Rattle.branch_rules.specs.Neighbours.{AreNeighbours}
+use Rattle.decision_chains.specs.Neighbours.{AreNeighbours}
 use Rattle.branch_rules.specs.Prices.{Prices, Fits, KeepsRules, value_of}
 use Rattle.cut_pool.specs.Pools.{shore_at}
-use Rattle.branch_rules.specs.Decisions.{MeetsAll, Excluded, IsVoid, IsFixed, Spells, rules_of}
-use Rattle.branch_rules.specs.FixedValue.{HasFixedValue}
+use Rattle.branch_rules.specs.Decisions.{MeetsAll, IsVoid, IsFixed, Spells, rules_of}
+use Rattle.decision_chains.specs.Exclusions.{Excluded}
+use Rattle.chain_plans.specs.FixedValue.{HasFixedValue}
 use Rattle.branch_rules.specs.Trees.{Tree, preorder, Support, Shows, NodesShow, IsSoundSupport, IsLean, HasTurns, PairsIn}
-use Rattle.branch_rules.specs.declared.decision.Decision.{Decision}
+use Rattle.decision_chains.specs.declared.decision.Decision.{Decision}
 
 -- no shore of the pool has the depot
 abbrev pub NoDepot : Problem → List (List ℕ) → Type 0
@@ -29,10 +30,6 @@ pub record IsMet (p : Problem) (pool : List (List ℕ)) (branch : List Decision)
 abbrev pub ExcludedAreApart : Type 0
 ExcludedAreApart = (p : Problem) (pool : List (List ℕ)) (branch : List Decision) (plan : List (List Step)) →
     IsLawful p plan → MeetsAll p pool plan branch → (a b : ℕ) → Excluded p branch a b → ¬ (AreNeighbours plan a b)
-
--- the order of an excluded pair is free, so the allowed pairs of a branch are a symmetric relation
-abbrev pub ExcludedIsSymmetric : Type 0
-ExcludedIsSymmetric = (p : Problem) (branch : List Decision) (a b : ℕ) → Excluded p branch a b → Excluded p branch b a
 
 -- the deadheads of a lawful plan that meets the branch keep within the numbers of each shore
 abbrev pub NumbersAreKept : Type 0

@@ -5,10 +5,11 @@ use Rattle.std.specs.List.Sorted.{IsStrictlyIncreasing}
 use Rattle.carp_base.specs.Problem.{Problem}
 use Rattle.cut_pool.specs.Pools.{IsShoreNumber, shore_at}
 use Rattle.cut_pool.specs.Shores.{Belongs}
+use Rattle.decision_chains.specs.Pairs.{IsPairWithin}
 use Rattle.branch_rules.specs.Prices.{Prices}
 use Rattle.branch_rules.specs.declared.weight.Weight.{Weight}
-use Rattle.branch_rules.specs.declared.decision.Decision.{Decision}
-use Rattle.branch_rules.specs.declared.decision.Decision.TheVariants.{Yes, No, Low, High}
+use Rattle.decision_chains.specs.declared.decision.Decision.{Decision}
+use Rattle.decision_chains.specs.declared.decision.Decision.TheVariants.{Yes, No, Low, High}
 use Rattle.branch_rules.specs.declared.node.Node.{Node}
 use Rattle.branch_rules.specs.declared.node.Node.TheVariants.{Pair, Cut, Price, Void, Fixed}
 
@@ -44,25 +45,6 @@ IsFineDecision (High shore k) = k ≤ 1000000
 pub record IsShoreOf (p : Problem) (pool : List (List ℕ)) (shore : ℕ) : Type 0 where
   pub number : IsShoreNumber pool shore
   pub belongs : Belongs p (shore_at pool shore)
-
--- a pair of two different edges among the first m
-pub record IsPairWithin (m a b : ℕ) : Type 0 where
-  pub a_from_one : 1 ≤ a
-  pub a_in_range : a ≤ m
-  pub b_from_one : 1 ≤ b
-  pub b_in_range : b ≤ m
-  pub different : a ≢ b
-
--- a decision on a pair is on two different edges among the first m
-abbrev pub HasPairWithin : ℕ → Decision → Type 0
-HasPairWithin m (Yes a b) = IsPairWithin m a b
-HasPairWithin m (No a b) = IsPairWithin m a b
-HasPairWithin m (Low shore k) = Unit {0}
-HasPairWithin m (High shore k) = Unit {0}
-
--- the pairs of the decisions are of required edges
-abbrev pub ArePairsIn : Problem → List Decision → Type 0
-ArePairsIn p branch = All (HasPairWithin p.required) branch
 
 -- a decision on a shore is on one of the pool, which belongs to the instance
 abbrev pub HasShoreOf : Problem → List (List ℕ) → Decision → Type 0

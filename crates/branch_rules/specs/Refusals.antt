@@ -6,7 +6,7 @@ use Rattle.carp_base.specs.declared.fail.Fail.TheVariants.{Memory, Refused}
 use Rattle.branch_rules.specs.Prices.{Prices, deadhead_price, weight_at}
 use Rattle.branch_rules.specs.Decisions.{lowest}
 use Rattle.branch_rules.specs.declared.branch.NoUpper.{NoUpper}
-use Rattle.branch_rules.specs.declared.decision.Decision.{Decision}
+use Rattle.decision_chains.specs.declared.decision.Decision.{Decision}
 use Rattle.branch_rules.specs.declared.weight.Weight.{Weight}
 use Rattle.branch_rules.specs.declared.price_set.TooHeavy.{TooHeavy}
 

@@ -2,7 +2,7 @@
 use Rattle.std.specs.Prelude.{◌≡◌, ℤ, pos, neg_ℤ, ◌≤ℤ◌, ◌<ℤ◌, List}
 use Rattle.branch_rules.specs.Refusals.{HasUpper}
 use Rattle.branch_rules.specs.declared.branch.NoUpper.{NoUpper}
-use Rattle.branch_rules.specs.declared.decision.Decision.{Decision}
+use Rattle.decision_chains.specs.declared.decision.Decision.{Decision}
 use Rattle.branch_rules.specs.declared.weight.Weight.{Weight}
 
 -- the answer is the number itself, which is negative

@@ -4,10 +4,11 @@ use Rattle.std.specs.List.{AllByRecursion}
 use Rattle.carp_base.specs.Problem.{Problem, IsValid, IsRequired}
 use Rattle.cut_pool.specs.Shores.{is_in}
 use Rattle.branch_rules.specs.Prices.{Prices, Fits, value_of}
-use Rattle.branch_rules.specs.Decisions.{rules_of, lower_of, lowest, Excluded, IsDetermined, IsVoid, IsFixed}
-use Rattle.branch_rules.specs.FixedValue.{HasFixedValue}
-use Rattle.branch_rules.specs.declared.decision.Decision.{Decision}
-use Rattle.branch_rules.specs.declared.decision.Decision.TheVariants.{Yes, No, Low, High}
+use Rattle.branch_rules.specs.Decisions.{rules_of, lower_of, lowest, IsVoid, IsFixed}
+use Rattle.decision_chains.specs.Exclusions.{Excluded, IsDetermined}
+use Rattle.chain_plans.specs.FixedValue.{HasFixedValue}
+use Rattle.decision_chains.specs.declared.decision.Decision.{Decision}
+use Rattle.decision_chains.specs.declared.decision.Decision.TheVariants.{Yes, No, Low, High}
 use Rattle.branch_rules.specs.declared.node.Node.{Node}
 use Rattle.branch_rules.specs.declared.node.Node.TheVariants.{Pair, Cut, Price, Void, Fixed}
 

@@ -28,7 +28,7 @@ pub struct Branch {
 
 impl Model for Branch {
     ghost use Rattle.std.specs.Prelude.{List, All};
-    ghost use Rattle.branch_rules.specs.declared.decision.Decision.{Decision};
+    ghost use Rattle.decision_chains.specs.declared.decision.Decision.{Decision};
     ghost use Rattle.branch_rules.specs.Limits.{IsFineDecision};
 
     ghost Value = { List Decision };

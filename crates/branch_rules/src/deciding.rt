@@ -1,19 +1,23 @@
 // What a branch excludes, determines and settles.
 ghost use Rattle.std.specs.Prelude.{◌≡◌, ◌-◌, ◌≤◌, ◌↔◌, All, IfOk, IsTrue, length, false};
-ghost use Rattle.branch_rules.specs.ChainTables.{IsChainTable, IsCrossed, IsCrossing, IsUncrossed};
-ghost use Rattle.branch_rules.specs.Decisions.{IsDetermined, IsFixed, IsVoid, PermitsUnexcluded, cuts_of};
-ghost use Rattle.branch_rules.specs.FixedValue.{HasFixedValue};
-ghost use Rattle.branch_rules.specs.Limits.{ArePairsIn, AreShoresIn, HasShoreOf, IsNodeIn, IsShoreOf};
+ghost use Rattle.decision_chains.specs.ChainTables.{IsChainTable};
+ghost use Rattle.branch_rules.specs.Crossings.{IsCrossed, IsCrossing, IsUncrossed};
+ghost use Rattle.decision_chains.specs.Exclusions.{IsDetermined, PermitsUnexcluded};
+ghost use Rattle.branch_rules.specs.Decisions.{IsFixed, IsVoid, cuts_of};
+ghost use Rattle.chain_plans.specs.FixedValue.{HasFixedValue};
+ghost use Rattle.decision_chains.specs.Pairs.{ArePairsIn};
+ghost use Rattle.branch_rules.specs.Limits.{AreShoresIn, HasShoreOf, IsNodeIn, IsShoreOf};
 ghost use Rattle.branch_rules.specs.Trees.{IsLeanNode};
 ghost use Rattle.branch_rules.specs.declared.node.Node.TheVariants.{Cut};
 ghost use Rattle.carp_base.specs.Problem.{IsRequired};
 ghost use Rattle.deadhead_paths.specs.Prices.{costs_of};
 ghost use Rattle.plan_model.specs.Plans.{IsLawful, plan_cost, steps_of};
 
-use crate::chains::Chains;
 use crate::{Branch, Decision, Node};
 use carp_base::{Allowed, Instance, Memory};
+use chain_plans::plan;
 use cut_pool::ShorePool;
+use decision_chains::Chains;
 use deadhead_paths::Distances;
 use plan_model::Plan;
 use std::alloc::Global;
@@ -135,7 +139,7 @@ impl Branch {
         // The pool tells only that the branch is fixed.
         let _ = pool;
         let chains = Chains::of(alloc, inst, self.decisions())?;
-        let plan = chains.plan(alloc, dist)?;
+        let plan = plan(alloc, &chains, dist)?;
         Ok(plan)
     }
 

@@ -1,6 +1,7 @@
 // What small branches allow and settle, worked by hand.
 ghost use Rattle.std.specs.Prelude.{IfSome, IsTrue};
-ghost use Rattle.branch_rules.specs.Limits.{ArePairsIn, AreShoresIn, HasPairWithin, HasShoreOf, IsFineDecision};
+ghost use Rattle.decision_chains.specs.Pairs.{ArePairsIn, HasPairWithin};
+ghost use Rattle.branch_rules.specs.Limits.{AreShoresIn, HasShoreOf, IsFineDecision};
 
 use crate::{Branch, Decision, Node};
 use carp_base::{Instance, RawEdge};

@@ -3,18 +3,21 @@ ghost use Rattle.std.specs.Prelude.{◌≡◌, ℕ, pos, negsuc, [], ◌∷◌, 
 ghost use Rattle.deadhead_paths.specs.Examples.{town};
 ghost use Rattle.cut_pool.specs.Examples.{in_a_row};
 ghost use Rattle.carp_base.specs.Problem.{edge_at};
-ghost use Rattle.branch_rules.specs.Neighbours.{AreNeighbours};
+ghost use Rattle.decision_chains.specs.Neighbours.{AreNeighbours};
 ghost use Rattle.branch_rules.specs.Prices.{KeepsRules, deadhead_price, task_adds, value_of};
-ghost use Rattle.branch_rules.specs.Decisions.{Excluded, IsFixed, IsVoid, Meets, MeetsAll, Spells, cuts_of, lower_of, lowest, rules_of};
-ghost use Rattle.branch_rules.specs.FixedValue.{HasFixedValue};
+ghost use Rattle.decision_chains.specs.Exclusions.{Excluded};
+ghost use Rattle.branch_rules.specs.Decisions.{IsFixed, IsVoid, Meets, MeetsAll, Spells, cuts_of, lower_of, lowest, rules_of};
+ghost use Rattle.chain_plans.specs.FixedValue.{HasFixedValue};
 ghost use Rattle.branch_rules.specs.Laws.{FitsBranch, IsMet};
-ghost use Rattle.branch_rules.specs.Limits.{ArePairsIn, AreShoresIn, IsNodeIn};
+ghost use Rattle.decision_chains.specs.Pairs.{ArePairsIn};
+ghost use Rattle.branch_rules.specs.Limits.{AreShoresIn, IsNodeIn};
 ghost use Rattle.branch_rules.specs.Trees.{HasTurns, IsLean, IsLeanNode, IsSoundSupport, NodesShow, PairsIn, Shows, Tree, cut, fixed, pair, preorder, price, void};
-ghost use Rattle.branch_rules.specs.declared.decision.Decision.TheVariants.{High, Low, No, Yes};
+ghost use Rattle.decision_chains.specs.declared.decision.Decision.TheVariants.{High, Low, No, Yes};
 ghost use Rattle.branch_rules.specs.declared.node.Node.TheVariants.{Cut, Fixed, Pair, Price};
 ghost use Rattle.branch_rules.specs.Examples.{heavy_prices, light_prices, one_row_tour, town_plan, town_pool, town_prices, town_support, two_row_tours};
 
 use crate::fixed_value_bounds;
+use decision_chains::{distinct_edges_sum_to_no_more, yes_pairs_join};
 
 fn neighbours_in_a_plan()
     ensures one_after_the_other { AreNeighbours one_row_tour 1 2 }
@@ -56,7 +59,10 @@ fn an_excluded_pair()
     ensures ends { Excluded (in_a_row 3) (Yes 1 3 ∷ Yes 3 2 ∷ []) 1 2 }
     ensures heavy { Excluded (in_a_row 2) [] 1 2 }
     ensures free { ¬ (Excluded (in_a_row 3) [] 1 2) }
-{}
+{
+    yes_pairs_join();
+    distinct_edges_sum_to_no_more();
+}
 
 fn a_void_branch()
     ensures three { IsVoid town town_pool (Yes 1 2 ∷ Yes 1 3 ∷ Yes 1 4 ∷ []) }
@@ -64,7 +70,9 @@ fn a_void_branch()
     ensures heavy { IsVoid (in_a_row 2) [] (Yes 1 2 ∷ []) }
     ensures crossed { IsVoid town town_pool (Low 1 0 ∷ []) }
     ensures none { ¬ (IsVoid town town_pool []) }
-{}
+{
+    distinct_edges_sum_to_no_more();
+}
 
 fn a_fixed_branch()
     ensures one_edge { IsFixed town town_pool [] }
@@ -73,6 +81,7 @@ fn a_fixed_branch()
     ensures value { HasFixedValue town [] 12 }
     ensures dearer { ¬ (HasFixedValue town [] 13) }
 {
+    distinct_edges_sum_to_no_more();
     fixed_value_bounds();
 }
 
@@ -97,7 +106,9 @@ fn a_tree_that_shows_a_bound()
     ensures nodes { NodesShow town_support 12 (Price 1 ∷ []) ([] ∷ []) }
     ensures one_more { ¬ (NodesShow town_support 12 (Price 1 ∷ Fixed ∷ []) ([] ∷ [])) }
     ensures in_order { preorder (cut 1 0 fixed (price 1)) ≡ Cut 1 0 ∷ Fixed ∷ Price 1 ∷ [] }
-{}
+{
+    distinct_edges_sum_to_no_more();
+}
 
 fn a_lean_tree()
     ensures lean { IsLean town_support [] 4 (cut 1 1 (price 1) (price 1)) }

@@ -1,19 +1,9 @@
 // Laws over branches, price sets and trees, as functions whose contract is the law.
-ghost use Rattle.branch_rules.specs.Laws.{
-  ExcludedAreApart,
-  ExcludedIsSymmetric,
-  VoidIsMetByNone,
-  NumbersAreKept,
-  FixedValueBounds,
-  FixedBranchBounds,
-  ValueIsBelow,
-  PricesBound,
-  TreeBounds,
-  LeanIsSmall,
-  NodesShowTree,
-};
+ghost use Rattle.branch_rules.specs.Laws.{ExcludedAreApart, VoidIsMetByNone, NumbersAreKept, FixedValueBounds, FixedBranchBounds, ValueIsBelow, PricesBound, TreeBounds, LeanIsSmall, NodesShowTree};
+ghost use Rattle.decision_chains.specs.Laws.{ExcludedIsSymmetric};
 
 use cut_pool::need_is_met;
+use decision_chains::{distinct_edges_sum_to_no_more, excluded_is_symmetric, yes_pairs_join};
 use deadhead_paths::{least_prices_are_there, walks_are_task_tours};
 use plan_model::required_edges_are_served_once;
 
@@ -21,12 +11,18 @@ use plan_model::required_edges_are_served_once;
 pub fn excluded_pairs_are_apart()
     ensures apart { ExcludedAreApart }
     ensures symmetric { ExcludedIsSymmetric }
-{}
+{
+    yes_pairs_join();
+    distinct_edges_sum_to_no_more();
+    excluded_is_symmetric();
+}
 
 /// No lawful plan meets a void branch.
 pub fn void_is_met_by_none()
     ensures { VoidIsMetByNone }
 {
+    yes_pairs_join();
+    distinct_edges_sum_to_no_more();
     need_is_met();
 }
 
@@ -43,6 +39,8 @@ pub fn fixed_value_bounds()
     ensures spelt { FixedValueBounds }
     ensures met { FixedBranchBounds }
 {
+    yes_pairs_join();
+    distinct_edges_sum_to_no_more();
     required_edges_are_served_once();
 }
 
@@ -52,6 +50,8 @@ pub fn prices_bound()
     ensures below { ValueIsBelow }
     ensures bound { PricesBound }
 {
+    yes_pairs_join();
+    distinct_edges_sum_to_no_more();
     required_edges_are_served_once();
     need_is_met();
     least_prices_are_there();
@@ -62,6 +62,8 @@ pub fn prices_bound()
 pub fn tree_bounds()
     ensures { TreeBounds }
 {
+    yes_pairs_join();
+    distinct_edges_sum_to_no_more();
     required_edges_are_served_once();
     need_is_met();
     least_prices_are_there();
@@ -71,7 +73,9 @@ pub fn tree_bounds()
 /// A lean tree has few turns.
 pub fn lean_trees_are_small()
     ensures { LeanIsSmall }
-{}
+{
+    yes_pairs_join();
+}
 
 /// A list of nodes in preorder shows a bound exactly where its tree does.
 pub fn nodes_show_their_tree()

@@ -1,6 +1,6 @@
 use Rattle.std.proofs.Common.{ℕ, ◌<◌, get_or}
 use Rattle.branch_rules.specs.Limits.{HasShoreOf}
-use Rattle.branch_rules.specs.declared.decision.Decision.{Decision}
+use Rattle.decision_chains.specs.declared.decision.Decision.{Decision}
 use Rattle.branch_rules.proofs.deciding_tests.are_shores_in.Given as goal
 
 abbrev pub invariant-loop-decision : goal.invariant-loop-decision

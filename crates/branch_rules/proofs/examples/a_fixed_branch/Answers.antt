@@ -6,13 +6,13 @@ use Rattle.branch_rules.proofs.SmallTrees.{crossed_now, town_lawful, town_spelt,
 use Rattle.branch_rules.proofs.examples.a_fixed_branch.Goals as goal
 
 pub returns-clause-one_edge : goal.returns-clause-one_edge
-returns-clause-one_edge c = town_is_fixed
+returns-clause-one_edge c = town_is_fixed c.distinct_edges_sum_to_no_more.ensures
 
 pub returns-clause-void : goal.returns-clause-void
 returns-clause-void c = λ fixed. fixed.open_yet crossed_now
 
 pub returns-clause-open_pair : goal.returns-clause-open_pair
-returns-clause-open_pair c = λ fixed. free_pair (fixed.settled 1 2 (record { from_one = omega arith; in_range = omega arith }) (record { from_one = omega arith; in_range = omega arith }))
+returns-clause-open_pair c = λ fixed. free_pair c.distinct_edges_sum_to_no_more.ensures (fixed.settled 1 2 (record { from_one = omega arith; in_range = omega arith }) (record { from_one = omega arith; in_range = omega arith }))
 
 pub returns-clause-value : goal.returns-clause-value
 returns-clause-value c = town_value

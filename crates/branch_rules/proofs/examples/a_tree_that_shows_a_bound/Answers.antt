@@ -7,7 +7,7 @@ pub returns-clause-prices : goal.returns-clause-prices
 returns-clause-prices c = town_shows
 
 pub returns-clause-fixed_leaf : goal.returns-clause-fixed_leaf
-returns-clause-fixed_leaf c = record { settled = town_is_fixed; value = 12; fixed = town_value; enough = omega arith }
+returns-clause-fixed_leaf c = record { settled = town_is_fixed c.distinct_edges_sum_to_no_more.ensures; value = 12; fixed = town_value; enough = omega arith }
 
 pub returns-clause-split : goal.returns-clause-split
 returns-clause-split c = (crossed_now, town_shows_above)

@@ -16,4 +16,4 @@ pub returns-clause-crossed : goal.returns-clause-crossed
 returns-clause-crossed c = crossed_now
 
 pub returns-clause-none : goal.returns-clause-none
-returns-clause-none c = town_is_not_void
+returns-clause-none c = town_is_not_void c.distinct_edges_sum_to_no_more.ensures

@@ -1,5 +1,5 @@
 use Rattle.std.proofs.Common.{refl, arith}
-use Rattle.branch_rules.specs.declared.decision.Decision.TheVariants.{Yes, No, Low}
+use Rattle.decision_chains.specs.declared.decision.Decision.TheVariants.{Yes, No, Low}
 use Rattle.branch_rules.proofs.examples.premises_of_a_branch.Goals as goal
 
 pub returns-clause-one_edge : goal.returns-clause-one_edge

@@ -8,6 +8,7 @@ returns-clause-below c = λ p pool branch set plan fits is. value_law (record {
   is_tour = c.walks_are_task_tours.ensures.tour;
   there = c.least_prices_are_there.ensures.tasks;
   below = c.walks_are_task_tours.ensures.least;
+  chains = record { joins = c.yes_pairs_join.ensures; distinct = c.distinct_edges_sum_to_no_more.ensures };
 }) p pool branch set plan fits is
 
 pub returns-clause-bound : goal.returns-clause-bound
@@ -17,4 +18,5 @@ returns-clause-bound c = λ p pool branch set bound plan fits above is. price_la
   is_tour = c.walks_are_task_tours.ensures.tour;
   there = c.least_prices_are_there.ensures.tasks;
   below = c.walks_are_task_tours.ensures.least;
+  chains = record { joins = c.yes_pairs_join.ensures; distinct = c.distinct_edges_sum_to_no_more.ensures };
 }) p pool branch set plan fits is bound above

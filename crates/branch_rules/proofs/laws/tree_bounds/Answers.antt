@@ -8,4 +8,5 @@ returns c = tree_bounds_law (record {
   is_tour = c.walks_are_task_tours.ensures.tour;
   there = c.least_prices_are_there.ensures.tasks;
   below = c.walks_are_task_tours.ensures.least;
+  chains = record { joins = c.yes_pairs_join.ensures; distinct = c.distinct_edges_sum_to_no_more.ensures };
 })

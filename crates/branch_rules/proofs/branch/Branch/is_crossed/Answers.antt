@@ -1,6 +1,6 @@
 use Rattle.std.proofs.Common.{◌<◌, length, get_or, ap, arith, subst}
 use Rattle.std.proofs.lemmas.List.{get_or_default}
-use Rattle.branch_rules.specs.ChainTables.{IsUncrossed}
+use Rattle.branch_rules.specs.Crossings.{IsUncrossed}
 use Rattle.branch_rules.proofs.Places.{one_more}
 use Rattle.branch_rules.proofs.Voiding.{crossing_now}
 use Rattle.branch_rules.proofs.branch.Branch.is_crossed.Goals as goal

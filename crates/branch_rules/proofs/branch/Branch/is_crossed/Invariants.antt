@@ -1,6 +1,6 @@
 use Rattle.std.proofs.Common.{ℕ, ◌<◌, get_or}
-use Rattle.branch_rules.specs.ChainTables.{IsUncrossed}
-use Rattle.branch_rules.specs.declared.decision.Decision.{Decision}
+use Rattle.branch_rules.specs.Crossings.{IsUncrossed}
+use Rattle.decision_chains.specs.declared.decision.Decision.{Decision}
 use Rattle.branch_rules.proofs.branch.Branch.is_crossed.Given as goal
 
 abbrev pub invariant-loop-decision : goal.invariant-loop-decision

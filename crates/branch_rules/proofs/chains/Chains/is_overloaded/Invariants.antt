@@ -1,6 +1,0 @@
-use Rattle.std.proofs.Common.{ℕ, ◌<◌}
-use Rattle.branch_rules.specs.ChainTables.{IsOverloaded}
-use Rattle.branch_rules.proofs.chains.Chains.is_overloaded.Given as goal
-
-abbrev pub invariant-loop-edge : goal.invariant-loop-edge
-invariant-loop-edge l = (e : ℕ) → e < l.edge → ¬ (IsOverloaded l.self e)

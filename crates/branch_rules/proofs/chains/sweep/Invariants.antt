@@ -1,6 +1,0 @@
-use Rattle.std.proofs.Common.{length, take}
-use Rattle.branch_rules.specs.ChainTables.{AreChains}
-use Rattle.branch_rules.proofs.chains.sweep.Given as goal
-
-abbrev pub invariant-loop-decision : goal.invariant-loop-decision
-invariant-loop-decision l = AreChains (length l.fn.labels) (take l.decision-index l.decisions) l.labels l.near l.tangled

@@ -1,0 +1,5 @@
+pub mod Times
+pub mod Walking
+pub mod Uniqueness
+pub mod ChainTours
+pub mod PlanParts

@@ -1,0 +1,3 @@
+pub mod FixedValue
+pub mod ChainWalks
+pub mod ChainPlans

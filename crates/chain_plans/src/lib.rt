@@ -1,0 +1,9 @@
+//! The plan of a cheapest tour along each chain that yes pairs make of the required edges.
+//!
+//! [`plan`] drives each chain as it stands, each edge in the better direction, and costs the fixed value of the decisions.
+#![tactic(auto)]
+
+mod ordering;
+mod planning;
+
+pub use planning::plan;

@@ -1,0 +1,13 @@
+pub mod YesPairs
+pub mod Times
+pub mod Covering
+pub mod Symmetry
+pub mod Including
+pub mod Labels
+pub mod ChainLoads
+pub mod Neighbouring
+pub mod Linking
+pub mod Barring
+pub mod Stepping
+pub mod TakingOut
+pub mod Settling

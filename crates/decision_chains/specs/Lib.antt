@@ -1,0 +1,5 @@
+pub mod Neighbours
+pub mod Pairs
+pub mod Exclusions
+pub mod ChainTables
+pub mod Laws
