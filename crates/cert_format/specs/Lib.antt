@@ -1,3 +1,4 @@
 pub mod Certs
+pub mod Good
 pub mod Readers
 pub mod Held

@@ -1,0 +1,49 @@
+// Why a certificate is not good.
+use plan_model::Verdict;
+
+/// What of a certificate does not fit the instance. Each is counted from 1.
+#[derive(Clone, Copy, Debug, PartialEq, Eq)]
+pub enum Part {
+    /// A shore with the depot or with a vertex that the instance has not.
+    Shore(u64),
+    /// A price set that has not just one price for each required edge.
+    Prices(u64),
+    /// A node whose pair is not of two required edges.
+    Node(u64),
+}
+
+/// The first reason why a certificate is not good. Shores, sets and nodes are counted from 1, nodes in preorder.
+#[derive(Clone, Copy, Debug, PartialEq, Eq)]
+pub enum Reason {
+    /// The plan is not lawful.
+    PlanUnlawful(Verdict),
+    /// The plan is lawful, and costs another sum than is stated.
+    CostDiffers { stated: u64, found: u128 },
+    /// A part that does not fit the instance.
+    Misfit(Part),
+    /// The weights of a set take more off the price of crossing an edge than it costs.
+    WeightTooLarge { set: u64, edge: u32, price: i128 },
+    /// A node splits a pair that is determined there, or makes a cut that its shore's numbers or the path leave no room for.
+    NotLean { node: u64 },
+    /// A leaf says that its branch is void, and it is not.
+    NotVoid { node: u64 },
+    /// A leaf says that its branch is fixed, and it is not.
+    NotFixed { node: u64 },
+    /// The set of a leaf has a negative weight on a shore without an upper number there.
+    MissingUpper { set: u64, node: u64, shore: u32 },
+    /// With the prices of a leaf a relaxed tour costs less than it earns; this is the least value of such a tour there.
+    TourTooCheap { set: u64, node: u64, value: i128 },
+    /// The value of a leaf is not above the limit, which is the denominator times the bound less 1.
+    LeafLow { node: u64, value: i128, limit: i128 },
+    /// A number of the instance, of the five by place from 1, is not the one that is stated.
+    CountsDiffer { place: u64, stated: u64, found: u64 },
+}
+
+/// Whether a certificate is good.
+#[derive(Clone, Copy, Debug, PartialEq, Eq)]
+pub enum Answer {
+    /// It is good.
+    Accepted,
+    /// It is not, for this first reason.
+    Rejected(Reason),
+}

@@ -1,0 +1,51 @@
+-- When a certificate is good for an instance: then its plan is lawful and costs what is stated, and no lawful plan costs less than
+-- its bound.
+use Rattle.std.specs.Prelude.{◌≡◌, ℕ, List, [], length, IfSome}
+use Rattle.std.specs.List.{All}
+use Rattle.carp_base.specs.Problem.{Problem, IsValid, total_demand}
+use Rattle.plan_model.specs.Plans.{IsLawful, plan_cost}
+use Rattle.plan_model.specs.Laws.{IsLowerBound}
+use Rattle.cut_pool.specs.Shores.{Belongs}
+use Rattle.branch_rules.specs.Prices.{Prices}
+use Rattle.branch_rules.specs.Refusals.{NoneTooHeavy}
+use Rattle.branch_rules.specs.Trees.{Tree, preorder, Support, IsLean, Shows, PairsIn}
+use Rattle.cert_lines.specs.declared.counts.Counts.{Counts}
+use Rattle.cert_lines.specs.Certificates.{Certificate}
+
+-- the numbers of an instance
+abbrev pub counts_in : Problem → Counts
+counts_in p = record { vertices = p.vertices; edges = length p.edges; required = p.required; capacity = p.capacity; demand = total_demand p }
+
+-- what a certificate has beside its tree, for an instance
+abbrev pub support_of : Problem → Certificate → Support
+support_of p c = record { problem = p; pool = c.shores; sets = c.sets }
+
+-- each price set has a price for each required edge
+abbrev pub HasPriceEach : Problem → Prices → Type 0
+HasPriceEach p set = length set.services ≡ p.required
+
+-- The numbers of the instance, where they stand, are those of the instance; the plan is lawful and costs what is stated; each shore
+-- is of vertices of the instance without the depot; each price set has a price for each required edge, and no negative price of
+-- a deadhead; the nodes are a lean tree, with pairs of required edges, which shows the bound.
+pub record IsGood (p : Problem) (c : Certificate) : Type 0 where
+  pub counts : IfSome c.counts (λ k. k ≡ counts_in p)
+  pub lawful : IsLawful p c.plan
+  pub cost : c.cost ≡ plan_cost p c.plan
+  pub shores : All (Belongs p) c.shores
+  pub prices : All (HasPriceEach p) c.sets
+  pub deadheads : All (NoneTooHeavy p c.shores) c.sets
+  pub tree : Tree
+  pub nodes : preorder tree ≡ c.nodes
+  pub pairs : PairsIn p tree
+  pub lean : IsLean (support_of p c) [] 4 tree
+  pub shows : Shows (support_of p c) [] c.bound tree
+
+-- what a good certificate says of the instance
+pub record IsProof (p : Problem) (c : Certificate) : Type 0 where
+  pub lawful : IsLawful p c.plan
+  pub cost : c.cost ≡ plan_cost p c.plan
+  pub bounds : IsLowerBound p c.bound
+
+-- a good certificate is a proof
+abbrev pub GoodIsProof : Type 0
+GoodIsProof = (p : Problem) (c : Certificate) → IsValid p → IsGood p c → IsProof p c
