@@ -14,7 +14,7 @@ use Rattle.branch_rules.specs.declared.node.Node.TheVariants as nodes
 use Rattle.branch_rules.specs.declared.branch.NoUpper.{NoUpper}
 use Rattle.branch_rules.specs.Prices.{Prices, Fits, PaysAtLeast, task_adds, crossing_prices, signed_sum, value_of}
 use Rattle.branch_rules.specs.Decisions.{rules_of, IsVoid, IsFixed}
-use Rattle.branch_rules.specs.Limits.{IsPairWithin}
+use Rattle.decision_chains.specs.Pairs.{IsPairWithin}
 use Rattle.branch_rules.specs.Refusals.{HasUpper, IsWithoutUpper}
 use Rattle.branch_rules.specs.Trees.{Support, set_at, IsLeanNode, PriceShows, FixedShows}
 use Rattle.cert_checker.specs.declared.reason.Part.TheVariants as parts

@@ -1,5 +1,5 @@
 -- The first reason why a certificate is not good for an instance.
-use Rattle.std.specs.Prelude.{◌≡◌, ◌≢◌, ℕ, ◌+◌, ◌<◌, List, [], ◌∷◌, length, ◌⊎◌, IfSome, IsSomeAnd, slice_index}
+use Rattle.std.specs.Prelude.{◌≡◌, ◌≢◌, ℕ, ◌+◌, ◌<◌, ◌≤◌, List, [], ◌∷◌, length, ◌⊎◌, IfSome, IsSomeAnd}
 use Rattle.std.specs.List.{All}
 use Rattle.carp_base.specs.Problem.{Problem}
 use Rattle.plan_model.specs.Plans.{IsLawful, plan_cost}
@@ -67,10 +67,10 @@ pub record HeadIsRight (p : Problem) (c : Certificate) : Type 0 where
   pub deadheads : All (NoneTooHeavy p c.shores) c.sets
 
 -- the first price set with a negative price of a deadhead, and its first such edge
-pub record IsFirstHeavy (p : Problem) (c : Certificate) (set : ℕ) (heavy : TooHeavy) : Type 0 where
+pub record IsFirstHeavy (p : Problem) (c : Certificate) (set : ℕ) (named : TooHeavy) : Type 0 where
   pub from_one : 1 ≤ set
   pub in_range : set ≤ length c.sets
-  pub heavy : IsTooHeavy p c.shores (set_at (support_of p c) set) heavy
+  pub heavy : IsTooHeavy p c.shores (set_at (support_of p c) set) named
   pub before : (k : ℕ) → 1 ≤ k → k < set → NoneTooHeavy p c.shores (set_at (support_of p c) k)
 
 -- all that stands before the nodes is right, and this is the reason of the first node that fails
