@@ -1,3 +1,4 @@
+pub mod Numerals
 pub mod Lines
 pub mod Order
 pub mod Certificates
@@ -5,3 +6,4 @@ pub mod Ranges
 pub mod Agreement
 pub mod Texts
 pub mod Spelling
+pub mod Laws

@@ -1,12 +1,12 @@
 -- What a line of a certificate says, and how it is spelled. A line is a list of bytes without LF.
-use Rattle.std.specs.Prelude.{ℕ, ℤ, List, [], ◌∷◌, ◌++◌, map, codes, decimal, if◌then◌else◌}
+use Rattle.std.specs.Prelude.{ℕ, ℤ, List, [], ◌∷◌, ◌++◌, map, codes, if◌then◌else◌}
 use Rattle.std.specs.List.{flat_map}
-use Rattle.std.specs.Fmt.{signed_decimal}
 use Rattle.plan_model.specs.declared.step.Step.{Step}
 use Rattle.branch_rules.specs.declared.weight.Weight.{Weight}
 use Rattle.branch_rules.specs.declared.node.Node.{Node}
 use Rattle.branch_rules.specs.declared.node.Node.TheVariants.{Pair, Cut, Price, Void, Fixed}
 use Rattle.cert_lines.specs.declared.counts.Counts.{Counts}
+use Rattle.cert_lines.specs.Numerals.{numeral, signed_numeral}
 
 -- a line, with any numbers and any number of items: a line with a number of items states it and then has its items
 pub data Line : Type 0 where
@@ -31,23 +31,23 @@ mark_of s = if s.served then (if s.forward then 43 else 45) else (if s.forward t
 
 -- a step: its mark and the number of its edge
 abbrev pub step_word : Step → List ℕ
-step_word s = mark_of s ∷ decimal s.edge
+step_word s = mark_of s ∷ numeral s.edge
 
 -- a weight: the number of its shore, and the weight
 abbrev pub weight_words : Weight → List (List ℕ)
-weight_words w = decimal w.shore ∷ signed_decimal w.weight ∷ []
+weight_words w = numeral w.shore ∷ signed_numeral w.weight ∷ []
 
 -- the numbers of an instance
 abbrev pub count_words : Counts → List (List ℕ)
-count_words c = decimal c.vertices ∷ decimal c.edges ∷ decimal c.required ∷ decimal c.capacity ∷ decimal c.demand ∷ []
+count_words c = numeral c.vertices ∷ numeral c.edges ∷ numeral c.required ∷ numeral c.capacity ∷ numeral c.demand ∷ []
 
 -- a word and a number
 abbrev pub with_number : List ℕ → ℕ → List (List ℕ)
-with_number word n = word ∷ decimal n ∷ []
+with_number word n = word ∷ numeral n ∷ []
 
 abbrev pub node_words : Node → List (List ℕ)
-node_words (Pair a b) = codes "pair" ∷ decimal a ∷ decimal b ∷ []
-node_words (Cut border k) = codes "cut" ∷ decimal border ∷ decimal k ∷ []
+node_words (Pair a b) = codes "pair" ∷ numeral a ∷ numeral b ∷ []
+node_words (Cut border k) = codes "cut" ∷ numeral border ∷ numeral k ∷ []
 node_words (Price set) = with_number (codes "price") set
 node_words Void = codes "void" ∷ []
 node_words Fixed = codes "fixed" ∷ []
@@ -59,12 +59,12 @@ words_of (counts c) = codes "instance" ∷ count_words c
 words_of (cost n) = with_number (codes "cost") n
 words_of (bound n) = with_number (codes "bound") n
 words_of (tours n) = with_number (codes "tours") n
-words_of (tour n steps) = codes "tour" ∷ decimal n ∷ map step_word steps
+words_of (tour n steps) = codes "tour" ∷ numeral n ∷ map step_word steps
 words_of (shores n) = with_number (codes "shores") n
-words_of (shore n vertices) = codes "shore" ∷ decimal n ∷ map decimal vertices
+words_of (shore n vertices) = codes "shore" ∷ numeral n ∷ map numeral vertices
 words_of (sets n) = with_number (codes "sets") n
-words_of (prices unit n services) = codes "prices" ∷ decimal unit ∷ decimal n ∷ map signed_decimal services
-words_of (weights n items) = codes "weights" ∷ decimal n ∷ flat_map weight_words items
+words_of (prices unit n services) = codes "prices" ∷ numeral unit ∷ numeral n ∷ map signed_numeral services
+words_of (weights n items) = codes "weights" ∷ numeral n ∷ flat_map weight_words items
 words_of (nodes n) = with_number (codes "nodes") n
 words_of (node x) = node_words x
 words_of end = codes "end" ∷ []

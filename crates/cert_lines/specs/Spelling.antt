@@ -1,13 +1,19 @@
 -- The one spelling of a certificate.
-use Rattle.std.specs.Prelude.{ℕ, IsTrue, List, [], ◌∷◌, ◌++◌, length, map, Option, Some, None}
-use Rattle.std.specs.List.{flat_map}
+use Rattle.std.specs.Prelude.{◌≡◌, ℕ, ◌^◌, ◌≤◌, ◌<◌, IsTrue, List, [], ◌∷◌, ◌++◌, length, map, Option, Some, None, IfSome}
+use Rattle.std.specs.List.{All, flat_map, sum_by}
+use Rattle.std.specs.List.Sorted.{IsStrictlyIncreasing}
 use Rattle.plan_model.specs.declared.step.Step.{Step}
+use Rattle.cut_pool.specs.Pools.{IsShoreNumber, AreDifferent}
 use Rattle.branch_rules.specs.Prices.{Prices}
+use Rattle.branch_rules.specs.Limits.{IsPriceSet}
+use Rattle.branch_rules.specs.Trees.{Tree, preorder}
+use Rattle.branch_rules.specs.declared.node.Node.{Node}
+use Rattle.branch_rules.specs.declared.node.Node.TheVariants.{Pair, Cut, Price, Void, Fixed}
 use Rattle.cert_lines.specs.declared.counts.Counts.{Counts}
 use Rattle.cert_lines.specs.Lines.{Line, version, counts, cost, bound, tours, tour, shores, shore, sets, prices, weights, nodes, node, end, line_text}
 use Rattle.cert_lines.specs.Order.{LatestFirst, next_of, follows}
 use Rattle.cert_lines.specs.Certificates.{Certificate}
-use Rattle.cert_lines.specs.Ranges.{IsInRange}
+use Rattle.cert_lines.specs.Ranges.{IsWithin, AreCountsInRange, IsInRange}
 use Rattle.cert_lines.specs.Agreement.{Agrees}
 
 -- version 1 without the numbers of the instance, version 2 with them
@@ -51,3 +57,40 @@ AreGood said (line ∷ lines) = IsTrue (follows (next_of said) line) × IsInRang
 -- a certificate that can be spelled: its nodes are one whole tree in preorder, and its numbers are in their ranges
 abbrev pub IsSpellable : Certificate → Type 0
 IsSpellable c = AreGood [] (lines_of c)
+
+-- a rising list of 1 to 999 vertices
+pub record IsFineShore (vertices : List ℕ) : Type 0 where
+  pub size : IsWithin 1 999 (length vertices)
+  pub vertices_in : All (IsWithin 1 1000) vertices
+  pub rising : IsStrictlyIncreasing vertices
+
+-- a price set whose weights are on shores of the pool
+pub record IsFineSet (pool : List (List ℕ)) (set : Prices) : Type 0 where
+  pub prices : IsPriceSet set
+  pub shores : All (λ w. IsShoreNumber pool w.shore) set.weights
+
+-- a node, where there are so many shores (borders) and so many price sets (units)
+abbrev pub IsFineNode : (borders units : ℕ) → Node → Type 0
+IsFineNode borders units (Pair a b) = (1 ≤ a) × (a < b) × (b ≤ 600)
+IsFineNode borders units (Cut border k) = IsWithin 1 borders border × (k ≤ 1000000)
+IsFineNode borders units (Price set) = IsWithin 1 units set
+IsFineNode borders units Void = Unit {0}
+IsFineNode borders units Fixed = Unit {0}
+
+-- the numbers of a certificate are in their ranges, its shores are different, and its nodes are those of a tree in preorder
+pub record IsFine (c : Certificate) : Type 0 where
+  pub counts_in : IfSome c.counts AreCountsInRange
+  pub cost_in : c.cost < 10 ^ 18
+  pub bound_in : c.bound < 10 ^ 18
+  pub few_tours : length c.plan ≤ 100000
+  pub few_steps : sum_by length c.plan ≤ 2000000
+  pub edges_in : All (All (λ s. IsWithin 1 4000 s.edge)) c.plan
+  pub few_shores : length c.shores ≤ 2000
+  pub shores_fine : All IsFineShore c.shores
+  pub different : AreDifferent c.shores
+  pub few_sets : length c.sets ≤ 256
+  pub sets_fine : All (IsFineSet c.shores) c.sets
+  pub few_nodes : length c.nodes ≤ 2097153
+  pub nodes_fine : All (IsFineNode (length c.shores) (length c.sets)) c.nodes
+  pub tree : Tree
+  pub in_preorder : c.nodes ≡ preorder tree

@@ -1,0 +1,11 @@
+pub mod Digits
+pub mod Words
+pub mod LineWords
+pub mod Readings
+pub mod Listed
+pub mod Spelled
+pub mod Followed
+pub mod InOrder
+pub mod FineNodes
+pub mod FineLists
+pub mod Fine

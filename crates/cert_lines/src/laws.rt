@@ -1,0 +1,73 @@
+// Laws over all texts of certificates, as functions whose contract is the law.
+ghost use Rattle.cert_lines.specs.Laws.{
+  NumeralIsDecimal,
+  SignedNumeralIsDecimal,
+  DigitIsNumeral,
+  NumeralGrows,
+  NumeralIsOfDigits,
+  NumeralIsUnique,
+  SignedNumeralIsUnique,
+  LineIsUnique,
+  LineHasNoEnd,
+  ReadingIsUnique,
+  ReadIsNotBad,
+  BadLineIsUnique,
+  TextIsUnique,
+  TextHasNoFault,
+  FaultIsUnique,
+  SpelledIsRead,
+  ReadIsSpellable,
+  ReadIsSpelled,
+  FineIsSpellable,
+};
+
+/// A number of 64 bits is spelled as std writes it.
+pub fn numerals_are_decimals()
+    ensures natural { NumeralIsDecimal }
+    ensures whole { SignedNumeralIsDecimal }
+{}
+
+/// The spelling of a number of any size, digit by digit; no two numbers have the same.
+pub fn numerals_grow()
+    ensures digit { DigitIsNumeral }
+    ensures more { NumeralGrows }
+    ensures digits { NumeralIsOfDigits }
+    ensures unique { NumeralIsUnique }
+    ensures signed { SignedNumeralIsUnique }
+{}
+
+/// No two lines have the same bytes, and no line has an LF.
+pub fn lines_are_unique()
+    ensures unique { LineIsUnique }
+    ensures whole { LineHasNoEnd }
+{}
+
+/// The lines of bytes are good, or there is a first bad one, and not both; what they say is one, and so is the fault.
+pub fn readings_are_unique()
+    ensures reading { ReadingIsUnique }
+    ensures apart { ReadIsNotBad }
+    ensures bad { BadLineIsUnique }
+{}
+
+/// Bytes are the text of at most one certificate, and have at most one first fault, and not both.
+pub fn texts_are_unique()
+    ensures text { TextIsUnique }
+    ensures apart { TextHasNoFault }
+    ensures fault { FaultIsUnique }
+{}
+
+/// The spelling of a certificate that can be spelled is a text of this certificate.
+pub fn spelled_is_read()
+    ensures { SpelledIsRead }
+{}
+
+/// A text is the spelling of its certificate, so there is one spelling.
+pub fn read_is_spelled()
+    ensures spellable { ReadIsSpellable }
+    ensures spelled { ReadIsSpelled }
+{}
+
+/// A certificate whose numbers are in range, whose shores are different and whose nodes are a tree in preorder can be spelled.
+pub fn fine_is_spellable()
+    ensures { FineIsSpellable }
+{}
