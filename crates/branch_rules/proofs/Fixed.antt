@@ -1,5 +1,5 @@
 -- The fixed value as a sum over chains, and that no plan that meets a fixed branch costs less.
-use Rattle.std.proofs.Common.{◌≡◌, ℕ, ◌+◌, ◌≤◌, Bool, true, false, cond, List, [], ◌∷◌, ◌++◌, refl, sym, ap, ◌∙◌, arith, inl, inr, subst}
+use Rattle.std.proofs.Common.{◌≡◌, ℕ, ◌+◌, ◌≤◌, Bool, true, false, cond, List, [], ◌∷◌, refl, sym, ap, ◌∙◌, arith, inl, inr, subst}
 use Rattle.std.specs.Prelude.{if◌then◌else◌, IsTrue, filter}
 use Rattle.std.specs.List.{AllByRecursion, sum_by}
 use Rattle.std.proofs.lemmas.List.Sums.{sum_by-cons, sum_by-append}
@@ -8,10 +8,9 @@ use Rattle.carp_base.specs.Problem.{Problem, IsRequired}
 use Rattle.plan_model.specs.Plans.{IsLawful, IsLawfulWalk, steps_of, walk_cost, step_cost, plan_cost}
 use Rattle.plan_model.specs.declared.step.Step.{Step}
 use Rattle.plan_model.specs.Laws.{ServedOnceByNumber}
-use Rattle.decision_chains.specs.Neighbours.{served_edges, times}
+use Rattle.decision_chains.specs.Neighbours.{served_edges, times, AreNeighbours}
 use Rattle.deadhead_paths.specs.Tours.{IsFollowed}
-use Rattle.decision_chains.specs.Neighbours.{AreNeighbours}
-use Rattle.decision_chains.specs.Exclusions.{IsYes, YesPath, AreJoined}
+use Rattle.decision_chains.specs.Exclusions.{IsYes, AreJoined}
 use Rattle.branch_rules.specs.Decisions.{Spells}
 use Rattle.chain_plans.specs.FixedValue.{ServesChain, HasFixedValue}
 use Rattle.decision_chains.specs.declared.decision.Decision.{Decision}

@@ -1,8 +1,8 @@
 -- No lawful plan meets a void branch, no excluded pair are neighbours, and deadheads keep within the numbers of their shores.
-use Rattle.std.proofs.Common.{◌≡◌, ℕ, ◌+◌, ◌%◌, ◌≤◌, ◌<◌, ◌==◌, Bool, true, false, ◌&&◌, List, [], ◌∷◌, refl, ap, arith, inl, inr, ◌⊎◌, Option, Some, None, max}
+use Rattle.std.proofs.Common.{◌≡◌, ℕ, ◌+◌, ◌%◌, ◌≤◌, ◌<◌, ◌==◌, Bool, true, false, List, [], ◌∷◌, refl, ap, arith, inl, inr, ◌⊎◌, Option, Some, None, max}
 use Rattle.std.specs.Prelude.{if◌then◌else◌, IfSome}
-use Rattle.std.specs.List.{AllByRecursion, sum_by, list_any}
-use Rattle.std.proofs.lemmas.Bool.{eqb-true, or_cases, or_left, or_right}
+use Rattle.std.specs.List.{AllByRecursion, sum_by}
+use Rattle.std.proofs.lemmas.Bool.{eqb-true}
 use Rattle.carp_base.specs.Problem.{Problem, IsValid, IsRequired, edge_at}
 use Rattle.plan_model.specs.Plans.{IsLawful, deadheads_over}
 use Rattle.plan_model.specs.Offers.{smaller}
@@ -12,7 +12,7 @@ use Rattle.cut_pool.specs.Laws.{NeedIsMet}
 use Rattle.decision_chains.specs.Neighbours.{AreNeighbours}
 use Rattle.cut_pool.specs.Pools.{shore_at}
 use Rattle.branch_rules.specs.Decisions.{MeetsAll, highest, lowest, to_parity, lower_of, IsVoid, IsFixed, Spells, three, cycle, heavy_chain, crossed}
-use Rattle.decision_chains.specs.Exclusions.{says_yes, IsYes, YesPath, AreJoined, Detour, Excluded, same, said_no, first_full, second_full, closes, heavy}
+use Rattle.decision_chains.specs.Exclusions.{IsYes, YesPath, AreJoined, Excluded, same, said_no, first_full, second_full, closes, heavy}
 use Rattle.decision_chains.specs.declared.decision.Decision.{Decision}
 use Rattle.decision_chains.specs.declared.decision.Decision.TheVariants.{Yes, No, Low, High}
 use Rattle.branch_rules.proofs.Line.{neighbours_required}

@@ -17,8 +17,8 @@ use crate::{Branch, Decision, Node};
 use carp_base::{Allowed, Instance, Memory};
 use chain_plans::plan;
 use cut_pool::ShorePool;
-use decision_chains::Chains;
 use deadhead_paths::Distances;
+use decision_chains::Chains;
 use plan_model::Plan;
 use std::alloc::Global;
 

@@ -3,8 +3,8 @@ ghost use Rattle.branch_rules.specs.Laws.{ExcludedAreApart, VoidIsMetByNone, Num
 ghost use Rattle.decision_chains.specs.Laws.{ExcludedIsSymmetric};
 
 use cut_pool::need_is_met;
-use decision_chains::{distinct_edges_sum_to_no_more, excluded_is_symmetric, yes_pairs_join};
 use deadhead_paths::{least_prices_are_there, walks_are_task_tours};
+use decision_chains::{distinct_edges_sum_to_no_more, excluded_is_symmetric, yes_pairs_join};
 use plan_model::required_edges_are_served_once;
 
 /// No excluded pair are neighbours in a lawful plan that meets the branch. The order of an excluded pair is free.

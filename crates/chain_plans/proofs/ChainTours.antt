@@ -1,23 +1,21 @@
 -- What a tour along a chain costs, and that no other walk that serves the chain costs less.
-use Rattle.std.proofs.Common.{◌≡◌, ℕ, zero, suc, ◌+◌, ◌*◌, ◌≤◌, ◌<◌, Bool, true, false, not, cond, List, [], ◌∷◌, ◌++◌, length, map, get_or, refl, sym, ◌∙◌, ap, subst, arith, length-append, inl, inr, ◌⊎◌}
+use Rattle.std.proofs.Common.{◌≡◌, ℕ, zero, suc, ◌+◌, ◌*◌, ◌≤◌, Bool, true, false, not, cond, List, [], ◌∷◌, ◌++◌, length, map, refl, sym, ◌∙◌, ap, subst, arith, length-append, inl, inr, ◌⊎◌}
 use Rattle.std.specs.Prelude.{if◌then◌else◌, filter}
 use Rattle.std.specs.List.{AllByRecursion, sum_by}
 use Rattle.std.proofs.lemmas.List.{get_or-map}
-use Rattle.std.proofs.lemmas.List.Sums.{sum_by-cons, sum_by-append}
-use Rattle.std.proofs.lemmas.Bool.{cases_eq, cases_lt}
+use Rattle.std.proofs.lemmas.List.Sums.{sum_by-cons}
 use Rattle.carp_base.specs.declared.edge.Task.{Task}
 use Rattle.carp_base.specs.Problem.{Problem, IsValid, IsRequired, IsEdgeNumber, edge_at, head_of, tail_of, no_edge}
 use Rattle.plan_model.specs.Plans.{Leads, IsWalk, walk_cost, step_cost}
 use Rattle.plan_model.specs.declared.step.Step.{Step}
-use Rattle.deadhead_paths.specs.Prices.{IsLeastPrice, IsLeastPath, price_of, costs_of}
+use Rattle.deadhead_paths.specs.Prices.{IsLeastPrice, price_of, costs_of}
 use Rattle.deadhead_paths.specs.Tidy.{GoByLeastPaths, served_steps}
-use Rattle.deadhead_paths.specs.Tours.{IsFollowed, LeastDeadhead, task_of, tasks_of, dead_price}
+use Rattle.deadhead_paths.specs.Tours.{LeastDeadhead, task_of, tasks_of, dead_price}
 use Rattle.deadhead_paths.specs.Laws.{LeastPriceIsSymmetric, LeastDeadheadIsThere, LeastDeadheadIsLeast, LeastPathsCost}
 use Rattle.task_tours.specs.Tours.{JoinsTasks}
 use Rattle.tour_directions.specs.Directions.{Directs, IsCheapestDirected}
 use Rattle.decision_chains.specs.Neighbours.{served_edges, times}
-use Rattle.chain_plans.proofs.Times.{map-cond}
-use Rattle.chain_plans.proofs.Times.{times-cons, times-same}
+use Rattle.chain_plans.proofs.Times.{map-cond, times-cons, times-same}
 use Rattle.chain_plans.proofs.Uniqueness.{turned_on, times-turned}
 
 -- a walk serves what its tasks serve

@@ -1,12 +1,12 @@
 -- One tour more: its chain is served and paid for.
-use Rattle.std.proofs.Common.{◌≡◌, ◌≢◌, ℕ, zero, suc, ◌+◌, ◌-◌, ◌*◌, ◌≤◌, ◌<◌, ◌==◌, Bool, true, false, ◌||◌, not, cond, List, [], ◌∷◌, ◌++◌, length, map, get_or, refl, sym, ◌∙◌, ap, subst, arith, length-append, inl, inr, ◌⊎◌}
-use Rattle.std.specs.Prelude.{if◌then◌else◌, IsTrue}
-use Rattle.std.specs.List.{AllByRecursion, sum_by, count_by, flat_map, list_any}
+use Rattle.std.proofs.Common.{◌≡◌, ◌≢◌, ℕ, zero, suc, ◌+◌, ◌-◌, ◌≤◌, ◌<◌, ◌==◌, Bool, true, false, ◌||◌, cond, List, [], ◌∷◌, ◌++◌, length, map, get_or, refl, sym, ◌∙◌, ap, subst, arith, length-append, inl, inr, ◌⊎◌}
+use Rattle.std.specs.Prelude.{if◌then◌else◌}
+use Rattle.std.specs.List.{AllByRecursion, sum_by, count_by, list_any}
 use Rattle.std.proofs.lemmas.List.{flat_map_more, map-append, get_or_default}
 use Rattle.std.proofs.lemmas.List.Sums.{sum_by-cons, sum_by-append}
-use Rattle.std.proofs.lemmas.Bool.{cases_eq, cases_lt, cases_Bool, eq-eqb, ne_eqb, eqb-true, or_cases, or_left, or_right, or_from, both_ways, false_from_ne_true, true_from_ne_false, not_from_false}
+use Rattle.std.proofs.lemmas.Bool.{cases_eq, cases_lt, eq-eqb, ne_eqb, or_left, or_from, both_ways, false_from_ne_true, not_from_false}
 use Rattle.carp_base.specs.declared.edge.Task.{Task}
-use Rattle.carp_base.specs.Problem.{Problem, IsValid, IsRequired, edge_at}
+use Rattle.carp_base.specs.Problem.{IsValid, IsRequired, edge_at}
 use Rattle.plan_model.specs.Plans.{IsLawful, plan_cost, steps_of, step_cost, walk_cost}
 use Rattle.plan_model.specs.Sums.{sum_to}
 use Rattle.plan_model.specs.declared.step.Step.{Step}
@@ -14,13 +14,13 @@ use Rattle.deadhead_paths.specs.Laws.{LeastPriceIsSymmetric, LeastDeadheadIsTher
 use Rattle.deadhead_paths.specs.Tidy.{GoByLeastPaths, served_steps}
 use Rattle.deadhead_paths.specs.Tours.{IsFollowed, tasks_of, task_of}
 use Rattle.task_tours.specs.Laws.{LawfulToursMakeLawfulPlans}
-use Rattle.task_tours.specs.Tours.{JoinsTasks, PlanGoesByLeastPaths, all_tasks, plan_tours, tour_load}
+use Rattle.task_tours.specs.Tours.{all_tasks, plan_tours, tour_load}
 use Rattle.decision_chains.specs.Neighbours.{served_edges, times}
 use Rattle.decision_chains.specs.Exclusions.{IsYes, AreJoined, AreDistinct, IsHeavy}
-use Rattle.chain_plans.specs.FixedValue.{ServesChain, HasChainCost, HasFixedValue}
+use Rattle.chain_plans.specs.FixedValue.{HasChainCost, HasFixedValue}
 use Rattle.decision_chains.specs.Laws.{YesPairsJoin}
 use Rattle.decision_chains.specs.ChainTables.{IsChainTable}
-use Rattle.chain_plans.specs.ChainWalks.{IsTrail, Runs, RunsFrom, AreClosed, IsOrdered, is_marked, unmarked}
+use Rattle.chain_plans.specs.ChainWalks.{IsTrail, Runs, RunsFrom, is_marked, unmarked}
 use Rattle.chain_plans.specs.ChainPlans.{IsChainTour, IsPartPlan}
 use Rattle.decision_chains.specs.declared.chains.Chains.{Chains}
 use Rattle.decision_chains.specs.declared.decision.Decision.{Decision}

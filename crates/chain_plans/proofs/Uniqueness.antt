@@ -1,16 +1,16 @@
 -- A chain can be driven in two orders alone: along its run, or backward.
-use Rattle.std.proofs.Common.{◌≡◌, ◌≢◌, ℕ, zero, suc, ◌+◌, ◌≤◌, ◌<◌, ◌==◌, Bool, true, false, cond, List, [], ◌∷◌, ◌++◌, refl, sym, ◌∙◌, ap, subst, arith, append_assoc, inl, inr, ◌⊎◌}
-use Rattle.std.proofs.lemmas.Bool.{cases_eq, cases_lt, both_ways}
+use Rattle.std.proofs.Common.{◌≡◌, ◌≢◌, ℕ, ◌+◌, ◌≤◌, false, List, [], ◌∷◌, refl, sym, ◌∙◌, ap, subst, arith, inl, inr, ◌⊎◌}
+use Rattle.std.proofs.lemmas.Bool.{cases_eq, cases_lt}
 use Rattle.deadhead_paths.specs.Tours.{IsFollowed}
-use Rattle.decision_chains.specs.Exclusions.{IsYes, YesPath, AreJoined, IsChainEnd}
+use Rattle.decision_chains.specs.Exclusions.{IsYes, AreJoined, IsChainEnd}
 use Rattle.decision_chains.specs.Neighbours.{times}
 use Rattle.decision_chains.specs.Laws.{YesPairsJoin}
 use Rattle.decision_chains.specs.ChainTables.{IsChainTable}
 use Rattle.chain_plans.specs.ChainWalks.{IsTrail, Runs, RunsFrom, first_or_none}
 use Rattle.decision_chains.specs.declared.chains.Chains.{Chains}
 use Rattle.decision_chains.specs.declared.decision.Decision.{Decision}
-use Rattle.chain_plans.proofs.Times.{times-cons, times-append, times-same}
-use Rattle.chain_plans.proofs.Walking.{times_other, times_here, trail_tangles, no_tangle, path_in, no_yes_zero, different_yes}
+use Rattle.chain_plans.proofs.Times.{times-cons, times-same}
+use Rattle.chain_plans.proofs.Walking.{times_other, times_here, trail_tangles, no_tangle, no_yes_zero, different_yes}
 
 -- a list backward, in front of another
 abbrev pub turned_on : List ℕ → List ℕ → List ℕ

@@ -1,5 +1,5 @@
 -- Walks along yes pairs. No public contract speaks of this.
-use Rattle.std.specs.Prelude.{◌≡◌, ◌≢◌, ℕ, zero, suc, ◌+◌, ◌≤◌, ◌==◌, ◌⊎◌, not, Bool, true, false, Option, Some, None, List, [], ◌∷◌, ◌++◌, length, slice_index_or, count_by, if◌then◌else◌}
+use Rattle.std.specs.Prelude.{◌≡◌, ◌≢◌, ℕ, zero, suc, ◌+◌, ◌≤◌, ◌⊎◌, not, Bool, true, false, List, [], ◌∷◌, ◌++◌, length, slice_index_or, count_by}
 use Rattle.std.specs.List.{AllByRecursion}
 use Rattle.carp_base.specs.Problem.{IsRequired}
 use Rattle.decision_chains.specs.Neighbours.{times}

@@ -5,5 +5,7 @@
 
 mod ordering;
 mod planning;
+#[cfg(test)]
+mod tests;
 
 pub use planning::plan;

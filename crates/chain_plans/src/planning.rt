@@ -11,10 +11,10 @@ ghost use Rattle.plan_model.specs.Plans.{IsLawful, plan_cost, steps_of};
 
 use crate::ordering::order;
 use carp_base::Memory;
-use decision_chains::{Chains, yes_pairs_join};
 use deadhead_paths::{
     Distances, least_prices_are_distances, least_prices_are_there, walks_are_task_tours,
 };
+use decision_chains::{Chains, yes_pairs_join};
 use plan_model::{Plan, Walk};
 use std::alloc::Global;
 use task_tours::{join, plans_are_tours};

@@ -8,8 +8,7 @@ use Rattle.decision_chains.specs.ChainTables.{IsLabelled, merged}
 use Rattle.decision_chains.specs.Exclusions.{says_yes, IsYes, YesPath, AreJoined}
 use Rattle.decision_chains.specs.declared.decision.Decision.{Decision}
 use Rattle.decision_chains.specs.declared.decision.Decision.TheVariants.{Yes}
-use Rattle.decision_chains.proofs.YesPairs.{path_append}
-use Rattle.decision_chains.proofs.YesPairs.{pair_is}
+use Rattle.decision_chains.proofs.YesPairs.{path_append, pair_is}
 
 merged_y : (of_x of_y : ℕ) → merged of_x of_y of_y ≡ of_x
 merged_y of_x of_y = ap (λ b. if b then of_x else of_y) (eq-eqb of_y of_y refl)

@@ -15,9 +15,8 @@ use Rattle.decision_chains.specs.declared.decision.Decision.{Decision}
 use Rattle.decision_chains.specs.declared.decision.Decision.TheVariants.{Yes}
 use Rattle.decision_chains.proofs.Including.{yes_before, yes_last, near_same, detour_into, tangled_into, chains_without}
 use Rattle.decision_chains.proofs.Labels.{labels_more}
-use Rattle.decision_chains.proofs.YesPairs.{pair_is}
+use Rattle.decision_chains.proofs.YesPairs.{pair_is, yes_turn, detour_of}
 use Rattle.decision_chains.proofs.Neighbouring.{near_more, near_yes, near_missing, few_near, many_tangle}
-use Rattle.decision_chains.proofs.YesPairs.{yes_turn, detour_of}
 
 -- labels and neighbours by the number of an edge
 pub near_set_same : (near : List Near) (a : ℕ) (n : Near) → 1 ≤ a → a ≤ length near → near_at (set near (a - 1) n) a ≡ n

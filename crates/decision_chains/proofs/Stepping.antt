@@ -3,7 +3,7 @@ use Rattle.std.proofs.Common.{◌≡◌, ◌≢◌, ℕ, ◌==◌, Bool, true, f
 use Rattle.std.specs.Prelude.{if◌then◌else◌}
 use Rattle.std.proofs.lemmas.Bool.{eqb-true, eqb-false, both_ways, false_from_ne_true}
 use Rattle.decision_chains.specs.Exclusions.{IsYes, IsChainEnd, LeadsOn}
-use Rattle.decision_chains.specs.ChainTables.{yes_of, AreNear, near_at, near_besides, is_many, IsTangled, IsChainTable}
+use Rattle.decision_chains.specs.ChainTables.{yes_of, AreNear, near_at, near_besides, is_many, IsChainTable}
 use Rattle.decision_chains.specs.declared.chains.Chains.{Chains}
 use Rattle.decision_chains.specs.declared.near.Near.{Near}
 use Rattle.decision_chains.specs.declared.near.Near.TheVariants.{Free, One, Two, Many}

@@ -4,9 +4,7 @@ use Rattle.std.specs.List.{AllByRecursion}
 use Rattle.carp_base.specs.Problem.{Problem, IsRequired}
 use Rattle.decision_chains.specs.Exclusions.{AreJoined, IsHeavy, Excluded, same, said_no, first_full, second_full, closes, heavy}
 use Rattle.decision_chains.specs.declared.decision.Decision.{Decision}
-use Rattle.decision_chains.proofs.YesPairs.{yes_turn}
-use Rattle.decision_chains.proofs.YesPairs.{path_back}
-use Rattle.decision_chains.proofs.YesPairs.{no_turn}
+use Rattle.decision_chains.proofs.YesPairs.{yes_turn, path_back, no_turn}
 
 turn_joined : (p : Problem) (branch : List Decision) (a b : ℕ) (es : List ℕ) →
     AllByRecursion (λ e. IsRequired p e × (AreJoined branch a e ⊎ AreJoined branch b e)) es →

@@ -1,5 +1,5 @@
 -- What yes and no to a pair say, and what yes pairs join.
-use Rattle.std.proofs.Common.{◌≡◌, ℕ, suc, ◌+◌, ◌<◌, ◌==◌, true, ◌||◌, ◌&&◌, List, [], ◌∷◌, ◌++◌, refl, sym, ap, ◌∙◌, arith, inl, inr, ◌⊎◌}
+use Rattle.std.proofs.Common.{◌≡◌, ℕ, suc, ◌==◌, true, ◌||◌, ◌&&◌, List, [], ◌∷◌, ◌++◌, refl, sym, arith, inl, inr, ◌⊎◌}
 use Rattle.std.specs.List.{All, list_any}
 use Rattle.std.proofs.lemmas.Bool.{or_cases, or_left, or_right, and_parts, eqb-true}
 use Rattle.decision_chains.specs.Exclusions.{says_yes, says_no, IsYes, IsNo, YesPath, AreJoined, Detour}

@@ -9,6 +9,8 @@ mod decision;
 mod excluding;
 mod laws;
 mod near;
+#[cfg(test)]
+mod tests;
 
 pub use chains::Chains;
 pub use decision::Decision;

@@ -1,4 +1,4 @@
-use Rattle.std.proofs.Common.{Option, Some, None, subst, arith}
+use Rattle.std.proofs.Common.{subst, arith}
 use Rattle.decision_chains.specs.Exclusions.{LeadsOn}
 use Rattle.chain_plans.proofs.Walking.{first_on_way, walk_ends, walk_goes_on, shorter, none_of}
 use Rattle.chain_plans.proofs.ordering.walk.Goals as goal

@@ -1,5 +1,3 @@
-use Rattle.std.proofs.Common.{sym, subst}
-use Rattle.std.specs.List.{AllByRecursion}
 use Rattle.carp_base.specs.Problem.{IsRequired}
 use Rattle.chain_plans.proofs.PlanParts.{tasks_required}
 use Rattle.chain_plans.proofs.planning.tour.Goals as goal

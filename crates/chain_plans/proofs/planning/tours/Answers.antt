@@ -1,6 +1,5 @@
-use Rattle.std.proofs.Common.{◌≤◌, length, ap, sym, subst, ◌∙◌, arith}
-use Rattle.chain_plans.specs.ChainWalks.{is_marked}
-use Rattle.chain_plans.proofs.PlanParts.{first_part, skipped_part, longer_part, mark_place}
+use Rattle.std.proofs.Common.{◌≤◌, sym, ◌∙◌, arith}
+use Rattle.chain_plans.proofs.PlanParts.{first_part, longer_part, mark_place}
 use Rattle.chain_plans.proofs.planning.tours.Goals as goal
 
 pub loop-edge-init : goal.loop-edge-init

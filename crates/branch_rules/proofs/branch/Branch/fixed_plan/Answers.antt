@@ -1,6 +1,4 @@
-use Rattle.std.proofs.Common.{◌≡◌, true, subst, sym, ◌∙◌}
 use Rattle.std.proofs.lemmas.Bool.{false_from_ne_true}
-use Rattle.decision_chains.specs.Exclusions.{IsHeavy}
 use Rattle.branch_rules.specs.Decisions.{heavy_chain}
 use Rattle.branch_rules.proofs.Voiding.{tangle_void}
 use Rattle.branch_rules.proofs.branch.Branch.fixed_plan.Goals as goal

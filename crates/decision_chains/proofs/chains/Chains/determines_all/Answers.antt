@@ -1,7 +1,6 @@
 use Rattle.std.proofs.Common.{ℕ, ◌≤◌, ◌<◌, refl, arith}
 use Rattle.decision_chains.specs.Exclusions.{IsDetermined}
-use Rattle.decision_chains.proofs.Settling.{one_more}
-use Rattle.decision_chains.proofs.Settling.{all_from_below}
+use Rattle.decision_chains.proofs.Settling.{one_more, all_from_below}
 use Rattle.decision_chains.proofs.chains.Chains.determines_all.Goals as goal
 
 pub loop-a-preserved : goal.loop-a-preserved
