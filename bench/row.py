@@ -1,7 +1,7 @@
 #!/usr/bin/env python3
 """Compares what carp and a plain program wrote, and prints a row of the table in bench/README.md.
 
-usage: row.py KIND NAME FILE OURS PLAIN OUR_CLOCK PLAIN_CLOCK, where KIND is solve, read, flow or pricing, OURS and PLAIN are the files of what
+usage: row.py KIND NAME FILE OURS PLAIN OUR_CLOCK PLAIN_CLOCK, where KIND is solve, read, flow, pricing or branch, OURS and PLAIN are the files of what
 was written, and the clocks are what bench/plain/clock.cpp prints. The scripts of bench/ call it.
 """
 import datetime
@@ -9,7 +9,7 @@ import os
 import platform
 import sys
 
-COMPARED = {"solve": ["cost", "bound"], "read": ["vertices", "edges", "demand"], "flow": ["value"], "pricing": ["value"]}
+COMPARED = {"solve": ["cost", "bound"], "read": ["vertices", "edges", "demand"], "flow": ["value"], "pricing": ["value"], "branch": ["value"]}
 
 
 def words_of(path):
@@ -39,7 +39,7 @@ def machine():
 
 def main():
     kind, name, path, ours, plain, our_clock, plain_clock = sys.argv[1:]
-    report = dict(words_of(ours)) if kind in ("flow", "pricing") else facts_of_report(ours)
+    report = dict(words_of(ours)) if kind in ("flow", "pricing", "branch") else facts_of_report(ours)
     facts = dict(words_of(plain))
     for fact in COMPARED[kind]:
         if report.get(fact) != facts.get(fact):

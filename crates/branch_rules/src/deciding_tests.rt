@@ -12,7 +12,7 @@ use std::test::Fail;
 use task_tours::{cost_distances, lawful_cost};
 
 // An edge whose service costs as much as a crossing.
-fn street(u: u64, v: u64, cost: u64, demand: u64) -> RawEdge {
+pub(crate) fn street(u: u64, v: u64, cost: u64, demand: u64) -> RawEdge {
     RawEdge {
         u,
         v,
@@ -87,7 +87,7 @@ fn decision_of(kind: u8, first: u8, second: u8) -> Option<Decision>
 }
 
 // The branch of a text of decisions.
-fn branch_of(alloc: Global, text: &[u8]) -> Result<Branch, Fail> {
+pub(crate) fn branch_of(alloc: Global, text: &[u8]) -> Result<Branch, Fail> {
     let mut branch = Branch::new(alloc);
     for signs in text.chunks_exact(3) {
         let &[kind, first, second] = signs else {
@@ -122,7 +122,7 @@ fn allowed_text(alloc: Global, inst: &Instance, branch: &Branch) -> Result<Vec<u
 }
 
 // A row has decisions, then the allowed pairs, and then `v` for a void branch, `f` for a fixed one and else a stop.
-fn expect_rows(
+pub(crate) fn expect_rows(
     rt: &impl Abort,
     alloc: Global,
     inst: &Instance,
@@ -150,7 +150,7 @@ fn expect_rows(
 }
 
 // Three streets of demand 2 in a triangle, far from the depot.
-fn far_triangle(alloc: Global, capacity: u64) -> Result<Instance, Fail> {
+pub(crate) fn far_triangle(alloc: Global, capacity: u64) -> Result<Instance, Fail> {
     let required = [street(2, 3, 1, 2), street(3, 4, 1, 2), street(4, 2, 1, 2)];
     Ok(Instance::build(alloc, 4, 1, capacity, &required, &[street(1, 2, 10, 0)])?)
 }
@@ -280,11 +280,28 @@ fn may_stand(
     )?)
 }
 
+// A row has decisions, then a node, and then whether it may stand there.
+pub(crate) fn expect_nodes(
+    rt: &impl Abort,
+    alloc: Global,
+    inst: &Instance,
+    pool: &ShorePool,
+    rows: &'static str,
+) -> Result<(), Fail> {
+    for row in rows.split('\n') {
+        let parts = parts_of(alloc, row)?;
+        let [decisions, node, want] = parts.as_slice() else {
+            panic!(rt; "three parts in {row}");
+        };
+        let may = may_stand(rt, alloc, inst, pool, decisions, node)?;
+        assert_eq!(rt; may, *want == "yes", "{row}");
+    }
+    Ok(())
+}
+
 #[test]
 fn nodes_of_a_lean_tree(rt: HostRuntime) -> Result<(), Fail> {
     let alloc = rt.alloc();
-    let inst = far_star(alloc)?;
-    let pool = far_shore(&rt, alloc)?;
     let rows = "\
         |c13|no\n\
         |c14|yes\n\
@@ -297,15 +314,7 @@ fn nodes_of_a_lean_tree(rt: HostRuntime) -> Result<(), Fail> {
         +12|p12|no\n\
         +12|p23|no\n\
         +12|p34|yes";
-    for row in rows.split('\n') {
-        let parts = parts_of(alloc, row)?;
-        let [decisions, node, want] = parts.as_slice() else {
-            panic!(&rt; "three parts in {row}");
-        };
-        let may = may_stand(&rt, alloc, &inst, &pool, decisions, node)?;
-        assert_eq!(&rt; may, *want == "yes", "{row}");
-    }
-    Ok(())
+    expect_nodes(&rt, alloc, &far_star(alloc)?, &far_shore(&rt, alloc)?, rows)
 }
 
 #[test]
@@ -324,7 +333,7 @@ fn a_pair_is_determined_for_a_reason(rt: HostRuntime) -> Result<(), Fail> {
 }
 
 // Under these decisions the branch is fixed, and its plan costs this.
-fn expect_fixed_cost(
+pub(crate) fn expect_fixed_cost(
     rt: &impl Abort,
     alloc: Global,
     inst: &Instance,
