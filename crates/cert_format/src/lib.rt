@@ -8,7 +8,10 @@
 mod cert;
 mod reader;
 mod reading;
+mod spelling;
 mod writing;
+#[cfg(test)]
+mod writing_tests;
 
 pub use cert::{Cert, CertHead};
 pub use cert_lines::{CertFault, Counts, Item};

@@ -9,3 +9,4 @@ pub mod InOrder
 pub mod FineNodes
 pub mod FineLists
 pub mod Fine
+pub mod Shapeless

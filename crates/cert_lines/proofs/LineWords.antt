@@ -1,5 +1,5 @@
 -- What a line says is read from its words, so no two lines are spelled alike.
-use Rattle.std.proofs.Common.{◌≡◌, ℕ, suc, ◌-◌, ◌≤◌, Bool, true, false, cond, ◌||◌, eqb, List, [], ◌∷◌, map, get_or, drop, ℤ, pos, negsuc, refl, sym, ap, ◌∙◌, arith, codes, lit≤}
+use Rattle.std.proofs.Common.{◌≡◌, ◌≢◌, ℕ, suc, ◌-◌, ◌≤◌, Bool, true, false, cond, ◌||◌, eqb, List, [], ◌∷◌, map, get_or, drop, ℤ, pos, negsuc, refl, sym, ap, ◌∙◌, arith, codes, lit≤}
 use Rattle.std.specs.List.{AllByRecursion, flat_map, slice_split}
 use Rattle.std.specs.Str.{bytes_eq}
 use Rattle.std.specs.Str.Parse.{digits_value}
@@ -70,7 +70,7 @@ line_is_text line = spaced_is_line (words_of line) (line_words line)
 
 -- Numbers, steps and weights from words.
 
-signed_value : List ℕ → ℤ
+unfoldable pub signed_value : List ℕ → ℤ
 signed_value [] = pos 0
 signed_value (b ∷ ds) = cond (eqb b 45) (negsuc (digits_value 10 ds - 1)) (pos (digits_value 10 (b ∷ ds)))
 
@@ -86,7 +86,7 @@ unfolding signed_value
 signed_read (pos n) = digits_signed (numeral n) (numeral_of_digits n) ∙ ap pos (value_of_numeral n)
 signed_read (negsuc n) = ap (λ (k : ℕ). negsuc (k - 1)) (value_of_numeral (suc n)) ∙ ap negsuc (omega arith)
 
-step_of : List ℕ → Step
+unfoldable pub step_of : List ℕ → Step
 step_of [] = record { edge = 0; forward = false; served = false }
 step_of (mark ∷ ds) = record { edge = digits_value 10 ds; forward = eqb mark 43 || eqb mark 62; served = eqb mark 43 || eqb mark 45 }
 
@@ -109,7 +109,7 @@ services_read : (services : List ℤ) → map signed_value (map signed_numeral s
 services_read [] = refl
 services_read (z ∷ services) = λ i. signed_read z i ∷ services_read services i
 
-weights_of : List (List ℕ) → List Weight
+unfoldable pub weights_of : List (List ℕ) → List Weight
 weights_of [] = []
 weights_of (a ∷ []) = []
 weights_of (a ∷ b ∷ words) = record { shore = digits_value 10 a; weight = signed_value b } ∷ weights_of words
@@ -121,13 +121,13 @@ weights_read (w ∷ items) = λ i. record { shore = value_of_numeral w.shore i; 
 
 -- A line from its words.
 
-number_in : List (List ℕ) → ℕ → ℕ
+unfoldable pub number_in : List (List ℕ) → ℕ → ℕ
 number_in words k = digits_value 10 (get_or words k [])
 
-counts_in : List (List ℕ) → Counts
+unfoldable pub counts_in : List (List ℕ) → Counts
 counts_in words = record { vertices = number_in words 0; edges = number_in words 1; required = number_in words 2; capacity = number_in words 3; demand = number_in words 4 }
 
-node_in : List ℕ → List (List ℕ) → Line
+unfoldable pub node_in : List ℕ → List (List ℕ) → Line
 node_in word words =
     cond (bytes_eq word (codes "pair")) (node (Pair (number_in words 0) (number_in words 1)))
     (cond (bytes_eq word (codes "cut")) (node (Cut (number_in words 0) (number_in words 1)))
@@ -135,7 +135,7 @@ node_in word words =
     (cond (bytes_eq word (codes "void")) (node Void)
     (cond (bytes_eq word (codes "fixed")) (node Fixed) end))))
 
-list_in : List ℕ → List (List ℕ) → Line
+unfoldable pub list_in : List ℕ → List (List ℕ) → Line
 list_in word words =
     cond (bytes_eq word (codes "tour")) (tour (number_in words 0) (map step_of (drop 1 words)))
     (cond (bytes_eq word (codes "shore")) (shore (number_in words 0) (map (digits_value 10) (drop 1 words)))
@@ -143,7 +143,7 @@ list_in word words =
     (cond (bytes_eq word (codes "weights")) (weights (number_in words 0) (weights_of (drop 1 words)))
     (node_in word words))))
 
-line_in : List ℕ → List (List ℕ) → Line
+unfoldable pub line_in : List ℕ → List (List ℕ) → Line
 line_in word words =
     cond (bytes_eq word (codes "carp-certificate")) (version (number_in words 0))
     (cond (bytes_eq word (codes "instance")) (counts (counts_in words))
@@ -155,7 +155,7 @@ line_in word words =
     (cond (bytes_eq word (codes "nodes")) (nodes (number_in words 0))
     (list_in word words))))))))
 
-line_of : List (List ℕ) → Line
+unfoldable pub line_of : List (List ℕ) → Line
 line_of [] = end
 line_of (word ∷ words) = line_in word words
 
@@ -186,13 +186,36 @@ line_read (node Void) = refl
 line_read (node Fixed) = refl
 line_read end = refl
 
-words_read : (words : List (List ℕ)) → AllByRecursion IsWord words → line_of (slice_split (λ b. eqb b 32) (spaced words)) ≡ line_of words
-unfolding line_of line_in list_in node_in
-words_read [] all = refl
-words_read (word ∷ words) all = ap line_of (words_are_cut word words all.0 all.1)
+-- each kind of line has a first word
+some_words : (line : Line) → words_of line ≢ []
+some_words (version n) = λ none. cc
+some_words (counts c) = λ none. cc
+some_words (cost n) = λ none. cc
+some_words (bound n) = λ none. cc
+some_words (tours n) = λ none. cc
+some_words (tour n steps) = λ none. cc
+some_words (shores n) = λ none. cc
+some_words (shore n vertices) = λ none. cc
+some_words (sets n) = λ none. cc
+some_words (prices unit n services) = λ none. cc
+some_words (weights n items) = λ none. cc
+some_words (nodes n) = λ none. cc
+some_words (node (Pair a b)) = λ none. cc
+some_words (node (Cut border k)) = λ none. cc
+some_words (node (Price set)) = λ none. cc
+some_words (node Void) = λ none. cc
+some_words (node Fixed) = λ none. cc
+some_words end = λ none. cc
 
-text_read : (line : Line) → line_of (slice_split (λ b. eqb b 32) (line_text line)) ≡ line
-text_read line = words_read (words_of line) (line_words line) ∙ line_read line
+cut_words : (words : List (List ℕ)) → AllByRecursion IsWord words → words ≢ [] → slice_split (λ b. eqb b 32) (spaced words) ≡ words
+cut_words [] all some = absurd (some refl)
+cut_words (word ∷ words) all some = words_are_cut word words all.0 all.1
+
+pub line_cut : (line : Line) → slice_split (λ b. eqb b 32) (line_text line) ≡ words_of line
+line_cut line = cut_words (words_of line) (line_words line) (some_words line)
+
+pub text_read : (line : Line) → line_of (slice_split (λ b. eqb b 32) (line_text line)) ≡ line
+text_read line = ap line_of (line_cut line) ∙ line_read line
 
 pub line_unique : (line other : Line) → line_text line ≡ line_text other → line ≡ other
 line_unique line other same = sym (text_read line) ∙ ap (λ (bytes : List ℕ). line_of (slice_split (λ b. eqb b 32) bytes)) same ∙ text_read other

@@ -1,10 +1,10 @@
 -- Laws over all texts of certificates.
-use Rattle.std.specs.Prelude.{◌≡◌, ℕ, ◌+◌, ◌*◌, ◌^◌, ◌≤◌, ◌<◌, ℤ, nat_abs, List, [], ◌∷◌, ◌++◌}
+use Rattle.std.specs.Prelude.{◌≡◌, ℕ, ◌==◌, ◌+◌, ◌*◌, ◌^◌, ◌≤◌, ◌<◌, ℤ, nat_abs, List, [], ◌∷◌, ◌++◌}
 use Rattle.std.specs.Fmt.{decimal, signed_decimal}
-use Rattle.std.specs.List.{AllByRecursion}
+use Rattle.std.specs.List.{AllByRecursion, slice_split}
 use Rattle.cert_lines.specs.declared.fault.CertFault.{CertFault}
 use Rattle.cert_lines.specs.Numerals.{numeral, signed_numeral}
-use Rattle.cert_lines.specs.Lines.{Line, line_text}
+use Rattle.cert_lines.specs.Lines.{Line, words_of, line_text}
 use Rattle.cert_lines.specs.Order.{LatestFirst}
 use Rattle.cert_lines.specs.Certificates.{Certificate}
 use Rattle.cert_lines.specs.Texts.{ReadsAs, BreaksAt, IsTextOf, IsFaultOf}
@@ -36,6 +36,10 @@ SignedNumeralIsUnique = (y z : ℤ) → signed_numeral y ≡ signed_numeral z �
 -- no two lines have the same bytes
 abbrev pub LineIsUnique : Type 0
 LineIsUnique = (line other : Line) → line_text line ≡ line_text other → line ≡ other
+
+-- a line is cut at its blanks into its words
+abbrev pub LineIsCut : Type 0
+LineIsCut = (line : Line) → slice_split (λ b. b == 32) (line_text line) ≡ words_of line
 
 -- no line has an LF
 abbrev pub LineHasNoEnd : Type 0

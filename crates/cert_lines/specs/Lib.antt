@@ -7,3 +7,4 @@ pub mod Agreement
 pub mod Texts
 pub mod Spelling
 pub mod Laws
+pub mod Examples

@@ -8,6 +8,7 @@ ghost use Rattle.cert_lines.specs.Laws.{
   NumeralIsUnique,
   SignedNumeralIsUnique,
   LineIsUnique,
+  LineIsCut,
   LineHasNoEnd,
   ReadingIsUnique,
   ReadIsNotBad,
@@ -40,6 +41,11 @@ pub fn numerals_grow()
 pub fn lines_are_unique()
     ensures unique { LineIsUnique }
     ensures whole { LineHasNoEnd }
+{}
+
+/// A line is cut at its blanks into its words.
+pub fn lines_are_cut()
+    ensures { LineIsCut }
 {}
 
 /// The lines of bytes are good, or there is a first bad one, and not both; what they say is one, and so is the fault.

@@ -7,6 +7,8 @@
 #![tactic(auto)]
 
 mod counts;
+#[cfg(test)]
+mod examples;
 mod fault;
 mod item;
 mod laws;
@@ -16,7 +18,7 @@ pub use counts::Counts;
 pub use fault::CertFault;
 pub use item::Item;
 pub use laws::{
-    fine_is_spellable, lines_are_unique, numerals_are_decimals, numerals_grow, read_is_spelled,
-    readings_are_unique, spelled_is_read, texts_are_unique,
+    fine_is_spellable, lines_are_cut, lines_are_unique, numerals_are_decimals, numerals_grow,
+    read_is_spelled, readings_are_unique, spelled_is_read, texts_are_unique,
 };
 pub use next::Next;

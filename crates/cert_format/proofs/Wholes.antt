@@ -1,0 +1,155 @@
+-- The pieces are the text of the certificate.
+use Rattle.std.proofs.Common.{◌≡◌, ℕ, ℤ, List, [], ◌∷◌, ◌++◌, map, length, codes, Option, Some, None, refl, sym, ap, ◌∙◌, append_assoc}
+use Rattle.std.specs.List.{flat_map}
+use Rattle.std.proofs.lemmas.Grind.{flat_map-append}
+use Rattle.std.proofs.lemmas.List.{append-nil}
+use Rattle.std.proofs.lemmas.List.Folds.{flat_map-map}
+use Rattle.plan_model.specs.declared.step.Step.{Step}
+use Rattle.branch_rules.specs.Prices.{Prices}
+use Rattle.branch_rules.specs.declared.weight.Weight.{Weight}
+use Rattle.branch_rules.specs.declared.node.Node.{Node}
+use Rattle.branch_rules.specs.declared.node.Node.TheVariants.{Pair, Cut, Price, Void, Fixed}
+use Rattle.cert_lines.specs.declared.counts.Counts.{Counts}
+use Rattle.cert_lines.specs.Numerals.{numeral, signed_numeral}
+use Rattle.cert_lines.specs.Lines.{Line, version, counts, cost, bound, tours, shores, sets, prices, weights, nodes, node, end, after_blank, step_word, weight_words}
+use Rattle.cert_lines.specs.Certificates.{Certificate}
+use Rattle.cert_lines.specs.Spelling.{whole_line, version_lines, tour_line, shore_line, set_lines, lines_of, text_of}
+use Rattle.cert_format.specs.Pieces.{number_piece, step_piece, price_piece, weight_piece, number_line, pair_line, sizes_piece, loads_piece, counts_line, tour_text, shore_text, prices_head, prices_text, weights_text, set_text, node_text, second_text, version_text, plan_text, pool_text, sets_text, nodes_text, values_text}
+
+-- a word, a number and items, each after a blank, and the LF
+line_of_items : (word one items : List ℕ) → (word ++ (one ++ items)) ++ 10 ∷ [] ≡ word ++ (one ++ (items ++ 10 ∷ []))
+line_of_items word one items = append_assoc word (one ++ items) (10 ∷ []) ∙ ap (λ (bytes : List ℕ). word ++ bytes) (append_assoc one items (10 ∷ []))
+
+number_is : (word : List ℕ) (n : ℕ) → number_line word n ≡ (word ++ (number_piece n ++ [])) ++ 10 ∷ []
+unfolding number_line
+number_is word n = sym (line_of_items word (number_piece n) [])
+
+pair_is : (word : List ℕ) (a b : ℕ) → pair_line word a b ≡ (word ++ (number_piece a ++ (number_piece b ++ []))) ++ 10 ∷ []
+unfolding pair_line
+pair_is word a b =
+    sym (line_of_items word (number_piece a) (number_piece b ++ [])
+    ∙ ap (λ (bytes : List ℕ). word ++ (number_piece a ++ bytes)) (append_assoc (number_piece b) [] (10 ∷ [])))
+
+tour_is : (steps : List Step) → tour_text steps ≡ whole_line (tour_line steps)
+unfolding tour_text
+tour_is steps =
+    ap (λ (items : List ℕ). codes "tour" ++ (number_piece (length steps) ++ (items ++ 10 ∷ []))) (sym (flat_map-map after_blank step_word steps))
+    ∙ sym (line_of_items (codes "tour") (number_piece (length steps)) (flat_map after_blank (map step_word steps)))
+
+shore_is : (vertices : List ℕ) → shore_text vertices ≡ whole_line (shore_line vertices)
+unfolding shore_text
+shore_is vertices =
+    ap (λ (items : List ℕ). codes "shore" ++ (number_piece (length vertices) ++ (items ++ 10 ∷ []))) (sym (flat_map-map after_blank numeral vertices))
+    ∙ sym (line_of_items (codes "shore") (number_piece (length vertices)) (flat_map after_blank (map numeral vertices)))
+
+prices_is : (set : Prices) → prices_text set ≡ whole_line (prices set.unit (length set.services) set.services)
+unfolding prices_text prices_head
+prices_is set =
+    let items = flat_map price_piece set.services in
+    append_assoc (codes "prices") (number_piece set.unit ++ number_piece (length set.services)) (items ++ 10 ∷ [])
+    ∙ ap (λ (bytes : List ℕ). codes "prices" ++ bytes) (append_assoc (number_piece set.unit) (number_piece (length set.services)) (items ++ 10 ∷ []))
+    ∙ ap (λ (bytes : List ℕ). codes "prices" ++ (number_piece set.unit ++ bytes)) (sym (append_assoc (number_piece (length set.services)) items (10 ∷ [])))
+    ∙ sym (line_of_items (codes "prices") (number_piece set.unit) (number_piece (length set.services) ++ items))
+    ∙ ap (λ (bytes : List ℕ). (codes "prices" ++ (number_piece set.unit ++ (number_piece (length set.services) ++ bytes))) ++ 10 ∷ [])
+    (sym (flat_map-map after_blank signed_numeral set.services))
+
+weight_items : (items : List Weight) → flat_map weight_piece items ≡ flat_map after_blank (flat_map weight_words items)
+unfolding weight_piece
+weight_items [] = refl
+weight_items (w ∷ items) =
+    append_assoc (number_piece w.shore) (price_piece w.weight) (flat_map weight_piece items)
+    ∙ ap (λ (bytes : List ℕ). number_piece w.shore ++ (price_piece w.weight ++ bytes)) (weight_items items)
+
+weights_is : (set : Prices) → weights_text set ≡ whole_line (weights (length set.weights) set.weights)
+unfolding weights_text
+weights_is set =
+    ap (λ (items : List ℕ). codes "weights" ++ (number_piece (length set.weights) ++ (items ++ 10 ∷ []))) (weight_items set.weights)
+    ∙ sym (line_of_items (codes "weights") (number_piece (length set.weights)) (flat_map after_blank (flat_map weight_words set.weights)))
+
+set_is : (set : Prices) → set_text set ≡ flat_map whole_line (set_lines set)
+unfolding set_text
+set_is set = λ i. prices_is set i ++ (weights_is set ∙ sym (append-nil (whole_line (weights (length set.weights) set.weights)))) i
+
+node_is : (x : Node) → node_text x ≡ whole_line (node x)
+unfolding node_text
+node_is (Pair a b) = pair_is (codes "pair") a b
+node_is (Cut border k) = pair_is (codes "cut") border k
+node_is (Price set) = number_is (codes "price") set
+node_is Void = refl
+node_is Fixed = refl
+
+counts_is : (c : Counts) → counts_line c ≡ whole_line (counts c)
+unfolding counts_line sizes_piece loads_piece
+counts_is c = simp append_assoc
+
+version_is : (size : Option Counts) → version_text size ≡ flat_map whole_line (version_lines size)
+unfolding version_text second_text
+version_is None = number_is (codes "carp-certificate") 1 ∙ sym (append-nil (whole_line (version 1)))
+version_is (Some c) = λ i. number_is (codes "carp-certificate") 2 i ++ (counts_is c ∙ sym (append-nil (whole_line (counts c)))) i
+
+-- Groups.
+
+tours_is : (plan : List (List Step)) → flat_map tour_text plan ≡ flat_map whole_line (map tour_line plan)
+tours_is [] = refl
+tours_is (steps ∷ plan) = λ i. tour_is steps i ++ tours_is plan i
+
+shores_is : (pool : List (List ℕ)) → flat_map shore_text pool ≡ flat_map whole_line (map shore_line pool)
+shores_is [] = refl
+shores_is (vertices ∷ pool) = λ i. shore_is vertices i ++ shores_is pool i
+
+sets_is : (all : List Prices) → flat_map set_text all ≡ flat_map whole_line (flat_map set_lines all)
+sets_is [] = refl
+sets_is (set ∷ all) = (λ i. set_is set i ++ sets_is all i) ∙ sym (flat_map-append whole_line (set_lines set) (flat_map set_lines all))
+
+nodes_is : (all : List Node) → flat_map node_text all ≡ flat_map whole_line (map node all)
+nodes_is [] = refl
+nodes_is (x ∷ all) = λ i. node_is x i ++ nodes_is all i
+
+plan_is : (plan : List (List Step)) → plan_text plan ≡ flat_map whole_line (tours (length plan) ∷ map tour_line plan)
+unfolding plan_text
+plan_is plan = λ i. number_is (codes "tours") (length plan) i ++ tours_is plan i
+
+pool_is : (pool : List (List ℕ)) → pool_text pool ≡ flat_map whole_line (shores (length pool) ∷ map shore_line pool)
+unfolding pool_text
+pool_is pool = λ i. number_is (codes "shores") (length pool) i ++ shores_is pool i
+
+all_sets_is : (all : List Prices) → sets_text all ≡ flat_map whole_line (sets (length all) ∷ flat_map set_lines all)
+unfolding sets_text
+all_sets_is all = λ i. number_is (codes "sets") (length all) i ++ sets_is all i
+
+all_nodes_is : (all : List Node) → nodes_text all ≡ flat_map whole_line (nodes (length all) ∷ map node all) ++ codes "end\n"
+unfolding nodes_text
+all_nodes_is all =
+    (λ i. number_is (codes "nodes") (length all) i ++ (nodes_is all i ++ codes "end\n"))
+    ∙ sym (append_assoc (whole_line (nodes (length all))) (flat_map whole_line (map node all)) (codes "end\n"))
+
+values_is : (price low : ℕ) → values_text price low ≡ whole_line (cost price) ++ whole_line (bound low)
+unfolding values_text
+values_is price low = λ i. number_is (codes "cost") price i ++ number_is (codes "bound") low i
+
+-- the pieces one after another
+lines_cut : (c : Certificate) →
+    text_of c
+    ≡ flat_map whole_line (version_lines c.counts)
+    ++ (whole_line (cost c.cost) ++ (whole_line (bound c.bound) ++ flat_map whole_line (tours (length c.plan) ∷ map tour_line c.plan)))
+    ++ flat_map whole_line (shores (length c.shores) ∷ map shore_line c.shores)
+    ++ flat_map whole_line (sets (length c.sets) ∷ flat_map set_lines c.sets)
+    ++ flat_map whole_line (nodes (length c.nodes) ∷ map node c.nodes)
+    ++ codes "end\n"
+lines_cut c = rw (flat_map-append, flat_map-append, flat_map-append, flat_map-append, flat_map-append) refl
+
+regrouped : (head price low plan pool dearness tree last : List ℕ) →
+    head ++ (price ++ low) ++ plan ++ pool ++ dearness ++ (tree ++ last) ≡ head ++ (price ++ (low ++ plan)) ++ pool ++ dearness ++ tree ++ last
+regrouped head price low plan pool dearness tree last =
+    sym (append_assoc (head ++ (price ++ low) ++ plan ++ pool ++ dearness) tree last)
+    ∙ ap (λ (front : List ℕ). front ++ pool ++ dearness ++ tree ++ last)
+    (append_assoc head (price ++ low) plan ∙ ap (λ (bytes : List ℕ). head ++ bytes) (append_assoc price low plan))
+
+pub text_is : (c : Certificate) →
+    version_text c.counts ++ values_text c.cost c.bound ++ plan_text c.plan ++ pool_text c.shores ++ sets_text c.sets ++ nodes_text c.nodes ≡ text_of c
+text_is c =
+    (λ i. version_is c.counts i ++ values_is c.cost c.bound i ++ plan_is c.plan i ++ pool_is c.shores i ++ all_sets_is c.sets i ++ all_nodes_is c.nodes i)
+    ∙ regrouped (flat_map whole_line (version_lines c.counts)) (whole_line (cost c.cost)) (whole_line (bound c.bound))
+    (flat_map whole_line (tours (length c.plan) ∷ map tour_line c.plan)) (flat_map whole_line (shores (length c.shores) ∷ map shore_line c.shores))
+    (flat_map whole_line (sets (length c.sets) ∷ flat_map set_lines c.sets)) (flat_map whole_line (nodes (length c.nodes) ∷ map node c.nodes)) (codes "end\n")
+    ∙ sym (lines_cut c)
