@@ -1,7 +1,7 @@
 -- Small data for the examples beside the tests.
 use Rattle.std.specs.Prelude.{ℕ, [], ◌∷◌, None, codes}
 use Rattle.carp_base.specs.Problem.{Problem}
-use Rattle.carp_engine.specs.Solutions.{Solution}
+use Rattle.cert_lines.specs.Certificates.{Certificate}
 use Rattle.carp_cli.specs.Words.{FileNames}
 use Rattle.carp_cli.specs.Outside.{Outside}
 
@@ -9,9 +9,9 @@ use Rattle.carp_cli.specs.Outside.{Outside}
 abbrev pub idle : Problem
 idle = record { vertices = 1; depot = 1; capacity = 1; required = 0; edges = [] }
 
--- a solution of no tours that states this cost and this bound
-abbrev pub stating : ℕ → ℕ → Solution
-stating cost bound = record { cost = cost; bound = bound; plan = []; prices = [] }
+-- a certificate of no tours that states this cost and this bound
+abbrev pub stating : ℕ → ℕ → Certificate
+stating cost bound = record { counts = None; cost = cost; bound = bound; plan = []; shores = []; sets = []; nodes = [] }
 
 abbrev pub two_names : FileNames
 two_names = record { file = codes "f"; cert = codes "c" }

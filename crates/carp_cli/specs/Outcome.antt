@@ -6,8 +6,9 @@ use Rattle.carp_outside.specs.Told.{HoldsExactly, HoldsFront, SameContents, Wrot
 use Rattle.carp_cli.specs.Words.{FileNames}
 use Rattle.carp_cli.specs.Outside.{Outside, RoseAtFile}
 use Rattle.carp_engine.specs.Helpers.{IsAtMost}
-use Rattle.carp_engine.specs.Solutions.{Solution, IsSound}
-use Rattle.carp_cli.specs.Certificate.{certificate_text, turns_of}
+use Rattle.carp_engine.specs.Solutions.{IsSound}
+use Rattle.cert_lines.specs.Certificates.{Certificate}
+use Rattle.cert_lines.specs.Texts as certificates
 use Rattle.carp_cli.specs.Report.{report_text}
 use Rattle.carp_cli.specs.Files.{file_limit, OfFile}
 use Rattle.dat_text.specs.Text.{IsTextOf, IsFaultOf}
@@ -16,23 +17,24 @@ use Rattle.carp_cli.specs.declared.status.Status.{Status}
 use Rattle.carp_cli.specs.declared.status.Status.TheVariants.{Proven, Gap, BadUsage, BadInstance, ReadFault, WriteFault, Memory, TooLong}
 
 -- `Proven` only where the bound is the cost, and `Gap` only where it is not
-pub record IsEnding (c : Solution) (status : Status) : Type 0 where
+pub record IsEnding (c : Certificate) (status : Status) : Type 0 where
   pub proven : status ≡ Proven → c.bound ≡ c.cost
   pub gap : status ≡ Gap → c.bound ≢ c.cost
 
--- these texts are of a sound solution of the instance: its certificate, to keep, and its report, to write
+-- these texts are of a sound certificate of the instance: its own, to keep, and the report, to write
 pub record AreTextsOf (p : Problem) (kept written : List ℕ) : Type 0 where
-  pub solution : Solution
-  pub sound : IsSound p solution
-  pub kept_is : kept ≡ certificate_text solution
-  pub written_is : written ≡ report_text p solution (turns_of solution)
+  pub certificate : Certificate
+  pub turns : ℕ
+  pub sound : IsSound p certificate turns
+  pub kept_is : certificates.IsTextOf kept certificate
+  pub written_is : written ≡ report_text p certificate turns
 
--- these texts are of such a solution, which costs no more than what helpers offered, and the status says whether its bound is its
+-- these texts are of such a certificate, which costs no more than what helpers offered, and the status says whether its bound is its
 -- cost
 pub record IsAnswer (p : Problem) (kept written : List ℕ) (status : Status) (offered : List (Option ℕ)) : Type 0 where
   pub texts : AreTextsOf p kept written
-  pub ending : IsEnding texts.solution status
-  pub helped : All (IsAtMost texts.solution.cost) offered
+  pub ending : IsEnding texts.certificate status
+  pub helped : All (IsAtMost texts.certificate.cost) offered
 
 -- the certificate of an instance is kept, and its report is written
 pub record IsDelivered (p : Problem) (cert : List ℕ) (status : Status) (before now : Outside) : Type 0 where

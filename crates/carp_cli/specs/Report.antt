@@ -4,8 +4,11 @@ use Rattle.std.specs.List.{flat_map}
 use Rattle.carp_base.specs.Problem.{Problem, edge_at, head_of, total_demand}
 use Rattle.plan_model.specs.declared.step.Step.{Step}
 use Rattle.plan_model.specs.Plans.{walk_cost, walk_load}
-use Rattle.carp_cli.specs.Certificate.{number_line}
-use Rattle.carp_engine.specs.Solutions.{Solution}
+use Rattle.cert_lines.specs.Certificates.{Certificate}
+
+-- words, a number and the end of the line
+unfoldable pub number_line : List ℕ → ℕ → List ℕ
+number_line words number = words ++ decimal number ++ codes "\n"
 
 -- `=` for a step that serves and `-` for one that does not, and the vertex that it reaches
 abbrev pub crossing_text : Problem → Step → List ℕ
@@ -35,11 +38,11 @@ instance_line p =
     codes "instance vertices " ++ decimal p.vertices ++ codes " edges " ++ decimal (length p.edges)
     ++ codes " required " ++ decimal p.required ++ codes " capacity " ++ decimal p.capacity ++ number_line (codes " demand ") (total_demand p)
 
-unfoldable pub result_lines : Solution → ℕ → List ℕ
+unfoldable pub result_lines : Certificate → ℕ → List ℕ
 result_lines c turns =
     number_line (codes "cost ") c.cost ++ number_line (codes "bound ") c.bound ++ number_line (codes "turns ") turns ++ gap_line c.cost c.bound
 
 -- the report of an instance, a certificate and its turns
-abbrev pub report_text : Problem → Solution → ℕ → List ℕ
+abbrev pub report_text : Problem → Certificate → ℕ → List ℕ
 report_text p c turns =
     instance_line p ++ result_lines c turns ++ number_line (codes "tours ") (length c.plan) ++ tour_lines p 1 c.plan

@@ -8,7 +8,6 @@ ghost use Rattle.carp_cli.specs.Examples.{idle, stating, two_names, empty, with_
 use crate::Status;
 
 fn facts_of_a_run_hold()
-    ensures sound { IsSound idle (stating 0 0) }
     ensures proven { IsEnding (stating 5 5) Status.Proven }
     ensures gap { IsEnding (stating 5 4) Status.Gap }
     ensures elsewhere { SameElsewhere (Some two_names) (λ _. None) (λ _. None) }
@@ -16,8 +15,8 @@ fn facts_of_a_run_hold()
 {}
 
 fn facts_of_a_run_fail()
-    ensures cost { IsSound idle (stating 1 0) → ⊥ }
-    ensures bound { IsSound idle (stating 0 1) → ⊥ }
+    ensures cost { IsSound idle (stating 1 0) 0 → ⊥ }
+    ensures bound { IsSound idle (stating 0 1) 0 → ⊥ }
     ensures proven { IsEnding (stating 5 4) Status.Proven → ⊥ }
     ensures gap { IsEnding (stating 5 5) Status.Gap → ⊥ }
     ensures solved { IsSolved two_names Status.Gap empty empty → ⊥ }

@@ -8,12 +8,13 @@ ghost use Rattle.carp_cli.specs.Outcome.{IsAnswer};
 ghost use Rattle.carp_cli.specs.Stops.{stop_of_reading};
 ghost use Rattle.carp_cli.specs.declared.gathering.Stop.TheVariants.{NoMemory, NotRead, Longer, NoInstance};
 
-use crate::certificate::write_certificate;
 use crate::report::write_report;
 use crate::status::Status;
 use carp_base::{Fail, Instance, Memory};
 use carp_engine::solve;
 use carp_outside::{ReadFault, Shelf, read_whole};
+use cert_format::write_cert;
+use cert_lines::spelled_is_read;
 use dat_text::{DatFault, read_dat, readings_are_unique};
 use plan_model::Proposer;
 use std::alloc::Global;
@@ -120,20 +121,27 @@ pub(crate) fn build_texts<P: Proposer>(
     ensures answer { IfOk result (λ texts. IsAnswer inst.now texts.kept.items texts.report.items texts.status (map (λ helper. (P.tally helper).least) helpers.new.items)) }
     ensures status { IfOk result (λ texts. (texts.status ≡ Status.Proven) ⊎ (texts.status ≡ Status.Gap)) }
 {
-    let solution = solve(alloc, inst, TURNS, SEED, helpers)?;
-    let proven = solution.bound == solution.cost;
-    let kept = write_certificate(alloc, &solution)?;
-    let report = write_report(alloc, inst, &solution, u64::from(proven))?;
+    spelled_is_read();
+    let solved = solve(alloc, inst, TURNS, SEED, helpers)?;
+    let kept = write_cert(alloc, &solved.cert)?;
+    let report = write_report(alloc, inst, &solved.cert, solved.turns)?;
     Ok(Texts {
         kept,
         report,
-        status: ending(proven),
+        status: ending(solved.cert.bound, solved.cert.cost),
     })
 }
 
-fn ending(proven: bool) -> Status
-    ensures proven { IsTrue proven → result ≡ Status.Proven }
-    ensures gap { (IsTrue proven → ⊥) → result ≡ Status.Gap }
+// What is answered for a bound and a cost.
+fn ending(bound: u64, cost: u64) -> Status
+    ensures proven { bound ≡ cost → result ≡ Status.Proven }
+    ensures gap { bound ≢ cost → result ≡ Status.Gap }
+    ensures is_proven { result ≡ Status.Proven → bound ≡ cost }
+    ensures is_gap { result ≡ Status.Gap → bound ≢ cost }
 {
-    if proven { Status::Proven } else { Status::Gap }
+    if bound == cost {
+        Status::Proven
+    } else {
+        Status::Gap
+    }
 }

@@ -8,7 +8,6 @@
 //! and `report` spell them, and `refusals` spells the answers that have no report.
 #![tactic(auto)]
 
-mod certificate;
 mod dir_shelf;
 #[cfg(test)]
 mod examples;

@@ -3,13 +3,12 @@ ghost use Rattle.std.specs.Prelude.{◌≡◌, ◌+◌, ◌<◌, ◌≤◌, ◌^
 ghost use Rattle.std.specs.List.{flat_map};
 ghost use Rattle.carp_base.specs.Problem.{IsEdgeNumber};
 ghost use Rattle.plan_model.specs.Plans.{IsLawful, IsOnEdges};
-ghost use Rattle.carp_cli.specs.Certificate.{turns_of, number_line};
-ghost use Rattle.carp_engine.specs.Solutions.{solution_of};
-ghost use Rattle.carp_cli.specs.Report.{report_text, instance_line, result_lines, gap_line, tour_lines, tour_line, route_text, crossing_text};
+ghost use Rattle.cert_format.specs.Certs.{certificate_in};
+ghost use Rattle.carp_cli.specs.Report.{number_line, report_text, instance_line, result_lines, gap_line, tour_lines, tour_line, route_text, crossing_text};
 
 use crate::text::{push_line, push_number, push_words};
 use carp_base::{Instance, Memory};
-use carp_engine::Solved;
+use cert_format::Cert;
 use plan_model::{Plan, Step, Walk, cost_of, load_of};
 use std::alloc::Global;
 
@@ -95,31 +94,31 @@ fn push_gap_line(text: &mut Vec<u8>, cost: u128, bound: u128) -> Result<(), Memo
 }
 
 #[tactic(auto, unfolding(crate::specs::Report::result_lines))]
-fn push_result_lines(text: &mut Vec<u8>, solution: &Solved, turns: u64) -> Result<(), Memory>
-    requires { solution.now.bound ≤ solution.now.cost }
-    ensures { OnOk result (text.new.items ≡ text.old.items ++ result_lines (solution_of solution.now) turns) }
+fn push_result_lines(text: &mut Vec<u8>, cert: &Cert, turns: u64) -> Result<(), Memory>
+    requires { cert.now.bound ≤ cert.now.cost }
+    ensures { OnOk result (text.new.items ≡ text.old.items ++ result_lines (certificate_in cert.now) turns) }
 {
-    push_line(text, b"cost ", solution.cost)?;
-    push_line(text, b"bound ", solution.bound)?;
+    push_line(text, b"cost ", u128::from(cert.cost))?;
+    push_line(text, b"bound ", u128::from(cert.bound))?;
     push_line(text, b"turns ", u128::from(turns))?;
-    push_gap_line(text, solution.cost, solution.bound)
+    push_gap_line(text, u128::from(cert.cost), u128::from(cert.bound))
 }
 
 /// The report of an instance, the certificate found for it and the turns of the certificate's tree.
 pub(crate) fn write_report(
     alloc: Global,
     inst: &Instance,
-    solution: &Solved,
+    cert: &Cert,
     turns: u64,
 ) -> Result<Vec<u8>, Memory>
-    requires lawful { IsLawful inst.now solution.now.plan }
-    requires bounded { solution.now.bound ≤ solution.now.cost }
-    ensures { IfOk result (λ text. text.items ≡ report_text inst.now (solution_of solution.now) turns) }
+    requires lawful { IsLawful inst.now cert.now.plan }
+    requires bounded { cert.now.bound ≤ cert.now.cost }
+    ensures { IfOk result (λ text. text.items ≡ report_text inst.now (certificate_in cert.now) turns) }
 {
     let mut text = Vec::new(alloc);
     push_instance_line(&mut text, inst)?;
-    push_result_lines(&mut text, solution, turns)?;
-    push_line(&mut text, b"tours ", solution.plan.len() as u128)?;
-    push_tour_lines(&mut text, inst, &solution.plan)?;
+    push_result_lines(&mut text, cert, turns)?;
+    push_line(&mut text, b"tours ", cert.plan.len() as u128)?;
+    push_tour_lines(&mut text, inst, &cert.plan)?;
     Ok(text)
 }

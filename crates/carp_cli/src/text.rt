@@ -1,6 +1,6 @@
 // Numbers in a growing text.
 ghost use Rattle.std.specs.Prelude.{◌≡◌, ◌++◌, OnOk};
-ghost use Rattle.carp_cli.specs.Certificate.{number_line};
+ghost use Rattle.carp_cli.specs.Report.{number_line};
 
 use carp_base::Memory;
 use itoa::{Buffer, Integer};
@@ -27,7 +27,7 @@ pub(crate) fn push_words<I: Integer>(
 }
 
 // Adds words, a number in plain decimals, and the end of the line.
-#[tactic(auto, unfolding(crate::specs::Certificate::number_line))]
+#[tactic(auto, unfolding(crate::specs::Report::number_line))]
 pub(crate) fn push_line(text: &mut Vec<u8>, words: &[u8], number: u128) -> Result<(), Memory>
     ensures { OnOk result (text.new.items ≡ text.old.items ++ number_line words.now number) }
 {

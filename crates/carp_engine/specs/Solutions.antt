@@ -1,23 +1,15 @@
--- What a solution shows of its instance.
-use Rattle.std.specs.Prelude.{◌≡◌, ℕ, ◌≤◌, List, map}
-use Rattle.carp_base.specs.Problem.{Problem, required_edges, required_cost}
+-- What a certificate that was found shows of its instance.
+use Rattle.std.specs.Prelude.{◌≡◌, ℕ, ◌≤◌, List, [], Some}
+use Rattle.carp_base.specs.Problem.{Problem, required_cost}
 use Rattle.deadhead_paths.specs.Singles.{AreLeastTours}
 use Rattle.plan_model.specs.Plans.{IsLawful, plan_cost}
 use Rattle.plan_model.specs.Laws.{IsLowerBound}
 use Rattle.plan_model.specs.declared.step.Step.{Step}
-use Rattle.carp_engine.specs.declared.solving.Solved.{Solved}
+use Rattle.branch_rules.specs.Trees.{HasTurns, Shows}
+use Rattle.cert_lines.specs.Certificates.{Certificate}
+use Rattle.cert_lines.specs.Spelling.{IsSpellable}
+use Rattle.cert_format.specs.Good.{IsGood, counts_in, support_of}
 use Rattle.carp_engine.specs.Helpers.{IsShortPlan}
-
--- a plan with its cost, and a bound with one price for each required edge
-pub record Solution : Type 0 where
-  pub cost : ℕ
-  pub bound : ℕ
-  pub plan : List (List Step)
-  pub prices : List ℕ
-
--- the solution that the code holds
-abbrev pub solution_of : Solved → Solution
-solution_of s = record { cost = s.cost; bound = s.bound; plan = s.plan; prices = s.prices.items }
 
 -- a cost is at most that of one tour for each required edge by least paths
 pub record IsAtMostSingles (p : Problem) (cost : ℕ) : Type 0 where
@@ -26,12 +18,17 @@ pub record IsAtMostSingles (p : Problem) (cost : ℕ) : Type 0 where
   pub lawful : IsLawful p singles
   pub at_most : cost ≤ plan_cost p singles
 
--- The plan is lawful and short, and costs what is stated, which is at most what single tours cost; no lawful plan costs less than the
--- bound. The bound is what serving each required edge costs, and the prices are the service costs.
-pub record IsSound (p : Problem) (s : Solution) : Type 0 where
-  pub plan : IsShortPlan p s.plan
-  pub cost : s.cost ≡ plan_cost p s.plan
-  pub no_dearer : IsAtMostSingles p s.cost
-  pub bounds : IsLowerBound p s.bound
-  pub bound : s.bound ≡ required_cost p
-  pub prices : s.prices ≡ map (λ x. x.service) (required_edges p)
+-- A good certificate that can be spelled, with the numbers of the instance: its plan is lawful and costs what is stated, and no lawful
+-- plan costs less than its bound. The plan is short and costs no more than single tours. The bound is the greatest up to the cost
+-- that the tree shows, and at least what serving each required edge costs; the turns are those of the tree.
+pub record IsSound (p : Problem) (c : Certificate) (turns : ℕ) : Type 0 where
+  pub good : IsGood p c
+  pub bounds : IsLowerBound p c.bound
+  pub spellable : IsSpellable c
+  pub counts : c.counts ≡ Some (counts_in p)
+  pub plan : IsShortPlan p c.plan
+  pub no_dearer : IsAtMostSingles p c.cost
+  pub not_above : c.bound ≤ c.cost
+  pub greatest : (bound : ℕ) → bound ≤ c.cost → Shows (support_of p c) [] bound good.tree → bound ≤ c.bound
+  pub services : required_cost p ≤ c.bound
+  pub turns_are : HasTurns (support_of p c) [] c.cost good.tree turns

@@ -2,39 +2,26 @@
 ghost use Rattle.std.specs.Prelude.{◌≡◌, ◌+◌, ◌%◌, ◌^◌, ◌≤◌, All, EachIndex, IfOk, OnOk, map, slice_index};
 ghost use Rattle.carp_base.specs.Problem.{IsValid, required_edges};
 ghost use Rattle.carp_engine.specs.Helpers.{IsAtMost};
-ghost use Rattle.carp_engine.specs.Solutions.{IsSound, solution_of};
+ghost use Rattle.cert_format.specs.Certs.{certificate_in};
+ghost use Rattle.carp_engine.specs.Solutions.{IsSound};
 
+use crate::certifying::certify;
 use crate::rounds::ask_all;
 use carp_base::{Instance, Memory};
+use cert_format::Cert;
+use cert_lines::fine_is_spellable;
 use deadhead_paths::{single_tours, tidy};
-use plan_model::{Plan, Proposer, required_cost_is_least};
+use plan_model::{Proposer, required_cost_is_least};
 use std::alloc::Global;
-use task_tours::{cost_distances, lawful_cost};
+use task_tours::cost_distances;
 
-/// A plan, what it costs, and a bound on the cost of all lawful plans, with what shows it.
+/// A certificate, and the turns of its tree: its inner nodes, and its leaves that show the cost by themselves.
 #[derive(Drop)]
 pub struct Solved {
-    /// A lawful plan, the best that was found.
-    pub plan: Plan,
-    /// What the plan costs.
-    pub cost: u128,
-    /// No lawful plan costs less.
-    pub bound: u128,
-    /// A price for each required edge, whose sum is the bound: what its service costs.
-    pub prices: Vec<u64>,
-}
-
-// The service cost of each required edge.
-fn service_prices(alloc: Global, inst: &Instance) -> Result<Vec<u64>, Memory>
-    ensures prices { IfOk result (λ prices. prices.items ≡ map (λ x. x.service) (required_edges inst.now)) }
-    ensures valid { IsValid inst.now }
-{
-    let required = &inst.edges()[..inst.required() as usize];
-    let mut prices = Vec::with_capacity(alloc, required.len())?;
-    for edge in required {
-        prices.push(edge.service)?;
-    }
-    Ok(prices)
+    /// The best plan that was found and a bound, with what shows that no lawful plan costs less.
+    pub cert: Cert,
+    /// The turns of the tree.
+    pub turns: u64,
 }
 
 /// The best plan that the helpers find from one tour for each required edge on, and the bound that the services show.
@@ -56,17 +43,13 @@ pub fn solve<P: Proposer>(
     ensures seeds { OnOk result (EachIndex helpers.new.items (λ k. slice_index (map P.seed helpers.new.items) k ≡ (seed + k) % 2 ^ 64)) }
     ensures asked { OnOk result (All (λ helper. 1 ≤ P.asked helper) helpers.new.items) }
     ensures fouls { OnOk result (All (λ helper. (P.tally helper).fouls ≤ 1) helpers.new.items) }
-    ensures least { IfOk result (λ solved. All (λ helper. IsAtMost solved.cost (P.tally helper).least) helpers.new.items) }
-    ensures sound { IfOk result (λ solved. IsSound inst.now (solution_of solved)) }
+    ensures least { IfOk result (λ solved. All (λ helper. IsAtMost solved.cert.cost (P.tally helper).least) helpers.new.items) }
+    ensures sound { IfOk result (λ solved. IsSound inst.now (certificate_in solved.cert) solved.turns) }
 {
     required_cost_is_least();
+    fine_is_spellable();
     let dist = cost_distances(alloc, inst)?;
     let mut plan = tidy(alloc, inst, &dist, &single_tours(alloc, inst, &dist)?)?;
     ask_all(alloc, inst, &dist, &mut plan, helpers, seed)?;
-    Ok(Solved {
-        cost: lawful_cost(alloc, inst, &plan)?,
-        bound: u128::from(inst.required_cost()),
-        prices: service_prices(alloc, inst)?,
-        plan,
-    })
+    certify(alloc, inst, plan)
 }

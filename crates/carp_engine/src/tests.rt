@@ -6,6 +6,7 @@ ghost use Rattle.plan_model.specs.Offers.{AfterOffer};
 ghost use Rattle.plan_model.specs.Verdicts.{IsVerdict};
 
 use crate::{Heard, consult, dismiss, solve};
+use branch_rules::Node;
 use carp_base::{Instance, Memory, RawEdge};
 use deadhead_paths::single_tours;
 use plan_model::{JudgeRoom, Plan, Proposer, Step, Verdict, Walk, judge, verdicts_are_exact};
@@ -200,8 +201,12 @@ fn an_unlawful_walk_is_a_foul(rt: HostRuntime) -> Result<(), Fail> {
     helpers.push(Actor::new(11, Part::TwiceOverOne))?;
     helpers.push(Actor::new(12, Part::Copy))?;
     let solved = solve(alloc, &inst, 64, u64::MAX, &mut helpers)?;
-    assert_eq!(rt; (solved.cost, solved.bound), (20, 7));
-    assert_eq!(rt; solved.prices.as_slice(), [3, 4].as_slice());
+    assert_eq!(rt;
+        (solved.cert.cost, solved.cert.bound, solved.turns),
+        (20, 7, 0)
+    );
+    assert_eq!(rt; (solved.cert.sets.len(), solved.cert.tree.len()), (1, 1));
+    assert_eq!(rt; solved.cert.tree.node(0), Node::Price { set: 1 });
     assert_eq!(rt; helpers.len(), 2);
     let (first, second) = (&helpers[0].standing, &helpers[1].standing);
     assert_eq!(rt;
@@ -229,7 +234,11 @@ fn rounds_end_with_the_first_that_is_no_better(rt: HostRuntime) -> Result<(), Fa
     helpers.push(Actor::new(2, Part::RoundTour))?;
     helpers.push(Actor::new(3, Part::Nothing))?;
     let solved = solve(alloc, &inst, 64, 1, &mut helpers)?;
-    assert_eq!(rt; (solved.cost, solved.bound), (16, 16));
+    assert_eq!(rt;
+        (solved.cert.cost, solved.cert.bound, solved.turns),
+        (16, 16, 1)
+    );
+    assert_eq!(rt; helpers.len(), 3);
     let asked = [
         helpers[0].standing.asked,
         helpers[1].standing.asked,
@@ -238,7 +247,7 @@ fn rounds_end_with_the_first_that_is_no_better(rt: HostRuntime) -> Result<(), Fa
     assert_eq!(rt; asked, [1, 2, 2]);
     // What was counted before is forgotten when a list is solved again.
     let again = solve(alloc, &inst, 64, 7, &mut helpers)?;
-    assert_eq!(rt; again.cost, 16);
+    assert_eq!(rt; again.cert.cost, 16);
     assert_eq!(rt; helpers.len(), 3);
     assert_eq!(rt;
         (helpers[0].standing.asked, helpers[0].standing.fouls),
@@ -254,7 +263,10 @@ fn single_tours_stand_without_helpers(rt: HostRuntime) -> Result<(), Fail> {
     let inst = triangle(alloc)?;
     let mut helpers: Vec<Actor> = Vec::new(alloc);
     let solved = solve(alloc, &inst, 64, 1, &mut helpers)?;
-    assert_eq!(rt; (solved.cost, solved.bound, solved.plan.len()), (34, 16, 3));
+    assert_eq!(rt;
+        (solved.cert.cost, solved.cert.bound, solved.cert.plan.len()),
+        (34, 16, 3)
+    );
     Ok(())
 }
 
@@ -266,7 +278,7 @@ fn helpers_stand_behind_boxes(rt: HostRuntime) -> Result<(), Fail> {
     helpers.push(Box::new(alloc, Actor::new(1, Part::TwiceOverOne))?)?;
     helpers.push(Box::new(alloc, Actor::new(2, Part::RoundTour))?)?;
     let solved = solve(alloc, &inst, 64, 1, &mut helpers)?;
-    assert_eq!(rt; solved.cost, 16);
+    assert_eq!(rt; (helpers.len(), solved.cert.cost), (2, 16));
     assert_eq!(rt; (helpers[0].fouls(), helpers[1].fouls()), (1, 0));
     dismiss(&mut helpers);
     assert_eq!(rt; helpers.len(), 1);
