@@ -14,7 +14,6 @@ use carp_base::{Fail, Instance, Memory};
 use carp_engine::solve;
 use carp_outside::{ReadFault, Shelf, read_whole};
 use cert_format::write_cert;
-use cert_lines::spelled_is_read;
 use dat_text::{DatFault, read_dat, readings_are_unique};
 use plan_model::Proposer;
 use std::alloc::Global;
@@ -121,7 +120,6 @@ pub(crate) fn build_texts<P: Proposer>(
     ensures answer { IfOk result (λ texts. IsAnswer inst.now texts.kept.items texts.report.items texts.status (map (λ helper. (P.tally helper).least) helpers.new.items)) }
     ensures status { IfOk result (λ texts. (texts.status ≡ Status.Proven) ⊎ (texts.status ≡ Status.Gap)) }
 {
-    spelled_is_read();
     let solved = solve(alloc, inst, TURNS, SEED, helpers)?;
     let kept = write_cert(alloc, &solved.cert)?;
     let report = write_report(alloc, inst, &solved.cert, solved.turns)?;

@@ -1,8 +1,7 @@
-use Rattle.std.proofs.Common.{rules, ◌≡◌, sym, subst}
+use Rattle.std.proofs.Common.{rules}
 use Rattle.std.proofs.lemmas.List.Elements.{All-map}
 use Rattle.carp_engine.specs.Helpers.{IsAtMost}
 use Rattle.cert_lines.specs.Certificates.{Certificate}
-use Rattle.cert_lines.specs.Texts.{IsTextOf}
 use Rattle.cert_format.specs.Certs.{certificate_in}
 use Rattle.carp_cli.proofs.gathering.build_texts.Goals as goal
 
@@ -14,7 +13,7 @@ returns-clause-answer g c =
         certificate = certificate;
         turns = c.in_ok-solved.solved.turns;
         sound = sound;
-        kept_is = subst (λ bytes. IsTextOf bytes certificate) (sym c.in_ok-kept.ensures) (c.spelled_is_read.ensures certificate sound.spellable);
+        kept_is = c.in_ok-kept.ensures.read;
         written_is = search rules;
       };
       ending = record { proven = c.ending.ensures.is_proven; gap = c.ending.ensures.is_gap };
