@@ -23,7 +23,8 @@ LISTA_ARISTAS_NOREQ :
 DEPOSITO : 1
 ";
 
-const CERTIFICATE: &str = "carp-certificate 1
+const CERTIFICATE: &str = "carp-certificate 2
+instance 2 1 1 1 1
 cost 10
 bound 5
 tours 1
@@ -140,7 +141,8 @@ tours 1
 tour 1 load 2 cost 3 route 3-1=3
 ";
 
-const FREE_CERTIFICATE: &str = "carp-certificate 1
+const FREE_CERTIFICATE: &str = "carp-certificate 2
+instance 3 1 1 9 2
 cost 3
 bound 3
 tours 1
@@ -177,7 +179,8 @@ proven
 tours 0
 ";
 
-const NO_CERTIFICATE: &str = "carp-certificate 1
+const NO_CERTIFICATE: &str = "carp-certificate 2
+instance 1 0 0 1 0
 cost 0
 bound 0
 tours 0
