@@ -1,5 +1,5 @@
 // What small branches allow and settle, worked by hand.
-ghost use Rattle.std.specs.Prelude.{IfSome, IsTrue};
+ghost use Rattle.std.specs.Prelude.{◌≤◌, IfSome, IsTrue};
 ghost use Rattle.decision_chains.specs.Pairs.{ArePairsIn, HasPairWithin};
 ghost use Rattle.branch_rules.specs.Limits.{AreShoresIn, HasShoreOf, IsFineDecision};
 
@@ -70,13 +70,19 @@ fn are_shores_in(inst: &Instance, pool: &ShorePool, decisions: &[Decision]) -> b
     true
 }
 
+// The number of a digit.
+fn digit(sign: u8) -> u32
+    ensures { result ≤ 255 }
+{
+    u32::from(sign.saturating_sub(b'0'))
+}
+
 // A decision of three signs: `+12` is yes to the edges 1 and 2, `-12` no, `<13` at most 3 over the shore 1, `>13` more than 3.
-fn decision_of(kind: u8, first: u8, second: u8) -> Option<Decision>
+fn decision_of(kind: u8, a: u32, b: u32) -> Option<Decision>
+    requires { b ≤ 255 }
     ensures { IfSome result IsFineDecision }
 {
-    let (first, second) = (first.saturating_sub(b'0'), second.saturating_sub(b'0'));
-    let (a, b) = (u32::from(first), u32::from(second));
-    let (shore, k) = (a, u64::from(second));
+    let (shore, k) = (a, u64::from(b));
     match kind {
         b'+' => Some(Decision::Yes { a, b }),
         b'-' => Some(Decision::No { a, b }),
@@ -93,14 +99,18 @@ pub(crate) fn branch_of(alloc: Global, text: &[u8]) -> Result<Branch, Fail> {
         let &[kind, first, second] = signs else {
             return Err("three signs")?;
         };
-        branch.push(decision_of(kind, first, second).ok_or("a decision")?)?;
+        branch.push(decision_of(kind, digit(first), digit(second)).ok_or("a decision")?)?;
     }
     Ok(branch)
 }
 
 // The parts of a row between bars.
 fn parts_of(alloc: Global, row: &'static str) -> Result<Vec<&'static str>, AllocError> {
-    row.split('|').collect(alloc)
+    let mut parts = Vec::new(alloc);
+    for part in row.split('|') {
+        parts.push(part)?;
+    }
+    Ok(parts)
 }
 
 // The allowed pairs, each as two digits and a blank.
@@ -155,18 +165,21 @@ pub(crate) fn far_triangle(alloc: Global, capacity: u64) -> Result<Instance, Fai
     Ok(Instance::build(alloc, 4, 1, capacity, &required, &[street(1, 2, 10, 0)])?)
 }
 
+// Rows for this triangle, without shores.
+fn expect_far(
+    rt: &impl Abort,
+    alloc: Global,
+    capacity: u64,
+    rows: &'static str,
+) -> Result<(), Fail> {
+    let inst = far_triangle(alloc, capacity)?;
+    expect_rows(rt, alloc, &inst, &ShorePool::new(alloc), rows)
+}
+
 #[test]
 fn pairs_above_the_capacity_are_excluded(rt: HostRuntime) -> Result<(), Fail> {
-    let alloc = rt.alloc();
-    let pool = ShorePool::new(alloc);
-    expect_rows(&rt, alloc, &far_triangle(alloc, 3)?, &pool, "||f")?;
-    expect_rows(
-        &rt,
-        alloc,
-        &far_triangle(alloc, 5)?,
-        &pool,
-        "|12 13 23 |.\n+12|12 |f",
-    )
+    expect_far(&rt, rt.alloc(), 3, "||f")?;
+    expect_far(&rt, rt.alloc(), 5, "|12 13 23 |.\n+12|12 |f")
 }
 
 #[test]
@@ -189,27 +202,30 @@ fn chains_in_a_triangle(rt: HostRuntime) -> Result<(), Fail> {
 
 // Five streets side by side.
 fn side_by_side(alloc: Global, capacity: u64) -> Result<Instance, Fail> {
-    let required = [street(1, 2, 5, 1); 5];
-    Ok(Instance::build(alloc, 2, 1, capacity, &required, &[])?)
+    let one = street(1, 2, 5, 1);
+    Ok(Instance::build(alloc, 2, 1, capacity, &[one, one, one, one, one], &[])?)
+}
+
+// Rows for these streets, without shores.
+fn expect_beside(
+    rt: &impl Abort,
+    alloc: Global,
+    capacity: u64,
+    rows: &'static str,
+) -> Result<(), Fail> {
+    let inst = side_by_side(alloc, capacity)?;
+    expect_rows(rt, alloc, &inst, &ShorePool::new(alloc), rows)
 }
 
 #[test]
 fn each_reason_excludes(rt: HostRuntime) -> Result<(), Fail> {
-    let alloc = rt.alloc();
-    let pool = ShorePool::new(alloc);
     let rows = "\
         +12+13|12 13 24 25 34 35 45 |.\n\
         +12+13+14|25 35 45 |v\n\
         +12+34|12 13 14 15 23 24 25 34 35 45 |.\n\
         +12+34+13|12 13 25 34 45 |.";
-    expect_rows(&rt, alloc, &side_by_side(alloc, 10)?, &pool, rows)?;
-    expect_rows(
-        &rt,
-        alloc,
-        &side_by_side(alloc, 2)?,
-        &pool,
-        "+12|12 34 35 45 |.\n+12+34|12 34 |f",
-    )
+    expect_beside(&rt, rt.alloc(), 10, rows)?;
+    expect_beside(&rt, rt.alloc(), 2, "+12|12 34 35 45 |.\n+12+34|12 34 |f")
 }
 
 // Five streets of demand 2 out of the vertex 2, all on one shore, and a street there from the depot.
@@ -244,6 +260,40 @@ fn a_shore_needs_four_deadheads(rt: HostRuntime) -> Result<(), Fail> {
     expect_rows(&rt, alloc, &far_star(alloc)?, &far_shore(&rt, alloc)?, rows)
 }
 
+// Whether the shore 1 may be cut at this number.
+fn may_cut(
+    rt: &impl Abort,
+    alloc: Global,
+    inst: &Instance,
+    pool: &ShorePool,
+    branch: &Branch,
+    k: u64,
+) -> Result<bool, Fail>
+    requires { ArePairsIn inst.now branch.now }
+{
+    let shores = pool.len();
+    assert!(rt; 1 <= shores);
+    let belongs = pool.shore(1).belongs(inst);
+    assert!(rt; belongs);
+    Ok(branch.lean(alloc, inst, pool, &Node::Cut { shore: 1, k })?)
+}
+
+// Whether the pair may be split.
+fn may_split(
+    rt: &impl Abort,
+    alloc: Global,
+    inst: &Instance,
+    pool: &ShorePool,
+    branch: &Branch,
+    a: u32,
+    b: u32,
+) -> Result<bool, Fail>
+    requires { ArePairsIn inst.now branch.now }
+{
+    assert!(rt; 1 <= a && a < b && b <= inst.required());
+    Ok(branch.lean(alloc, inst, pool, &Node::Pair { a, b })?)
+}
+
 // Whether a node of two signs after a letter may stand after some decisions: `p12` splits by the edges 1 and 2, and `c14` by the
 // shore 1 at 4.
 fn may_stand(
@@ -255,29 +305,16 @@ fn may_stand(
     node: &str,
 ) -> Result<bool, Fail> {
     let branch = branch_of(alloc, decisions.as_bytes())?;
-    let pairs_in = are_pairs_in(inst, branch.decisions());
-    assert!(rt; pairs_in);
     let &[kind, first, second] = node.as_bytes() else {
         panic!(rt; "three signs in {node}");
     };
-    let (first, second) = (first.saturating_sub(b'0'), second.saturating_sub(b'0'));
-    let (a, b) = (u32::from(first), u32::from(second));
+    let pairs_in = are_pairs_in(inst, branch.decisions());
+    assert!(rt; pairs_in);
     if kind == b'p' {
-        assert!(rt; 1 <= a && a < b && b <= inst.required());
-        return Ok(branch.lean(alloc, inst, pool, &Node::Pair { a, b })?);
+        may_split(rt, alloc, inst, pool, &branch, digit(first), digit(second))
+    } else {
+        may_cut(rt, alloc, inst, pool, &branch, u64::from(digit(second)))
     }
-    assert!(rt; 1 <= a && a <= pool.len());
-    let belongs = pool.shore(a).belongs(inst);
-    assert!(rt; belongs);
-    Ok(branch.lean(
-        alloc,
-        inst,
-        pool,
-        &Node::Cut {
-            shore: a,
-            k: u64::from(second),
-        },
-    )?)
 }
 
 // A row has decisions, then a node, and then whether it may stand there.

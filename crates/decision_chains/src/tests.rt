@@ -13,7 +13,14 @@ fn side_by_side(alloc: Global, capacity: u64) -> Result<Instance, Fail> {
         demand: 1,
         service: 5,
     };
-    Ok(Instance::build(alloc, 2, 1, capacity, &[street; 5], &[])?)
+    Ok(Instance::build(
+        alloc,
+        2,
+        1,
+        capacity,
+        &[street, street, street, street, street],
+        &[],
+    )?)
 }
 
 #[test]
