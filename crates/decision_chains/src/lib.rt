@@ -6,6 +6,8 @@
 
 mod chains;
 mod decision;
+#[cfg(test)]
+mod examples;
 mod excluding;
 mod laws;
 mod near;
