@@ -138,11 +138,11 @@ lines_cut : (c : Certificate) →
     ++ codes "end\n"
 lines_cut c = rw (flat_map-append, flat_map-append, flat_map-append, flat_map-append, flat_map-append) refl
 
-regrouped : (head price low plan pool dearness tree last : List ℕ) →
-    head ++ (price ++ low) ++ plan ++ pool ++ dearness ++ (tree ++ last) ≡ head ++ (price ++ (low ++ plan)) ++ pool ++ dearness ++ tree ++ last
-regrouped head price low plan pool dearness tree last =
-    sym (append_assoc (head ++ (price ++ low) ++ plan ++ pool ++ dearness) tree last)
-    ∙ ap (λ (front : List ℕ). front ++ pool ++ dearness ++ tree ++ last)
+regrouped : (head price low plan pool costs tree last : List ℕ) →
+    head ++ (price ++ low) ++ plan ++ pool ++ costs ++ (tree ++ last) ≡ head ++ (price ++ (low ++ plan)) ++ pool ++ costs ++ tree ++ last
+regrouped head price low plan pool costs tree last =
+    sym (append_assoc (head ++ (price ++ low) ++ plan ++ pool ++ costs) tree last)
+    ∙ ap (λ (front : List ℕ). front ++ pool ++ costs ++ tree ++ last)
     (append_assoc head (price ++ low) plan ∙ ap (λ (bytes : List ℕ). head ++ bytes) (append_assoc price low plan))
 
 pub text_is : (c : Certificate) →

@@ -6,7 +6,7 @@ ghost use Rattle.cert_format.specs.Pieces.{number_piece, step_piece, price_piece
 
 use branch_rules::Weight;
 use carp_base::Memory;
-use cert_lines::{numerals_are_decimals, Counts};
+use cert_lines::{Counts, numerals_are_decimals};
 use itoa::Buffer;
 use plan_model::Step;
 

@@ -6,17 +6,33 @@ ghost use Rattle.cert_lines.specs.Spelling.{IsSpellable, text_of};
 ghost use Rattle.cert_lines.specs.Texts.{IsTextOf};
 ghost use Rattle.cert_format.specs.Certs.{certificate_in};
 ghost use Rattle.cert_format.specs.Pieces.{
-    step_piece, number_piece, price_piece, weight_piece, tour_text, shore_text, prices_head, prices_text, weights_text,
-    set_text, node_text, second_text, version_text, plan_text, pool_text, sets_text, nodes_text, values_text,
+  step_piece,
+  number_piece,
+  price_piece,
+  weight_piece,
+  tour_text,
+  shore_text,
+  prices_head,
+  prices_text,
+  weights_text,
+  set_text,
+  node_text,
+  second_text,
+  version_text,
+  plan_text,
+  pool_text,
+  sets_text,
+  nodes_text,
+  values_text,
 };
 
+use crate::Cert;
 use crate::spelling::{
     end_line, push_counts, push_line, push_number, push_pair, push_price, push_step, push_weight,
 };
-use crate::Cert;
 use branch_rules::{Node, PriceSet, Tree};
 use carp_base::Memory;
-use cert_lines::{spelled_is_read, Counts};
+use cert_lines::{Counts, spelled_is_read};
 use cut_pool::{Shore, ShorePool};
 use plan_model::{Plan, Walk};
 use std::alloc::Global;

@@ -3,7 +3,7 @@ ghost use Rattle.std.specs.Prelude.{◌≡◌, true, IfOk};
 ghost use Rattle.cert_format.specs.Certs.{certificate_in};
 ghost use Rattle.cert_format.specs.Examples.{triangle_plan, triangle};
 
-use crate::{read_cert, write_cert, Cert, Counts};
+use crate::{Cert, Counts, read_cert, write_cert};
 use branch_rules::{Node, PriceSet, Tree};
 use cert_lines::read_is_spelled;
 use cut_pool::ShorePool;
@@ -60,7 +60,8 @@ fn a_certificate_without_counts_has_version_one(rt: HostRuntime) -> Result<(), F
     let alloc = rt.alloc();
     let cert = certificate_of_triangle(alloc, None)?;
     let text = write_cert(alloc, &cert)?;
-    let expected = "carp-certificate 1\ncost 16\nbound 16\ntours 1\ntour 3 +1 +2 -3\nshores 0\nsets 1\nprices 1 3 5 7 4\nweights 0\nnodes 1\nprice 1\nend\n";
+    let expected =
+        "carp-certificate 1\ncost 16\nbound 16\ntours 1\ntour 3 +1 +2 -3\nshores 0\nsets 1\nprices 1 3 5 7 4\nweights 0\nnodes 1\nprice 1\nend\n";
     assert_eq!(rt; text.as_slice(), expected.as_bytes());
     Ok(())
 }
@@ -77,7 +78,8 @@ fn a_certificate_with_counts_has_version_two(rt: HostRuntime) -> Result<(), Fail
     };
     let cert = certificate_of_triangle(alloc, Some(counts))?;
     let text = write_cert(alloc, &cert)?;
-    let expected = "carp-certificate 2\ninstance 3 3 3 3 3\ncost 16\nbound 16\ntours 1\ntour 3 +1 +2 -3\nshores 0\nsets 1\nprices 1 3 5 7 4\nweights 0\nnodes 1\nprice 1\nend\n";
+    let expected =
+        "carp-certificate 2\ninstance 3 3 3 3 3\ncost 16\nbound 16\ntours 1\ntour 3 +1 +2 -3\nshores 0\nsets 1\nprices 1 3 5 7 4\nweights 0\nnodes 1\nprice 1\nend\n";
     assert_eq!(rt; text.as_slice(), expected.as_bytes());
     Ok(())
 }

@@ -17,7 +17,7 @@ use Rattle.cert_lines.proofs.FineNodes.{nodes_good}
 
 -- What is said before each group.
 
-no_steps : (c : Certificate) (size : Option Counts) → steps_of (tours (length c.plan) ∷ bound c.bound ∷ cost c.cost ∷ listed (version_lines size) []) ≡ 0
+pub no_steps : (c : Certificate) (size : Option Counts) → steps_of (tours (length c.plan) ∷ bound c.bound ∷ cost c.cost ∷ listed (version_lines size) []) ≡ 0
 no_steps c None = refl
 no_steps c (Some x) = refl
 
@@ -29,17 +29,17 @@ no_sets : (c : Certificate) (size : Option Counts) → sets_of (tours (length c.
 no_sets c None = refl
 no_sets c (Some x) = refl
 
-shores_of_plan : (c : Certificate) → shores_of (plan_said c) ≡ []
+pub shores_of_plan : (c : Certificate) → shores_of (plan_said c) ≡ []
 shores_of_plan c = ap (λ (d : Certificate). d.shores) (tours_said c.plan (head_said c)) ∙ no_shores c c.counts
 
-shores_of_pool : (c : Certificate) → shores_of (pool_said c) ≡ c.shores
+pub shores_of_pool : (c : Certificate) → shores_of (pool_said c) ≡ c.shores
 shores_of_pool c =
     ap (λ (d : Certificate). d.shores) (shores_said c.shores (shores (length c.shores) ∷ plan_said c)) ∙ ap (λ (pool : List (List ℕ)). pool ++ c.shores) (shores_of_plan c)
 
-shores_of_prices : (c : Certificate) → shores_of (prices_said c) ≡ c.shores
+pub shores_of_prices : (c : Certificate) → shores_of (prices_said c) ≡ c.shores
 shores_of_prices c = ap (λ (d : Certificate). d.shores) (sets_said c.sets (sets (length c.sets) ∷ pool_said c)) ∙ shores_of_pool c
 
-sets_of_prices : (c : Certificate) → sets_of (prices_said c) ≡ c.sets
+pub sets_of_prices : (c : Certificate) → sets_of (prices_said c) ≡ c.sets
 sets_of_prices c =
     ap (λ (d : Certificate). d.sets) (sets_said c.sets (sets (length c.sets) ∷ pool_said c))
     ∙ ap (λ all. all ++ c.sets) (ap (λ (d : Certificate). d.sets) (shores_said c.shores (shores (length c.shores) ∷ plan_said c))

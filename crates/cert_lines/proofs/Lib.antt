@@ -10,3 +10,6 @@ pub mod FineNodes
 pub mod FineLists
 pub mod Fine
 pub mod Shapeless
+pub mod SpellableNodes
+pub mod SpellableLists
+pub mod Spellable

@@ -86,3 +86,7 @@ ReadIsSpelled = (bytes : List ℕ) (c : Certificate) → IsTextOf bytes c → by
 -- a certificate with its numbers in range, different shores and a tree in preorder can be spelled
 abbrev pub FineIsSpellable : Type 0
 FineIsSpellable = (c : Certificate) → IsFine c → IsSpellable c
+
+-- and the other way: so its nodes are one tree, and its shores are different
+abbrev pub SpellableIsFine : Type 0
+SpellableIsFine = (c : Certificate) → IsSpellable c → IsFine c

@@ -20,6 +20,7 @@ ghost use Rattle.cert_lines.specs.Laws.{
   ReadIsSpellable,
   ReadIsSpelled,
   FineIsSpellable,
+  SpellableIsFine,
 };
 
 /// A number of 64 bits is spelled as std writes it.
@@ -76,4 +77,9 @@ pub fn read_is_spelled()
 /// A certificate whose numbers are in range, whose shores are different and whose nodes are a tree in preorder can be spelled.
 pub fn fine_is_spellable()
     ensures { FineIsSpellable }
+{}
+
+/// A certificate that can be spelled has its numbers in range, different shores, and the nodes of one tree in preorder.
+pub fn spellable_is_fine()
+    ensures { SpellableIsFine }
 {}

@@ -1,4 +1,4 @@
-use Rattle.std.proofs.Common.{◌≡◌, ◌∙◌, List, ℕ, sym, subst, ap, ◌++◌}
+use Rattle.std.proofs.Common.{◌≡◌, List, ℕ, sym, subst}
 use Rattle.cert_lines.specs.Texts.{IsTextOf}
 use Rattle.cert_lines.specs.Spelling.{text_of}
 use Rattle.cert_format.proofs.Wholes.{text_is}
