@@ -66,6 +66,13 @@ pub(crate) fn push_weight(text: &mut Vec<u8>, weight: Weight) -> Result<(), Memo
     push_price(text, weight.weight)
 }
 
+pub(crate) fn push_words(text: &mut Vec<u8>, words: &[u8]) -> Result<(), Memory>
+    ensures { OnOk result (text.new.items ≡ text.old.items ++ words.now) }
+{
+    text.extend_from_slice(words)?;
+    Ok(())
+}
+
 pub(crate) fn end_line(text: &mut Vec<u8>) -> Result<(), Memory>
     ensures { OnOk result (text.new.items ≡ text.old.items ++ 10 ∷ []) }
 {

@@ -29,6 +29,7 @@ ghost use Rattle.cert_format.specs.Pieces.{
 use crate::Cert;
 use crate::spelling::{
     end_line, push_counts, push_line, push_number, push_pair, push_price, push_step, push_weight,
+    push_words,
 };
 use branch_rules::{Node, PriceSet, Tree};
 use carp_base::Memory;
@@ -196,8 +197,8 @@ fn push_node(text: &mut Vec<u8>, node: Node) -> Result<(), Memory>
         Node::Pair { a, b } => push_pair(text, b"pair", u64::from(a), u64::from(b)),
         Node::Cut { shore, k } => push_pair(text, b"cut", u64::from(shore), k),
         Node::Price { set } => push_line(text, b"price", u64::from(set)),
-        Node::Void => Ok(text.extend_from_slice(b"void\n")?),
-        Node::Fixed => Ok(text.extend_from_slice(b"fixed\n")?),
+        Node::Void => push_words(text, b"void\n"),
+        Node::Fixed => push_words(text, b"fixed\n"),
     }
 }
 

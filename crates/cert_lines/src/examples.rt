@@ -34,6 +34,10 @@ ghost use Rattle.cert_lines.specs.Examples.{
   row_counts,
   triangle,
   triangle_text,
+  row,
+  row_text,
+  star,
+  star_text,
 };
 
 #[tactic(auto, unfolding(crate::specs::Numerals::numeral))]
@@ -175,6 +179,13 @@ fn a_whole_certificate()
     ensures fine { IsFine triangle }
     ensures spellable { IsSpellable triangle }
     ensures text { IsTextOf triangle_text triangle }
+{}
+
+#[tactic(auto, unfolding(crate::specs::Numerals::numeral))]
+fn larger_certificates()
+    ensures row { text_of row ≡ row_text }
+    ensures row_spellable { IsSpellable row }
+    ensures star { text_of star ≡ star_text }
 {}
 
 #[tactic(auto, unfolding(crate::specs::Numerals::numeral))]
