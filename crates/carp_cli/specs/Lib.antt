@@ -1,6 +1,5 @@
 pub mod Words
 pub mod Outside
-pub mod Report
 pub mod Files
 pub mod Refusals
 pub mod Codes

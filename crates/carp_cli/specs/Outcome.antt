@@ -9,7 +9,7 @@ use Rattle.carp_engine.specs.Helpers.{IsAtMost}
 use Rattle.carp_engine.specs.Solutions.{IsSound}
 use Rattle.cert_lines.specs.Certificates.{Certificate}
 use Rattle.cert_lines.specs.Texts as certificates
-use Rattle.carp_cli.specs.Report.{report_text}
+use Rattle.plan_print.specs.Report.{report_text}
 use Rattle.carp_cli.specs.Files.{file_limit, OfFile}
 use Rattle.dat_text.specs.Text.{IsTextOf, IsFaultOf}
 use Rattle.carp_cli.specs.Refusals.{refusal_text}

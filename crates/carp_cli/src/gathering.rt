@@ -8,7 +8,6 @@ ghost use Rattle.carp_cli.specs.Outcome.{IsAnswer};
 ghost use Rattle.carp_cli.specs.Stops.{stop_of_reading};
 ghost use Rattle.carp_cli.specs.declared.gathering.Stop.TheVariants.{NoMemory, NotRead, Longer, NoInstance};
 
-use crate::report::write_report;
 use crate::status::Status;
 use carp_base::{Fail, Instance, Memory};
 use carp_engine::solve;
@@ -16,6 +15,7 @@ use carp_outside::{ReadFault, Shelf, read_whole};
 use cert_format::write_cert;
 use dat_text::{DatFault, read_dat, readings_are_unique};
 use plan_model::Proposer;
+use plan_print::report;
 use std::alloc::Global;
 
 /// The most bytes of an instance file.
@@ -122,7 +122,7 @@ pub(crate) fn build_texts<P: Proposer>(
 {
     let solved = solve(alloc, inst, TURNS, SEED, helpers)?;
     let kept = write_cert(alloc, &solved.cert)?;
-    let report = write_report(alloc, inst, &solved.cert, solved.turns)?;
+    let report = report(alloc, inst, &solved.cert, solved.turns)?;
     Ok(Texts {
         kept,
         report,

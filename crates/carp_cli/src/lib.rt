@@ -4,8 +4,8 @@
 //! keeps files there, writes texts to a [`carp_outside::Sink`] and answers a [`Status`]. [`DirShelf`] and [`StdSink`] make
 //! the files of the system and a writer, such as the standard output, into these.
 //!
-//! Inside, `gathering` reads an instance and builds the texts of the solution that [`carp_engine::solve`] finds, `certificate`
-//! and `report` spell them, and `refusals` spells the answers that have no report.
+//! Inside, `gathering` reads an instance and builds the texts of the certificate that [`carp_engine::solve`] finds, and `refusals` spells
+//! the answers that have no report.
 #![tactic(auto)]
 
 mod dir_shelf;
@@ -15,13 +15,11 @@ mod examples;
 mod file_tests;
 mod gathering;
 mod refusals;
-mod report;
 mod running;
 mod status;
 mod std_sink;
 #[cfg(test)]
 mod tests;
-mod text;
 mod words;
 
 pub use dir_shelf::DirShelf;

@@ -3,9 +3,9 @@ ghost use Rattle.std.specs.Prelude.{◌≡◌, ◌++◌, IfOk, OnOk, codes};
 ghost use Rattle.carp_cli.specs.Refusals.{refusal_text, usage_text, fault_line, limit_line, fault_words, instance_words, count_words, around};
 
 use crate::status::Status;
-use crate::text::{push_number, push_words};
 use carp_base::{InstanceFault, Memory};
 use dat_text::DatFault;
+use number_texts::{push_number, push_words};
 use std::alloc::Global;
 
 /// What is written for an answer: nothing where the answer has a report, or none is to be had.

@@ -1,6 +1,6 @@
 use Rattle.std.proofs.Common.{◌≡◌, ◌++◌, take}
-use Rattle.carp_cli.specs.Report.{tour_lines}
-use Rattle.carp_cli.proofs.report.push_tour_lines.Given as goal
+use Rattle.plan_print.specs.Report.{tour_lines}
+use Rattle.plan_print.proofs.reporting.push_tour_lines.Given as goal
 
 -- the lines of the tours so far are written
 abbrev pub invariant-loop-i : goal.invariant-loop-i

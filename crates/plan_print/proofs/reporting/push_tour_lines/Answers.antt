@@ -1,6 +1,6 @@
 use Rattle.std.proofs.Common.{append_assoc, arith, ◌≡◌, ◌+◌}
-use Rattle.carp_cli.proofs.Lines.{tour_lines-take, lawful_on_edges}
-use Rattle.carp_cli.proofs.report.push_tour_lines.Goals as goal
+use Rattle.plan_print.proofs.Lines.{tour_lines-take, lawful_on_edges}
+use Rattle.plan_print.proofs.reporting.push_tour_lines.Goals as goal
 
 pub push_tour_line-requires : goal.push_tour_line-requires
 push_tour_line-requires c = rw c.walk.ensures.value (lawful_on_edges c.args.inst.now c.args.plan.now c.requires c.loop-i.i (omega arith))

@@ -4,11 +4,12 @@ ghost use Rattle.std.specs.List.{flat_map};
 ghost use Rattle.carp_base.specs.Problem.{IsEdgeNumber};
 ghost use Rattle.plan_model.specs.Plans.{IsLawful, IsOnEdges};
 ghost use Rattle.cert_format.specs.Certs.{certificate_in};
-ghost use Rattle.carp_cli.specs.Report.{number_line, report_text, instance_line, result_lines, gap_line, tour_lines, tour_line, route_text, crossing_text};
+ghost use Rattle.number_texts.specs.Lines.{number_line};
+ghost use Rattle.plan_print.specs.Report.{report_text, instance_line, result_lines, gap_line, tour_lines, tour_line, route_text, crossing_text};
 
-use crate::text::{push_line, push_number, push_words};
 use carp_base::{Instance, Memory};
 use cert_format::Cert;
+use number_texts::{push_line, push_number, push_words};
 use plan_model::{Plan, Step, Walk, cost_of, load_of};
 use std::alloc::Global;
 
@@ -104,13 +105,11 @@ fn push_result_lines(text: &mut Vec<u8>, cert: &Cert, turns: u64) -> Result<(), 
     push_gap_line(text, u128::from(cert.cost), u128::from(cert.bound))
 }
 
-/// The report of an instance, the certificate found for it and the turns of the certificate's tree.
-pub(crate) fn write_report(
-    alloc: Global,
-    inst: &Instance,
-    cert: &Cert,
-    turns: u64,
-) -> Result<Vec<u8>, Memory>
+/// The report of an instance, a certificate of it and the turns of the certificate's tree: the size of the instance, cost, bound and turns, whether
+/// the bound is the cost, and each tour with its load, its cost and the vertices that it reaches.
+///
+/// Its error says only that memory was not to be had. It takes time in proportion to the text.
+pub fn report(alloc: Global, inst: &Instance, cert: &Cert, turns: u64) -> Result<Vec<u8>, Memory>
     requires lawful { IsLawful inst.now cert.now.plan }
     requires bounded { cert.now.bound ≤ cert.now.cost }
     ensures { IfOk result (λ text. text.items ≡ report_text inst.now (certificate_in cert.now) turns) }

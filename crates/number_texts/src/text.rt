@@ -1,12 +1,12 @@
 // Numbers in a growing text.
 ghost use Rattle.std.specs.Prelude.{◌≡◌, ◌++◌, OnOk};
-ghost use Rattle.carp_cli.specs.Report.{number_line};
+ghost use Rattle.number_texts.specs.Lines.{number_line};
 
 use carp_base::Memory;
 use itoa::{Buffer, Integer};
 
-// Adds a number in plain decimals.
-pub(crate) fn push_number<I: Integer>(text: &mut Vec<u8>, number: I) -> Result<(), Memory>
+/// Adds a number in plain decimals.
+pub fn push_number<I: Integer>(text: &mut Vec<u8>, number: I) -> Result<(), Memory>
     ensures { OnOk result (text.new.items ≡ text.old.items ++ I.text number) }
 {
     let mut buffer = Buffer::new();
@@ -14,21 +14,17 @@ pub(crate) fn push_number<I: Integer>(text: &mut Vec<u8>, number: I) -> Result<(
     Ok(())
 }
 
-// Adds words, and then a number in plain decimals.
-pub(crate) fn push_words<I: Integer>(
-    text: &mut Vec<u8>,
-    words: &[u8],
-    number: I,
-) -> Result<(), Memory>
+/// Adds words, and then a number in plain decimals.
+pub fn push_words<I: Integer>(text: &mut Vec<u8>, words: &[u8], number: I) -> Result<(), Memory>
     ensures { OnOk result (text.new.items ≡ text.old.items ++ words.now ++ I.text number) }
 {
     text.extend_from_slice(words)?;
     push_number(text, number)
 }
 
-// Adds words, a number in plain decimals, and the end of the line.
-#[tactic(auto, unfolding(crate::specs::Report::number_line))]
-pub(crate) fn push_line(text: &mut Vec<u8>, words: &[u8], number: u128) -> Result<(), Memory>
+/// Adds words, a number in plain decimals, and the end of the line.
+#[tactic(auto, unfolding(crate::specs::Lines::number_line))]
+pub fn push_line(text: &mut Vec<u8>, words: &[u8], number: u128) -> Result<(), Memory>
     ensures { OnOk result (text.new.items ≡ text.old.items ++ number_line words.now number) }
 {
     push_words(text, words, number)?;

@@ -4,7 +4,7 @@ use Rattle.carp_base.specs.Problem.{Problem, IsEdgeNumber, edge_at, head_of}
 use Rattle.plan_model.specs.declared.step.Step.{Step}
 use Rattle.plan_model.specs.Plans.{IsLawful, IsLawfulWalk, IsOnEdges, Leads, walk_at}
 use Rattle.std.specs.List.{AllByRecursion}
-use Rattle.carp_cli.specs.Report.{tour_line, tour_lines}
+use Rattle.plan_print.specs.Report.{tour_line, tour_lines}
 
 tour_lines-take-suc : (p : Problem) (k i : ℕ) (walks : List (List Step)) → i < length walks →
     tour_lines p k (take (suc i) walks) ≡ tour_lines p k (take i walks) ++ tour_line p (k + i) (walk_at walks i)

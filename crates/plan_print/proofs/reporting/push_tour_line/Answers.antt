@@ -1,6 +1,6 @@
 use Rattle.std.proofs.Common.{append_assoc}
-use Rattle.carp_cli.specs.Report.{tour_line}
-use Rattle.carp_cli.proofs.report.push_tour_line.Goals as goal
+use Rattle.plan_print.specs.Report.{tour_line}
+use Rattle.plan_print.proofs.reporting.push_tour_line.Goals as goal
 
 pub returns : goal.returns
 unfolding tour_line

@@ -1,7 +1,7 @@
 use Rattle.std.proofs.Common.{◌≡◌, ◌++◌, take}
 use Rattle.std.specs.List.{flat_map}
-use Rattle.carp_cli.specs.Report.{crossing_text}
-use Rattle.carp_cli.proofs.report.push_crossings.Given as goal
+use Rattle.plan_print.specs.Report.{crossing_text}
+use Rattle.plan_print.proofs.reporting.push_crossings.Given as goal
 
 -- the crossings so far are written
 abbrev pub invariant-loop-i : goal.invariant-loop-i

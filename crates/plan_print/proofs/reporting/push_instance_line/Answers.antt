@@ -1,6 +1,6 @@
 use Rattle.std.proofs.Common.{append_assoc}
-use Rattle.carp_cli.specs.Report.{instance_line}
-use Rattle.carp_cli.proofs.report.push_instance_line.Goals as goal
+use Rattle.plan_print.specs.Report.{instance_line}
+use Rattle.plan_print.proofs.reporting.push_instance_line.Goals as goal
 
 pub returns : goal.returns
 unfolding instance_line

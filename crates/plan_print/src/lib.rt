@@ -1,0 +1,8 @@
+//! The texts that are printed of a plan.
+#![tactic(auto)]
+
+mod reporting;
+#[cfg(test)]
+mod tests;
+
+pub use reporting::report;
