@@ -1,7 +1,7 @@
 #!/usr/bin/env python3
 """Compares what carp and a plain program wrote, and prints a row of the table in bench/README.md.
 
-usage: row.py KIND NAME FILE OURS PLAIN OUR_CLOCK PLAIN_CLOCK, where KIND is solve, read, certificate, flow, pricing or branch, OURS and PLAIN are the files of what
+usage: row.py KIND NAME FILE OURS PLAIN OUR_CLOCK PLAIN_CLOCK, where KIND is solve, read, certificate, flow, pricing, branch, cuts or matching, OURS and PLAIN are the files of what
 was written, and the clocks are what bench/plain/clock.cpp prints. The scripts of bench/ call it.
 """
 import datetime
@@ -9,7 +9,7 @@ import os
 import platform
 import sys
 
-COMPARED = {"solve": ["cost", "bound"], "read": ["vertices", "edges", "demand"], "flow": ["value"], "pricing": ["value"], "branch": ["value"], "certificate": ["nodes", "bytes"]}
+COMPARED = {"solve": ["cost", "bound"], "read": ["vertices", "edges", "demand"], "flow": ["value"], "pricing": ["value"], "branch": ["value"], "certificate": ["nodes", "bytes"], "cuts": ["value"], "matching": ["cost"]}
 
 
 def words_of(path):
@@ -39,7 +39,7 @@ def machine():
 
 def main():
     kind, name, path, ours, plain, our_clock, plain_clock = sys.argv[1:]
-    report = dict(words_of(ours)) if kind in ("flow", "pricing", "branch", "certificate") else facts_of_report(ours)
+    report = dict(words_of(ours)) if kind not in ("solve", "read") else facts_of_report(ours)
     facts = dict(words_of(plain))
     for fact in COMPARED[kind]:
         if report.get(fact) != facts.get(fact):

@@ -1,0 +1,12 @@
+pub mod Sums
+pub mod Meeting
+pub mod Cuts
+pub mod Least
+pub mod Limits
+pub mod Found
+pub mod Shoring
+pub mod Distancing
+pub mod Packing
+pub mod Layering
+pub mod Needy
+pub mod OwnLabels

@@ -1,0 +1,25 @@
+//! Sets of vertices that a plan must cross more often than some deadheads do (Belenguer and Benavent 1998).
+//!
+//! The violation of a set S without the depot is `2 t(S) / Q - r(S) - x(S) / unit`: t(S) is the demand that touches it, r(S)
+//! the number of required edges over it, x(S) the parts of deadheads over it, and Q the capacity. [`find_fractional`] gives a
+//! set of greatest violation by one greatest flow, [`find_components`] the violated components of the edges with at least a
+//! unit, where the vehicles are rounded up, and [`shells`] the sets of the vertices beyond each distance from the depot.
+#![tactic(auto)]
+
+#[cfg(test)]
+mod brute_tests;
+mod components;
+#[cfg(test)]
+mod examples;
+mod fractional;
+mod laws;
+mod lengths;
+mod network;
+mod shelling;
+#[cfg(test)]
+mod tests;
+
+pub use components::find_components;
+pub use fractional::find_fractional;
+pub use laws::{cut_is_violation, least_cut_is_most_violated, network_is_fine, shells_are_duals};
+pub use shelling::shells;

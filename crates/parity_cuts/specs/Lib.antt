@@ -1,0 +1,2 @@
+pub mod OddComponents
+pub mod Examples
