@@ -3,13 +3,12 @@ use Rattle.std.proofs.Common.{◌≡◌, ℕ, ◌+◌, ◌-◌, ◌*◌, ◌^◌
 use Rattle.std.proofs.lemmas.Int.{ints}
 use Rattle.carp_base.specs.declared.edge.Task.{Task}
 use Rattle.carp_base.specs.Problem.{IsRequired}
-use Rattle.route_pricing.specs.Partial.{no_value}
-use Rattle.route_pricing.specs.declared.grid.Grid.{Grid}
+use Rattle.pricing_grid.specs.Partial.{no_value, IsGrid, task_start, demand_of, adds_of, between, Reaches, IsCell}
+use Rattle.pricing_grid.specs.declared.grid.Grid.{Grid}
 use Rattle.route_pricing.specs.declared.table.Rate.{Rate}
 use Rattle.route_pricing.specs.declared.through.Pair.{Pair}
-use Rattle.route_pricing.specs.Partial.{IsGrid, task_start, demand_of, adds_of, between, Reaches, IsCell}
-use Rattle.route_pricing.specs.Values.{Pricing, IsPriced, IsServed, load_of, weighed, IsLeastThrough, AttainsThrough}
-use Rattle.route_pricing.specs.Ends.{IsGridOf, lift}
+use Rattle.route_pricing.specs.Values.{IsPriced, IsServed, load_of, weighed, IsLeastThrough, AttainsThrough}
+use Rattle.pricing_grid.specs.Pricing.{Pricing, IsGridOf, lift}
 use Rattle.route_pricing.specs.Retracing.{turned}
 use Rattle.route_pricing.specs.Through.{weight_of, IsPair, IsOfCells, IsLeastPair, IsPairTour}
 use Rattle.route_pricing.proofs.Partials.{load_one}

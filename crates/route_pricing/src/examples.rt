@@ -1,18 +1,7 @@
 // Small data on which a fact that no call decides holds, and on which it does not.
 ghost use Rattle.std.specs.Prelude.{◌≡◌, ◌^◌, ◌+◌, [], ◌∷◌, pos, neg_ℤ};
-ghost use Rattle.route_pricing.specs.Tables.{IsServicePrice};
-ghost use Rattle.route_pricing.specs.Values.{IsFree, IsPriced, IsRate, IsServed, service_price, weighed};
+ghost use Rattle.route_pricing.specs.Values.{IsFree, IsPriced, IsRate, IsServed, weighed};
 ghost use Rattle.route_pricing.specs.Examples.{inward, outward, paid_twins, twins_at};
-
-fn a_price_of_a_service()
-    ensures first { service_price (pos 10 ∷ pos 8 ∷ []) 1 ≡ pos 10 }
-    ensures last { service_price (pos 10 ∷ pos 8 ∷ []) 2 ≡ pos 8 }
-    ensures zero { service_price (pos 10 ∷ pos 8 ∷ []) 0 ≡ pos 0 }
-    ensures past_the_last { service_price (pos 10 ∷ pos 8 ∷ []) 3 ≡ pos 0 }
-    ensures in_range { IsServicePrice (neg_ℤ (pos 1000000000000000)) }
-    ensures above { ¬ (IsServicePrice (pos 1000000000000001)) }
-    ensures below { ¬ (IsServicePrice (neg_ℤ (pos 1000000000000001))) }
-{}
 
 fn a_served_edge()
     ensures second { IsServed 2 (outward 1 ∷ inward 2 ∷ []) }

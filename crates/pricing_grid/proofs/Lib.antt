@@ -1,0 +1,7 @@
+pub mod Partials
+pub mod Links
+pub mod Copies
+pub mod Inserting
+pub mod Passing
+pub mod Ways
+pub mod Marking

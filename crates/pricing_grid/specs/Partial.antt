@@ -1,0 +1,150 @@
+-- Partial tours: lists of tasks from the depot, with their load and value, and the least values of them. No public contract speaks of this,
+-- but where it says that a table is filled.
+use Rattle.std.specs.Prelude.{◌≡◌, ◌==◌, ℕ, ◌+◌, ◌-◌, ◌*◌, ◌/◌, ◌%◌, ◌^◌, ◌<◌, ◌≤◌, Bool, true, false, List, [], ◌∷◌, length, slice_index, slice_index_or}
+use Rattle.carp_base.specs.declared.edge.Task.{Task}
+use Rattle.carp_base.specs.Problem.{IsValid, IsRequired, IsEdgeNumber, IsReached, TasksLead, edge_at, tail_of, head_of}
+use Rattle.pricing_grid.specs.declared.grid.Grid.{Grid}
+
+-- what stands where there is no partial tour
+abbrev pub no_value : ℕ
+no_value = 2 ^ 128 - 1
+
+-- the number of tasks, two for each required edge
+abbrev pub width : Grid → ℕ
+width g = 2 * g.inst.required
+
+-- the task of a column of the table
+abbrev pub column_task : ℕ → Task
+column_task c = record { edge = c / 2 + 1; forward = c % 2 == 0 }
+
+abbrev pub task_start : Grid → Task → ℕ
+task_start g t = tail_of (edge_at g.inst t.edge) t.forward
+
+abbrev pub task_end : Grid → Task → ℕ
+task_end g t = head_of (edge_at g.inst t.edge) t.forward
+
+abbrev pub demand_of : Grid → Task → ℕ
+demand_of g t = (edge_at g.inst t.edge).demand
+
+-- the least price of deadheads from one vertex to another
+abbrev pub between : Grid → ℕ → ℕ → ℕ
+between g a b = slice_index g.dist.items (a * (g.inst.vertices + 1) + b)
+
+-- what serving the edge of a task adds to the value
+abbrev pub adds_of : Grid → Task → ℕ
+adds_of g t = slice_index g.adds.items (t.edge - 1)
+
+abbrev pub may_follow : Grid → Task → Task → Bool
+may_follow g t u = slice_index_or g.may.items ((t.edge - 1) * g.inst.required + (u.edge - 1)) false
+
+-- the lengths of the streets that are crossed
+abbrev pub crossed : Grid → List Task → ℕ
+crossed g [] = 0
+crossed g (t ∷ ts) = between g (task_start g t) (task_end g t) + crossed g ts
+
+-- streets that lead from a to b, together no longer than the least way
+pub record IsLedBy (g : Grid) (a b : ℕ) : Type 0 where
+  pub path : List Task
+  pub leads : TasksLead g.inst a path b
+  pub most : crossed g path ≤ between g a b
+
+-- the lists are as long as they have to be, the numbers in use are small, and between vertices that the depot reaches the ways are
+-- those of a network of streets
+pub record IsGrid (g : Grid) : Type 0 where
+  pub valid : IsValid g.inst
+  pub net : g.net ≡ g.inst
+  pub may_long : length g.may.items ≡ g.inst.required * g.inst.required
+  pub dist_long : length g.dist.items ≡ (g.inst.vertices + 1) * (g.inst.vertices + 1)
+  pub adds_long : length g.adds.items ≡ g.inst.required
+  pub lengths_long : length g.lengths.items ≡ length g.inst.edges
+  pub lengths : (e : ℕ) → IsEdgeNumber g.inst e → slice_index g.lengths.items (e - 1) ≡ between g (edge_at g.inst e).u (edge_at g.inst e).v
+  pub stay : (a : ℕ) → IsReached g.inst a → between g a a ≡ 0
+  pub both_ways : (a b : ℕ) → IsReached g.inst a → IsReached g.inst b → between g a b ≡ between g b a
+  pub triangle : (a b c : ℕ) → IsReached g.inst a → IsReached g.inst b → IsReached g.inst c → between g a c ≤ between g a b + between g b c
+  pub led : (a b : ℕ) → IsReached g.inst a → IsReached g.inst b → IsLedBy g a b
+  pub symmetric : (a b : Task) → IsRequired g.inst a.edge → IsRequired g.inst b.edge → may_follow g a b ≡ may_follow g b a
+  pub small_dist : (a b : ℕ) → IsReached g.inst a → IsReached g.inst b → between g a b ≤ 2 ^ 73
+  pub small_adds : (e : ℕ) → e < g.inst.required → slice_index g.adds.items e ≤ 2 ^ 73
+
+-- a tour of this one task so far
+pub record IsFirst (g : Grid) (t : Task) (load value : ℕ) : Type 0 where
+  pub required : IsRequired g.inst t.edge
+  pub load_is : load ≡ demand_of g t
+  pub value_is : value ≡ between g g.inst.depot (task_start g t) + adds_of g t
+
+-- a task after a partial tour that ends with another
+pub record IsNext (g : Grid) (u t : Task) (before w load value : ℕ) : Type 0 where
+  pub required : IsRequired g.inst t.edge
+  pub allowed : may_follow g u t ≡ true
+  pub load_is : load ≡ before + demand_of g t
+  pub value_is : value ≡ w + between g (task_end g u) (task_start g t) + adds_of g t
+
+-- a partial tour that ends with the task t; the tasks before it stand from the last to the first
+abbrev pub IsPartial : Grid → List Task → Task → ℕ → ℕ → Type 0
+IsPartial g [] t load value = IsFirst g t load value
+IsPartial g (u ∷ us) t load value = (k w : ℕ) × IsPartial g us u k w × IsNext g u t k w load value
+
+-- some partial tour ends with the task, at this load and value
+pub record Reaches (g : Grid) (t : Task) (load value : ℕ) : Type 0 where
+  pub before : List Task
+  pub partial : IsPartial g before t load value
+
+-- the least value at which a partial tour of this load ends with the task, or a greater number where there is none
+pub record IsCell (g : Grid) (load : ℕ) (t : Task) (c : ℕ) : Type 0 where
+  pub attained : c < no_value → Reaches g t load c
+  pub least : (v : ℕ) → Reaches g t load v → c ≤ v
+
+-- a partial tour of this load that the task may follow, with the way to it
+pub record IsJoin (g : Grid) (load : ℕ) (t : Task) (n : ℕ) : Type 0 where
+  pub last : Task
+  pub value : ℕ
+  pub reaches : Reaches g last load value
+  pub allowed : may_follow g last t ≡ true
+  pub sum : n ≡ value + between g (task_end g last) (task_start g t)
+
+-- the least of them
+pub record IsLeastJoin (g : Grid) (load : ℕ) (t : Task) (n : ℕ) : Type 0 where
+  pub attained : n < no_value → IsJoin g load t n
+  pub least : (m : ℕ) → IsJoin g load t m → n ≤ m
+
+-- one that ends with the task u
+pub record IsJoinFrom (g : Grid) (load : ℕ) (u t : Task) (n : ℕ) : Type 0 where
+  pub value : ℕ
+  pub reaches : Reaches g u load value
+  pub allowed : may_follow g u t ≡ true
+  pub sum : n ≡ value + between g (task_end g u) (task_start g t)
+
+-- the least of those that end with one task
+pub record IsLeastFrom (g : Grid) (load : ℕ) (u t : Task) (n : ℕ) : Type 0 where
+  pub attained : n < no_value → IsJoinFrom g load u t n
+  pub least : (w : ℕ) → Reaches g u load w → may_follow g u t ≡ true → n ≤ w + between g (task_end g u) (task_start g t)
+
+-- the least of those that end with a task of the first columns
+pub record IsLeastUpTo (g : Grid) (load : ℕ) (t : Task) (columns n : ℕ) : Type 0 where
+  pub attained : n < no_value → IsJoin g load t n
+  pub least : (c w : ℕ) → c < columns → Reaches g (column_task c) load w → may_follow g (column_task c) t ≡ true → n ≤ w + between g (task_end g (column_task c)) (task_start g t)
+
+abbrev pub cell_place : Grid → ℕ → ℕ → ℕ
+cell_place g load c = load * width g + c
+
+-- filled up to the cells that follow partial tours of this load, in the columns before one
+pub record AreFilled (g : Grid) (cells : List ℕ) (load column : ℕ) : Type 0 where
+  pub long : length cells ≡ (g.inst.capacity + 1) * width g
+  pub done : (k c : ℕ) → c < width g → k ≤ g.inst.capacity → k ≤ load + demand_of g (column_task c) → (column ≤ c → k < load + demand_of g (column_task c)) →
+      IsCell g k (column_task c) (slice_index cells (cell_place g k c))
+
+-- filled with the tours of one task alone, in the columns before one
+pub record AreBegun (g : Grid) (cells : List ℕ) (column : ℕ) : Type 0 where
+  pub long : length cells ≡ (g.inst.capacity + 1) * width g
+  pub first : (c : ℕ) → c < column → c < width g → slice_index cells (cell_place g (demand_of g (column_task c)) c) ≡ between g g.inst.depot (task_start g (column_task c)) + adds_of g (column_task c)
+  pub empty : (k c : ℕ) → c < width g → k ≤ g.inst.capacity → (k ≡ demand_of g (column_task c) → column ≤ c) → slice_index cells (cell_place g k c) ≡ no_value
+
+-- a task before t from which the least join comes
+pub record IsPredecessor (g : Grid) (load : ℕ) (t : Task) (column n : ℕ) : Type 0 where
+  pub least : IsLeastJoin g load t n
+  pub from : n < no_value → (column < width g) × IsJoinFrom g load (column_task column) t n
+
+-- the same among the first columns
+pub record IsPredecessorUpTo (g : Grid) (load : ℕ) (t : Task) (columns column n : ℕ) : Type 0 where
+  pub least : IsLeastUpTo g load t columns n
+  pub from : n < no_value → (column < columns) × IsJoinFrom g load (column_task column) t n

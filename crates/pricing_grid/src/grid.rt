@@ -1,0 +1,113 @@
+// What a table is filled from: an instance, the pairs that may follow each other, distances, and what services add.
+ghost use Rattle.std.specs.Prelude.{◌≡◌, ◌+◌, ◌*◌, ◌/◌, ◌<◌, ◌≤◌, length};
+ghost use Rattle.carp_base.specs.Problem.{IsVertex, IsRequired, IsFineTask, IsFineEdge, edge_at};
+ghost use Rattle.pricing_grid.specs.Partial.{IsGrid, width, column_task, between, may_follow, adds_of, demand_of, task_start, task_end};
+
+use carp_base::{Instance, Task};
+use road_network::Network;
+
+/// A number above the value of each partial tour: it stands where there is none.
+pub const UNREACHED: u128 = u128::MAX;
+
+/// What each unit of load adds to the values, so that none is negative: the greatest price of a service.
+pub const LIFT: u128 = 1_000_000_000_000_000;
+
+/// What partial tours are priced by: an instance with its network, the pairs of edges that may follow each other, the least prices
+/// between vertices, and what serving each edge adds, lifted by [`LIFT`] for each unit of its demand.
+///
+/// A column is a task: that of number 2k serves the required edge k + 1 forward, and the next serves it backward. For n vertices, m required edges
+/// and E edges a grid takes memory for `n * n + m * m + E` numbers.
+#[derive(Drop)]
+pub struct Grid {
+    /// The instance that the grid was made for.
+    pub inst: Instance,
+    pub(crate) net: Network,
+    pub(crate) may: Vec<bool>,
+    pub(crate) dist: Vec<u128>,
+    pub(crate) lengths: Vec<u128>,
+    pub(crate) adds: Vec<u128>,
+}
+
+impl Grid {
+    /// The number of columns, two for each required edge.
+    pub fn width(&self) -> usize
+        ensures { result ≡ width self.now }
+    {
+        2 * self.inst.required() as usize
+    }
+
+    /// The task of a column.
+    pub fn task(&self, column: usize) -> Task
+        requires { column < width self.now }
+        ensures value { result ≡ column_task column }
+        ensures number { result.edge ≤ length self.now.inst.edges }
+        ensures required { IsRequired self.now.inst result.edge }
+        ensures fine { IsFineTask self.now.inst result.edge }
+        ensures edge { IsFineEdge self.now.inst (edge_at self.now.inst result.edge) }
+    {
+        let _required = self.inst.required();
+        Task {
+            edge: (column / 2) as u32 + 1,
+            forward: column % 2 == 0,
+        }
+    }
+
+    /// The demand of the edge of a column.
+    pub fn demand(&self, column: usize) -> usize
+        requires { column < width self.now }
+        ensures value { result ≡ demand_of self.now (column_task column) }
+        ensures some { 1 ≤ result }
+        ensures fits { result ≤ self.now.inst.capacity }
+    {
+        self.inst.edge(self.task(column).edge).demand as usize
+    }
+
+    pub(crate) fn start(&self, column: usize) -> u32
+        requires { column < width self.now }
+        ensures value { result ≡ task_start self.now (column_task column) }
+        ensures vertex { IsVertex self.now.inst result }
+    {
+        let task = self.task(column);
+        let edge = self.inst.edge(task.edge);
+        if task.forward { edge.u } else { edge.v }
+    }
+
+    /// The vertex where the task of a column ends.
+    pub fn end(&self, column: usize) -> u32
+        requires { column < width self.now }
+        ensures value { result ≡ task_end self.now (column_task column) }
+        ensures vertex { IsVertex self.now.inst result }
+    {
+        let task = self.task(column);
+        let edge = self.inst.edge(task.edge);
+        if task.forward { edge.v } else { edge.u }
+    }
+
+    /// The least price of deadheads from one vertex to another.
+    pub fn between(&self, from: u32, to: u32) -> u128
+        requires grid { IsGrid self.now }
+        requires from { IsVertex self.now.inst from }
+        requires to { IsVertex self.now.inst to }
+        ensures { result ≡ between self.now from to }
+    {
+        self.dist[from as usize * (self.inst.vertices() as usize + 1) + to as usize]
+    }
+
+    pub(crate) fn may_follow(&self, before: usize, column: usize) -> bool
+        requires grid { IsGrid self.now }
+        requires before { before < width self.now }
+        requires column { column < width self.now }
+        ensures { result ≡ may_follow self.now (column_task before) (column_task column) }
+    {
+        self.may[(before / 2) * self.inst.required() as usize + column / 2]
+    }
+
+    /// What serving the edge of a column adds to a value, lifted by its demand. It is at most `2^73`.
+    pub fn adds(&self, column: usize) -> u128
+        requires grid { IsGrid self.now }
+        requires column { column < width self.now }
+        ensures value { result ≡ adds_of self.now (column_task column) }
+    {
+        self.adds[column / 2]
+    }
+}

@@ -1,0 +1,24 @@
+//! The least values of partial tours, by load and last task (Christofides, Mingozzi and Toth 1981, state space relaxation).
+//!
+//! A partial tour is a list of tasks on required edges from the depot, joined by deadheads of least price, in which consecutive
+//! edges are an allowed pair. A [`Grid`] holds what such tours are priced by. It has a column for each task, two for each
+//! required edge, and fills a row for each load of a vehicle with the least values of the partial tours that end with the task.
+#![tactic(auto)]
+
+mod carrying;
+mod copying;
+#[cfg(test)]
+mod examples;
+mod filling;
+mod grid;
+mod labels;
+#[cfg(test)]
+mod plain;
+#[cfg(test)]
+mod tests;
+#[cfg(test)]
+mod towns;
+
+pub use filling::Before;
+pub use grid::{Grid, LIFT, UNREACHED};
+pub use labels::{Labels, NO_LABELS};

@@ -1,0 +1,209 @@
+// The rows of small grids, and the filling by labels beside the slow one on drawn grids.
+ghost use Rattle.std.specs.Prelude.{◌≡◌, ◌+◌, ◌<◌, length, All, IfOk, IsTrue};
+ghost use Rattle.pricing_grid.specs.Partial.{AreFilled, IsGrid};
+ghost use Rattle.pricing_grid.specs.Pricing.{IsGridRoom, IsServicePrice};
+
+use crate::{Grid, LIFT, NO_LABELS, UNREACHED, plain};
+use carp_base::{Allowed, Instance, RawEdge};
+use deadhead_paths::{Distances, cost_prices, distances};
+use road_network::Network;
+use std::alloc::Global;
+use std::process::Abort;
+use std::test::Fail;
+
+const LIMIT: i64 = 1_000_000_000_000_000;
+
+fn street(u: u64, v: u64, cost: u64, demand: u64) -> RawEdge {
+    RawEdge {
+        u,
+        v,
+        cost,
+        demand,
+        service: cost,
+    }
+}
+
+fn town(
+    rt: &impl Abort,
+    alloc: Global,
+    vertices: u64,
+    capacity: u64,
+    required: &[RawEdge],
+    others: &[RawEdge],
+) -> Instance {
+    assert!(rt; required.len() < 10 && others.len() < 10);
+    match Instance::build(alloc, vertices, 1, capacity, required, others) {
+        Ok(inst) => inst,
+        Err(_) => panic!(rt; "no instance"),
+    }
+}
+
+fn are_prices(services: &[i64]) -> bool
+    ensures { IsTrue result → All IsServicePrice services.now }
+{
+    services
+        .iter()
+        .all(|price| -LIMIT <= *price && *price <= LIMIT)
+}
+
+// The distances of an instance, with costs as the prices of deadheads.
+fn least_ways(alloc: Global, inst: &Instance) -> Result<Distances, Fail>
+    ensures { IfOk result (λ dist. dist.problem ≡ inst.now) }
+{
+    let net = Network::new(alloc, inst)?;
+    let prices = cost_prices(alloc, inst)?;
+    let dist = distances(alloc, inst, &net, &prices)?;
+    Ok(dist)
+}
+
+// The cells of a grid, which both fillings give alike.
+fn cells_of(rt: &impl Abort, alloc: Global, inst: &Instance, grid: &Grid) -> Result<Vec<u128>, Fail>
+    requires room { IsGridRoom inst.now grid.now }
+    requires grid { IsGrid grid.now }
+    ensures { IfOk result (λ cells. AreFilled grid.now cells.items (grid.now.inst.capacity + 1) 0) }
+{
+    let size = (inst.capacity() as usize + 1) * grid.width();
+    let places = inst.vertices() as usize + 1;
+    let mut cells = vec![in alloc; 0u128; size]?;
+    let mut layer = vec![in alloc; NO_LABELS; places]?;
+    let mut marks = vec![in alloc; false; places]?;
+    grid.fill_by_labels(&mut cells, &mut layer, &mut marks);
+    let mut slow = vec![in alloc; 0u128; size]?;
+    plain::fill(grid, &mut slow);
+    assert!(rt; cells[..] == slow[..]);
+    Ok(cells)
+}
+
+// The grid of an instance, with the unit 1.
+pub(crate) fn grid_of(
+    rt: &impl Abort,
+    alloc: Global,
+    inst: &Instance,
+    services: &[i64],
+    allowed: &Allowed,
+) -> Result<Grid, Fail>
+    requires { allowed.now.size ≡ inst.now.required }
+    ensures room { IfOk result (IsGridRoom inst.now) }
+    ensures grid { IfOk result IsGrid }
+{
+    assert!(rt; services.len() == inst.required() as usize && are_prices(services));
+    let dist = least_ways(alloc, inst)?;
+    let mut grid = Grid::new(alloc, inst)?;
+    grid.copy_from(inst, &dist, 1, services, allowed);
+    Ok(grid)
+}
+
+// Both fillings give the same cells.
+pub(crate) fn expect_same(
+    rt: &impl Abort,
+    alloc: Global,
+    inst: &Instance,
+    services: &[i64],
+    allowed: &Allowed,
+) -> Result<(), Fail>
+    requires { allowed.now.size ≡ inst.now.required }
+{
+    let grid = grid_of(rt, alloc, inst, services, allowed)?;
+    cells_of(rt, alloc, inst, &grid)?;
+    Ok(())
+}
+
+// A street at the depot and one behind it, with prices at which services add nothing but what their loads do.
+#[test]
+fn each_cell_of_two_streets(rt: HostRuntime) -> Result<(), Fail> {
+    let alloc = rt.alloc();
+    let required = [street(1, 2, 4, 1), street(2, 3, 1, 1)];
+    let inst = town(&rt, alloc, 3, 2, &required, &[]);
+    let allowed = Allowed::all(alloc, &inst)?;
+    let grid = grid_of(&rt, alloc, &inst, &[4, 1], &allowed)?;
+    let cells = cells_of(&rt, alloc, &inst, &grid)?;
+    assert!(&rt; cells[..4].iter().all(|cell| *cell == UNREACHED));
+    assert!(&rt; cells[4..8] == [LIFT, LIFT + 4, LIFT + 4, LIFT + 5][..]);
+    let both = 2 * LIFT;
+    assert!(&rt; cells[8..] == [both + 9, both + 5, both, both + 1][..]);
+    Ok(())
+}
+
+#[test]
+fn no_cell_after_an_excluded_edge(rt: HostRuntime) -> Result<(), Fail> {
+    let alloc = rt.alloc();
+    let required = [street(1, 2, 4, 1), street(2, 3, 1, 1)];
+    let inst = town(&rt, alloc, 3, 2, &required, &[]);
+    let mut allowed = Allowed::all(alloc, &inst)?;
+    assert!(&rt; inst.required() == 2);
+    allowed.exclude(2, 1);
+    let grid = grid_of(&rt, alloc, &inst, &[4, 1], &allowed)?;
+    let cells = cells_of(&rt, alloc, &inst, &grid)?;
+    assert!(&rt; cells[8..].iter().all(|cell| *cell == UNREACHED));
+    Ok(())
+}
+
+// The next number of a linear congruence, without its lowest bits.
+fn next_number(state: &mut u64) -> u64 {
+    *state = state
+        .wrapping_mul(6_364_136_223_846_793_005)
+        .wrapping_add(1_442_695_040_888_963_407);
+    *state >> 33
+}
+
+// The next number, below a limit.
+pub(crate) fn draw(state: &mut u64, limit: u64) -> u64
+    requires { 0 < limit }
+    ensures { result < limit }
+{
+    next_number(state) % limit
+}
+
+fn drawn_street(state: &mut u64) -> RawEdge {
+    let u = draw(state, 5);
+    let v = (u + 1 + draw(state, 4)) % 5;
+    street(u + 1, v + 1, draw(state, 4), 1 + draw(state, 3))
+}
+
+fn drawn_price(state: &mut u64) -> i64 {
+    draw(state, 12) as i64 - 3
+}
+
+// A relation without the pairs that are drawn.
+pub(crate) fn drawn_pairs(alloc: Global, inst: &Instance, state: &mut u64) -> Result<Allowed, Fail>
+    ensures { IfOk result (λ allowed. allowed.size ≡ inst.now.required) }
+{
+    let mut allowed = Allowed::all(alloc, inst)?;
+    for a in 1..inst.required() + 1 {
+        let b = 1 + draw(state, u64::from(inst.required())) as u32;
+        if draw(state, 3) == 0 {
+            allowed.exclude(a, b);
+        }
+    }
+    Ok(allowed)
+}
+
+#[test]
+fn both_fillings_agree(rt: HostRuntime) -> Result<(), Fail> {
+    let alloc = rt.alloc();
+    let ring = [
+        street(1, 2, 3, 0),
+        street(2, 3, 0, 0),
+        street(3, 4, 2, 0),
+        street(4, 5, 1, 0),
+    ];
+    let mut state = 1;
+    for _ in 0..40 {
+        let required = [
+            drawn_street(&mut state),
+            drawn_street(&mut state),
+            drawn_street(&mut state),
+            drawn_street(&mut state),
+        ];
+        let inst = town(&rt, alloc, 5, 9, &required, &ring);
+        let prices = [
+            drawn_price(&mut state),
+            drawn_price(&mut state),
+            drawn_price(&mut state),
+            drawn_price(&mut state),
+        ];
+        let allowed = drawn_pairs(alloc, &inst, &mut state)?;
+        expect_same(&rt, alloc, &inst, &prices, &allowed)?;
+    }
+    Ok(())
+}
