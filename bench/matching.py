@@ -1,0 +1,26 @@
+"""Prints rows of the table in bench/README.md: the least times of two programs, each line of theirs a size, a sum, and microseconds.
+
+usage: matching.py OURS PLAIN MACHINE
+"""
+import datetime
+import sys
+
+
+def least(name):
+    sums, times = {}, {}
+    for line in open(name):
+        size, total, taken = map(int, line.split())
+        if sums.setdefault(size, total) != total:
+            sys.exit(f"{name}: two sums for {size} points")
+        times[size] = min(taken, times.get(size, taken))
+    return sums, times
+
+
+ours, plain, machine = sys.argv[1:]
+our_sums, our_times = least(ours)
+plain_sums, plain_times = least(plain)
+if our_sums != plain_sums:
+    sys.exit(f"the sums differ: {our_sums} and {plain_sums}")
+for size, taken in our_times.items():
+    other = plain_times[size]
+    print(f"| {size:,} points matched | {taken / 1e6:.4f} s | {other / 1e6:.4f} s | {taken / max(other, 1):.2f} | | {machine} | {datetime.date.today()} |")

@@ -1,0 +1,16 @@
+pub mod Answer
+pub mod Between
+pub mod Branching
+pub mod Cycles
+pub mod Expanding
+pub mod Growth
+pub mod Laws
+pub mod Matching
+pub mod Rings
+pub mod Rooms
+pub mod Table
+pub mod Turns
+pub mod Unfolded
+pub mod Unfolding
+pub mod Views
+pub mod Ways
