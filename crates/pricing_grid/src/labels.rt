@@ -197,12 +197,7 @@ impl Grid {
     /// carried over the streets by sweeps over the vertices in rising and falling number in turn, until none changes (Ford 1956,
     /// Moore 1959). For n vertices and m required edges each load takes m steps for the tasks, n for each sweep, and the degree
     /// of a vertex each time that a sweep finds its labels changed; and m steps for each task that may follow neither label.
-    pub fn fill_by_labels(
-        &self,
-        cells: &mut [u128],
-        layer: &mut [Labels],
-        marks: &mut [bool],
-    )
+    pub fn fill_by_labels(&self, cells: &mut [u128], layer: &mut [Labels], marks: &mut [bool])
         requires grid { IsGrid self.now }
         requires long { length cells.old ≡ (self.now.inst.capacity + 1) * width self.now }
         requires layer { length layer.old ≡ self.now.inst.vertices + 1 }
