@@ -1,2 +1,7 @@
+pub mod Claims
+pub mod Layers
+pub mod Leaves
 pub mod Nodes
+pub mod Paths
 pub mod Reasons
+pub mod Walks

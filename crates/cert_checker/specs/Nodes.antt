@@ -1,7 +1,6 @@
 -- Why a node of a tree is not as it should be, and the first such node.
-use Rattle.std.specs.Prelude.{◌≡◌, ℕ, ◌+◌, ◌-◌, ◌<◌, ◌≤◌, ℤ, pos, ◌+ℤ◌, ◌-ℤ◌, ◌*ℤ◌, ◌≤ℤ◌, ◌<ℤ◌, ◌⊎◌, List, [], ◌∷◌, ◌++◌}
+use Rattle.std.specs.Prelude.{◌≡◌, ℕ, ◌+◌, ◌-◌, ◌<◌, ℤ, pos, ◌+ℤ◌, ◌-ℤ◌, ◌*ℤ◌, ◌≤ℤ◌, ◌<ℤ◌, ◌⊎◌, List, [], ◌∷◌, ◌++◌}
 use Rattle.std.specs.List.{All}
-use Rattle.carp_base.specs.Problem.{Problem}
 use Rattle.carp_base.specs.declared.edge.Task.{Task}
 use Rattle.deadhead_paths.specs.Prices.{price_of}
 use Rattle.deadhead_paths.specs.Tours.{IsTaskTour, LeastDeadhead}
@@ -11,23 +10,14 @@ use Rattle.decision_chains.specs.Exclusions.{Excluded, IsDetermined}
 use Rattle.chain_plans.specs.FixedValue.{HasFixedValue}
 use Rattle.branch_rules.specs.declared.node.Node.{Node}
 use Rattle.branch_rules.specs.declared.node.Node.TheVariants as nodes
-use Rattle.branch_rules.specs.declared.branch.NoUpper.{NoUpper}
-use Rattle.branch_rules.specs.Prices.{Prices, Fits, PaysAtLeast, task_adds, crossing_prices, signed_sum, value_of}
-use Rattle.branch_rules.specs.Decisions.{rules_of, IsVoid, IsFixed}
+use Rattle.branch_rules.specs.Prices.{Prices, PaysAtLeast, task_adds, crossing_prices, signed_sum, value_of}
+use Rattle.branch_rules.specs.Decisions.{rules_of, cuts_of, IsVoid, IsFixed}
 use Rattle.decision_chains.specs.Pairs.{IsPairWithin}
 use Rattle.branch_rules.specs.Refusals.{HasUpper, IsWithoutUpper}
 use Rattle.branch_rules.specs.Trees.{Support, set_at, IsLeanNode, PriceShows, FixedShows}
 use Rattle.cert_checker.specs.declared.reason.Part.TheVariants as parts
 use Rattle.cert_checker.specs.declared.reason.Reason.{Reason}
 use Rattle.cert_checker.specs.declared.reason.Reason.TheVariants.{Misfit, NotLean, NotVoid, NotFixed, MissingUpper, TourTooCheap, LeafLow}
-
--- how many decisions of a branch are on shores
-abbrev pub cuts_in : List Decision → ℕ
-cuts_in [] = 0
-cuts_in (Yes a b ∷ branch) = cuts_in branch
-cuts_in (No a b ∷ branch) = cuts_in branch
-cuts_in (Low border k ∷ branch) = cuts_in branch + 1
-cuts_in (High border k ∷ branch) = cuts_in branch + 1
 
 -- with the prices of a set, a relaxed tour has this value: what its services add, and its deadhead
 pub record HasValue (s : Support) (branch : List Decision) (set : Prices) (tasks : List Task) (value : ℤ) : Type 0 where
@@ -77,7 +67,7 @@ pub record IsPriceLow (s : Support) (bound : ℕ) (branch : List Decision) (set 
 abbrev pub NodeFails : Support → (bound at : ℕ) → List Decision → Node → Reason → Type 0
 NodeFails s bound at branch (nodes.Pair a b) (Misfit (parts.Node n)) = (n ≡ at) × ¬ (IsPairWithin s.problem.required a b)
 NodeFails s bound at branch (nodes.Pair a b) (NotLean n) = (n ≡ at) × IsPairWithin s.problem.required a b × IsDetermined s.problem branch a b
-NodeFails s bound at branch (nodes.Cut border k) (NotLean n) = (n ≡ at) × ¬ (IsLeanNode s.problem s.pool branch (4 - cuts_in branch) (nodes.Cut border k))
+NodeFails s bound at branch (nodes.Cut border k) (NotLean n) = (n ≡ at) × ¬ (IsLeanNode s.problem s.pool branch (4 - cuts_of branch) (nodes.Cut border k))
 NodeFails s bound at branch nodes.Void (NotVoid n) = (n ≡ at) × ¬ (IsVoid s.problem s.pool branch)
 NodeFails s bound at branch nodes.Fixed (NotFixed n) = (n ≡ at) × ¬ (IsFixed s.problem s.pool branch)
 NodeFails s bound at branch nodes.Fixed (LeafLow n value limit) = (n ≡ at) × IsFixedLow s bound branch value limit
@@ -90,7 +80,7 @@ NodeFails s bound at branch node reason = ⊥
 -- a node is as it should be under its branch: an inner node is lean, and its pair of required edges; a leaf shows the bound
 abbrev pub NodeStands : Support → (bound : ℕ) → List Decision → Node → Type 0
 NodeStands s bound branch (nodes.Pair a b) = IsPairWithin s.problem.required a b × ¬ (IsDetermined s.problem branch a b)
-NodeStands s bound branch (nodes.Cut border k) = IsLeanNode s.problem s.pool branch (4 - cuts_in branch) (nodes.Cut border k)
+NodeStands s bound branch (nodes.Cut border k) = IsLeanNode s.problem s.pool branch (4 - cuts_of branch) (nodes.Cut border k)
 NodeStands s bound branch (nodes.Price set) = PriceShows s branch bound set
 NodeStands s bound branch nodes.Void = IsVoid s.problem s.pool branch
 NodeStands s bound branch nodes.Fixed = FixedShows s branch bound

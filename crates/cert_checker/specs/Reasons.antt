@@ -4,7 +4,6 @@ use Rattle.std.specs.List.{All}
 use Rattle.carp_base.specs.Problem.{Problem}
 use Rattle.plan_model.specs.Plans.{IsLawful, plan_cost}
 use Rattle.plan_model.specs.Verdicts.{IsVerdict, IsFailing}
-use Rattle.plan_model.specs.declared.verdict.Verdict.{Verdict}
 use Rattle.cut_pool.specs.Shores.{Belongs}
 use Rattle.cut_pool.specs.Pools.{shore_at}
 use Rattle.branch_rules.specs.declared.price_set.TooHeavy.{TooHeavy}

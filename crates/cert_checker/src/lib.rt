@@ -4,8 +4,17 @@
 //! whoever made it. What is good is defined in `cert_format` (`specs/Good.antt`), and the first reason in `specs/Reasons.antt`.
 #![tactic(auto)]
 
+mod checker;
 mod checking;
+mod claim;
+mod head;
+mod laws;
+mod leaves;
+mod path;
 mod reason;
+#[cfg(test)]
+mod tests;
 
 pub use checking::check;
+pub use laws::{good_has_no_reason, reason_is_unique};
 pub use reason::{Answer, Part, Reason};

@@ -1,5 +1,6 @@
 -- A certificate and its head as plain data.
 use Rattle.std.specs.Prelude.{◌≡◌, ℕ, List, [], ◌∷◌}
+use Rattle.branch_rules.specs.Trees.{NodeList}
 use Rattle.cert_lines.specs.Lines.{nodes}
 use Rattle.cert_lines.specs.Order.{LatestFirst}
 use Rattle.cert_lines.specs.Certificates.{Certificate, counts_of, cost_of, bound_of, plan_of, shores_of, sets_of}
@@ -33,3 +34,7 @@ pub record IsHeadOf (said : LatestFirst) (head : CertHead) : Type 0 where
   pub shores : head.shores ≡ shores_of said
   pub sets : head.sets.items ≡ sets_of said
   pub nodes : head.nodes ≡ stated_nodes said
+
+-- the head, and a tree
+abbrev pub cert_with : CertHead → NodeList → Cert
+cert_with head tree = record { cost = head.cost; bound = head.bound; plan = head.plan; shores = head.shores; sets = head.sets; tree = tree; counts = head.counts }

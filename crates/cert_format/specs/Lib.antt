@@ -1,6 +1,15 @@
+pub mod Kinds
+pub mod Parts
+pub mod Lists
+pub mod LineStates
 pub mod Certs
 pub mod Good
 pub mod Readers
+pub mod Drafts
+pub mod BoundedFacts
+pub mod Judging
+pub mod Readiness
 pub mod Held
+pub mod Reads
 pub mod Pieces
 pub mod Examples

@@ -8,7 +8,7 @@ use Rattle.cert_lines.specs.declared.item.Item.TheVariants.{Quiet, Head, Node, W
 use Rattle.cert_lines.specs.declared.next.Next.TheVariants.{Nothing}
 use Rattle.cert_lines.specs.Order.{LatestFirst, next_of}
 use Rattle.cert_lines.specs.Texts.{ReadsAs, BreaksAt, IsFaultOf, items_of}
-use Rattle.cert_format.specs.declared.reader.CertReader.{CertReader}
+use Rattle.cert_format.specs.declared.cert_reader.CertReader.{CertReader}
 use Rattle.cert_format.specs.declared.reader.Standing.{Standing}
 use Rattle.cert_format.specs.declared.reader.Standing.TheVariants.{Going, Bad, OutOfMemory}
 

@@ -2,10 +2,18 @@
 //!
 //! [`write_cert`] gives the one spelling of a certificate. [`CertReader`] takes a text in pieces, however it is cut, and gives the
 //! head, each node, and the end; it holds the head and no nodes. [`read_cert`] feeds it a whole text. What a text says, and the
-//! first fault of bytes that are none, is defined in `cert_lines`.
+//! first fault of bytes that are none, is defined in `cert_lines`. What makes a certificate good for an instance stands in
+//! `specs/Good.antt`, and [`good_is_proof`] says what a good one proves.
 #![tactic(auto)]
 
 mod cert;
+mod cert_reader;
+mod draft;
+mod items;
+mod judging;
+mod kind;
+mod laws;
+mod line;
 mod reader;
 mod reading;
 mod spelling;
@@ -15,6 +23,7 @@ mod writing_tests;
 
 pub use cert::{Cert, CertHead};
 pub use cert_lines::{CertFault, Counts, Item};
-pub use reader::CertReader;
+pub use cert_reader::CertReader;
+pub use laws::good_is_proof;
 pub use reading::read_cert;
 pub use writing::write_cert;

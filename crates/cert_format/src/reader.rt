@@ -1,18 +1,28 @@
 // A text in pieces.
-ghost use Rattle.std.specs.Prelude.{◌≡◌, ◌≢◌, ℕ, List, [], ◌++◌, take, None, Err, IfOk, IsOk, IsErrOf, MatchOption, OnErr, OnOk};
+ghost use Rattle.std.specs.Prelude.{◌≡◌, ◌≢◌, ◌↔◌, ℕ, ◌+◌, ◌<◌, ◌≤◌, List, [], ◌∷◌, ◌++◌, take, length, slice_index, true, false, IsTrue, None, Err, IfOk, IsOk, IsErrOf, MatchOption, OnErr, OnOk};
 ghost use Rattle.carp_base.specs.declared.fail.Fail.TheVariants.{Memory as NoMemory, Refused};
 ghost use Rattle.cert_lines.specs.declared.fault.CertFault.{CertFault as Fault};
 ghost use Rattle.cert_lines.specs.declared.next.Next.TheVariants.{Nothing};
 ghost use Rattle.cert_lines.specs.Order.{LatestFirst, next_of};
-ghost use Rattle.cert_lines.specs.Texts.{ReadsAs, BreaksAt, IsFaultOf};
+ghost use Rattle.std.specs.List.{list_all};
+ghost use Rattle.cert_words.specs.Words.{HoldsWord};
+ghost use Rattle.cert_lines.specs.Texts.{ReadsAs, BreaksAt, IsFaultOf, IsUnfinished};
+ghost use Rattle.cert_format.specs.Judging.{context_of};
+ghost use Rattle.cert_format.specs.LineStates.{HoldsLine};
 ghost use Rattle.cert_format.specs.declared.reader.Standing.TheVariants.{Going, Bad, OutOfMemory};
-ghost use Rattle.cert_format.specs.Certs.{IsHeadOf, stated_nodes};
+ghost use Rattle.cert_format.specs.Certs.{cert_with, IsHeadOf, stated_nodes};
 ghost use Rattle.cert_format.specs.Readers.{Gives, SaysSoFar};
-ghost use Rattle.cert_format.specs.Held.{HasTaken};
+ghost use Rattle.cert_format.specs.Held.{Advances, FillsUp, HasTaken, IsBroken, IsGoing, is_plain};
 
-use crate::CertHead;
+use crate::cert_reader::CertReader;
+use crate::draft::Draft;
+use crate::judging::Verdict;
+use crate::line::LineState;
+use crate::{Cert, CertHead};
+use branch_rules::Tree;
 use carp_base::{Fail, Memory};
-use cert_lines::{CertFault, Item};
+use cert_lines::{CertFault, Item, Next, lines_are_cut, readings_are_unique};
+use cert_words::Word;
 use std::alloc::Global;
 
 /// How a reader stands.
@@ -26,18 +36,18 @@ pub(crate) enum Standing {
     OutOfMemory,
 }
 
-/// Reads the text of a certificate in pieces, however it is cut. It holds what stands before the first node, and no node.
-#[derive(Drop)]
-pub struct CertReader {
-    standing: Standing,
-}
-
 impl CertReader {
     /// A reader that has taken no bytes.
     pub fn new(alloc: Global) -> Result<CertReader, Memory>
         ensures { IfOk result (λ reader. HasTaken reader [] × (reader.standing ≡ Going)) }
     {
-        unreachable!()
+        Ok(CertReader {
+            alloc,
+            standing: Standing::Going,
+            draft: Draft::new(alloc),
+            line: LineState::new(alloc),
+            word: Word::new(),
+        })
     }
 
     /// Takes bytes of a piece that is not empty, up to the one that completes an item, or else all of them, and answers how
@@ -47,6 +57,7 @@ impl CertReader {
     /// after which it answers nothing else.
     pub fn feed(&mut self, piece: &[u8]) -> Result<(usize, Item), Fail<CertFault>>
         requires { piece.now ≢ [] }
+        ensures within { IfOk result (λ (taken, item). (1 ≤ taken) × (taken ≤ length piece.now)) }
         ensures gives { (bytes : List ℕ) → HasTaken self.old bytes → IfOk result (λ (taken, item). Gives bytes piece.now taken item × HasTaken self.new (bytes ++ take taken piece.now)) }
         ensures going { OnOk result (self.new.standing ≡ Going) }
         ensures bad { (bytes : List ℕ) → HasTaken self.old bytes → (fault : Fault) → IsErrOf result (Refused fault)
@@ -55,7 +66,12 @@ impl CertReader {
         ensures memory { IsErrOf result NoMemory → self.new.standing ≡ OutOfMemory }
         ensures failed { self.old.standing ≡ OutOfMemory → IsErrOf result NoMemory }
     {
-        unreachable!()
+        match self.standing {
+            Standing::Bad(fault) => return Err(Fail::Refused(fault)),
+            Standing::OutOfMemory => return Err(Fail::Memory),
+            Standing::Going => {}
+        }
+        self.feed_lines(piece)
     }
 
     /// What stands before the first node, as soon as the number of nodes was read; nothing after want of memory.
@@ -64,7 +80,13 @@ impl CertReader {
             → MatchOption result (stated_nodes said ≡ 0) (λ head. IsHeadOf said head.now) }
         ensures failed { self.now.standing ≡ OutOfMemory → result ≡ None }
     {
-        unreachable!()
+        match self.standing {
+            Standing::OutOfMemory => None,
+            _ => {
+                readings_are_unique();
+                self.draft.head()
+            }
+        }
     }
 
     /// Whether the bytes that were taken are the text of a certificate; its error is their first fault, or want of memory. It
@@ -75,6 +97,176 @@ impl CertReader {
         ensures memory { IsErrOf result NoMemory → self.now.standing ≡ OutOfMemory }
         ensures failed { self.now.standing ≡ OutOfMemory → IsErrOf result NoMemory }
     {
-        unreachable!()
+        match self.standing {
+            Standing::Bad(fault) => Err(Fail::Refused(fault)),
+            Standing::OutOfMemory => Err(Fail::Memory),
+            Standing::Going => self.finish_lines(),
+        }
     }
+
+    /// The certificate of these nodes and of what stands before them.
+    pub(crate) fn into_cert(self, tree: Tree) -> Cert
+        ensures { result ≡ cert_with self.draft.head tree }
+    {
+        let head = self.draft.head;
+        Cert {
+            cost: head.cost,
+            bound: head.bound,
+            plan: head.plan,
+            shores: head.shores,
+            sets: head.sets,
+            tree,
+            counts: head.counts,
+        }
+    }
+
+    // Whether the lines, none of which is bad, are those of a certificate, and nothing follows them.
+    fn finish_lines(&self) -> Result<(), Fail<CertFault>>
+        ensures whole { (bytes : List ℕ) (said : LatestFirst) (rest : List ℕ) → IsGoing self.now bytes said rest → OnOk result ((rest ≡ []) × (next_of said ≡ Nothing)) }
+        ensures refused { (bytes : List ℕ) (said : LatestFirst) (rest : List ℕ) → IsGoing self.now bytes said rest
+            → (fault : Fault) → IsErrOf result (Refused fault) → IsUnfinished said rest (length said + 1) fault }
+        ensures no_memory { IsErrOf result NoMemory → ⊥ }
+    {
+        let at = self.draft.lines + 1;
+        if !is_nothing(self.draft.next) {
+            return Err(Fail::Refused(CertFault::Truncated(at)));
+        }
+        if !self.line.is_start() {
+            return Err(Fail::Refused(CertFault::Syntax(at)));
+        }
+        if !self.word.is_empty() {
+            return Err(Fail::Refused(CertFault::Syntax(at)));
+        }
+        Ok(())
+    }
+
+    /// Takes bytes of a piece, where no line so far is bad.
+    pub(crate) fn feed_lines(&mut self, piece: &[u8]) -> Result<(usize, Item), Fail<CertFault>>
+        requires some { piece.now ≢ [] }
+        requires going { self.old.standing ≡ Going }
+        ensures within { IfOk result (λ (taken, item). (1 ≤ taken) × (taken ≤ length piece.now)) }
+        ensures gives { (bytes : List ℕ) (said : LatestFirst) (rest : List ℕ) → IsGoing self.old bytes said rest → IfOk result (λ (taken, item).
+            (taken ≤ length piece.now) × FillsUp item taken (length piece.now) × Advances self.new (bytes ++ take taken piece.now) said item) }
+        ensures going { OnOk result (self.new.standing ≡ Going) }
+        ensures bad { (bytes : List ℕ) (said : LatestFirst) (rest : List ℕ) → IsGoing self.old bytes said rest → (fault : Fault) → IsErrOf result (Refused fault)
+            → IsBroken self.new (bytes ++ piece.now) fault × (self.new.standing ≡ Bad fault) }
+        ensures memory { IsErrOf result NoMemory → self.new.standing ≡ OutOfMemory }
+    {
+        let mut taken = 0;
+        while taken < piece.len() {
+            let (more, item) = match self.take_run(&piece[taken..]) {
+                Ok(run) => run,
+                Err(fail) => return Err(fail),
+            };
+            taken += more;
+            let Item::Quiet = item else {
+                return Ok((taken, item));
+            };
+        }
+        Ok((taken, Item::Quiet))
+    }
+
+    // Takes bytes up to the first blank or LF, or else all of them.
+    fn take_run(&mut self, piece: &[u8]) -> Result<(usize, Item), Fail<CertFault>>
+        requires some { piece.now ≢ [] }
+        requires going { self.old.standing ≡ Going }
+        ensures within { IfOk result (λ (taken, item). (1 ≤ taken) × (taken ≤ length piece.now)) }
+        ensures gives { (bytes : List ℕ) (said : LatestFirst) (rest : List ℕ) → IsGoing self.old bytes said rest → IfOk result (λ (taken, item).
+            Advances self.new (bytes ++ take taken piece.now) said item) }
+        ensures going { OnOk result (self.new.standing ≡ Going) }
+        ensures bad { (bytes : List ℕ) (said : LatestFirst) (rest : List ℕ) → IsGoing self.old bytes said rest → (fault : Fault) → IsErrOf result (Refused fault)
+            → IsBroken self.new (bytes ++ piece.now) fault × (self.new.standing ≡ Bad fault) }
+        ensures memory { IsErrOf result NoMemory → self.new.standing ≡ OutOfMemory }
+    {
+        let end = run_of(piece);
+        self.word.extend(&piece[..end]);
+        if end == piece.len() {
+            return Ok((end, Item::Quiet));
+        }
+        if piece[end] == b' ' {
+            self.end_word()?;
+            return Ok((end + 1, Item::Quiet));
+        }
+        match self.end_line() {
+            Ok(item) => Ok((end + 1, item)),
+            Err(fail) => Err(fail),
+        }
+    }
+
+    // Takes a blank.
+    fn end_word(&mut self) -> Result<(), Memory>
+        requires { self.old.standing ≡ Going }
+        ensures line { (words : List (List ℕ)) (text : List ℕ) → HoldsLine (context_of self.old.draft) self.old.line words → HoldsWord self.old.word text
+            → OnOk result (HoldsLine (context_of self.new.draft) self.new.line (words ++ text ∷ [])) }
+        ensures word { OnOk result (HoldsWord self.new.word []) }
+        ensures draft { self.new.draft ≡ self.old.draft }
+        ensures going { OnOk result (self.new.standing ≡ Going) }
+        ensures err { OnErr result (self.new.standing ≡ OutOfMemory) }
+    {
+        match self.line.take_word(self.draft.context(), &self.word) {
+            Ok(()) => {
+                self.word.clear();
+                Ok(())
+            }
+            Err(Memory) => {
+                self.standing = Standing::OutOfMemory;
+                Err(Memory)
+            }
+        }
+    }
+
+    // Takes an LF.
+    fn end_line(&mut self) -> Result<Item, Fail<CertFault>>
+        requires { self.old.standing ≡ Going }
+        ensures gives { (bytes : List ℕ) (said : LatestFirst) (rest : List ℕ) → IsGoing self.old bytes said rest → IfOk result (λ item. Advances self.new (bytes ++ 10 ∷ []) said item) }
+        ensures going { OnOk result (self.new.standing ≡ Going) }
+        ensures bad { (bytes more : List ℕ) (said : LatestFirst) (rest : List ℕ) → IsGoing self.old bytes said rest → (fault : Fault) → IsErrOf result (Refused fault)
+            → IsBroken self.new (bytes ++ 10 ∷ more) fault × (self.new.standing ≡ Bad fault) }
+        ensures memory { IsErrOf result NoMemory → self.new.standing ≡ OutOfMemory }
+    {
+        lines_are_cut();
+        self.end_word()?;
+        let at = self.draft.lines + 1;
+        let Ok(verdict) = self.draft.take_line(self.alloc, &mut self.line) else {
+            self.standing = Standing::OutOfMemory;
+            return Err(Fail::Memory);
+        };
+        self.line.clear();
+        match verdict {
+            Verdict::Good(item) => Ok(item),
+            Verdict::Syntax => Err(self.refuse(CertFault::Syntax(at))),
+            Verdict::Limit => Err(self.refuse(CertFault::Limit(at))),
+        }
+    }
+
+    // A line with this fault was completed.
+    fn refuse(&mut self, fault: CertFault) -> Fail<CertFault>
+        ensures fault { result ≡ Refused fault }
+        ensures bad { self.new.standing ≡ Bad fault }
+        ensures draft { self.new.draft ≡ self.old.draft }
+    {
+        self.standing = Standing::Bad(fault);
+        Fail::Refused(fault)
+    }
+}
+
+// Whether no line may follow.
+fn is_nothing(next: Next) -> bool
+    ensures { IsTrue result ↔ (next ≡ Nothing) }
+{
+    matches!(next, Next::Nothing)
+}
+
+// How many bytes stand before the first blank or LF.
+fn run_of(piece: &[u8]) -> usize
+    ensures within { result ≤ length piece.now }
+    ensures plain { list_all is_plain (take result piece.now) ≡ true }
+    ensures ends { result < length piece.now → is_plain (slice_index piece.now result) ≡ false }
+{
+    for i in 0..piece.len() {
+        if piece[i] == b' ' || piece[i] == b'\n' {
+            return i;
+        }
+    }
+    piece.len()
 }

@@ -1,0 +1,7 @@
+use Rattle.std.proofs.Common.{ℕ, ◌<◌, slice_index_or}
+use Rattle.branch_rules.specs.Refusals.{NoneTooHeavy}
+use Rattle.branch_rules.specs.Trees.{no_prices}
+use Rattle.cert_checker.proofs.head.deadhead_reason.Given as goal
+
+abbrev pub invariant-loop-place : goal.invariant-loop-place
+invariant-loop-place l = (k : ℕ) → k < l.place → NoneTooHeavy l.claim.inst.now l.claim.shores.now (slice_index_or l.claim.sets.now k no_prices)

@@ -1,0 +1,105 @@
+// The way from the root to the node that is read next.
+ghost use Rattle.std.specs.Prelude.{◌≡◌, ◌<◌, ◌++◌, ◌∷◌, [], length, All, IfSome, OnOk, Some, None, false};
+ghost use Rattle.decision_chains.specs.declared.decision.Decision.{Decision};
+ghost use Rattle.branch_rules.specs.Limits.{IsFineDecision, IsNodeIn};
+ghost use Rattle.branch_rules.specs.Trees.{Support};
+ghost use Rattle.cert_checker.specs.Nodes.{waiting_after};
+ghost use Rattle.cert_checker.specs.Paths.{Enters, IsDecisionIn, IsFineSplit, IsPath, IsPathIn, LeavesOne, seconds_of, waits};
+
+use branch_rules::{Branch, Decision, Node};
+use carp_base::Memory;
+use std::alloc::Global;
+
+/// The branch of the node that is read next, and for each decision of it that of the second child, where the first child is
+/// being read. So one branch is held, whatever the tree.
+#[derive(Drop)]
+pub(crate) struct Path {
+    pub(crate) branch: Branch,
+    seconds: Vec<Option<Decision>>,
+    whole: bool,
+}
+
+impl Path {
+    /// The way to the root.
+    pub(crate) fn new(alloc: Global) -> Path
+        ensures path { IsPath result }
+        ensures inside { (s : Support) → IsPathIn s result }
+        ensures waits { waits result ≡ [] ∷ [] }
+    {
+        Path {
+            branch: Branch::new(alloc),
+            seconds: Vec::new(alloc),
+            whole: false,
+        }
+    }
+
+    /// Goes past a node: to its first child, or after a leaf to the nearest second child that is still to be read.
+    pub(crate) fn pass(&mut self, node: &Node) -> Result<(), Memory>
+        requires path { IsPath self.old }
+        requires goes { self.old.whole ≡ false }
+        requires fine { IsFineSplit node.now }
+        ensures path { OnOk result (IsPath self.new) }
+        ensures inside { OnOk result ((s : Support) → IsPathIn s self.old → IsNodeIn s.problem s.pool node.now → IsPathIn s self.new) }
+        ensures waits { OnOk result (waits self.new ≡ waiting_after self.old.branch node.now (seconds_of self.old)) }
+    {
+        match *node {
+            Node::Pair { a, b } => self.split(Decision::Yes { a, b }, Decision::No { a, b }),
+            Node::Cut { shore, k } => {
+                self.split(Decision::Low { shore, k }, Decision::High { shore, k })
+            }
+            Node::Price { .. } => self.go_on(),
+            Node::Void => self.go_on(),
+            Node::Fixed => self.go_on(),
+        }
+    }
+
+    // Goes to the first of two children.
+    fn split(&mut self, first: Decision, second: Decision) -> Result<(), Memory>
+        requires path { IsPath self.old }
+        requires goes { self.old.whole ≡ false }
+        requires first { IsFineDecision first }
+        requires second { IsFineDecision second }
+        ensures path { OnOk result (IsPath self.new) }
+        ensures inside { OnOk result ((s : Support) → IsPathIn s self.old → IsDecisionIn s first → IsDecisionIn s second → IsPathIn s self.new) }
+        ensures waits { OnOk result (waits self.new ≡ (self.old.branch ++ first ∷ []) ∷ ((self.old.branch ++ second ∷ []) ∷ seconds_of self.old)) }
+    {
+        self.enter(first, Some(second))
+    }
+
+    // Goes to the nearest second child that is still to be read. Where there is none, the tree is whole.
+    fn go_on(&mut self) -> Result<(), Memory>
+        requires path { IsPath self.old }
+        requires goes { self.old.whole ≡ false }
+        ensures path { OnOk result (IsPath self.new) }
+        ensures inside { OnOk result ((s : Support) → IsPathIn s self.old → IsPathIn s self.new) }
+        ensures waits { OnOk result (waits self.new ≡ seconds_of self.old) }
+    {
+        while !self.seconds.is_empty() {
+            if let Some(decision) = self.leave() {
+                return self.enter(decision, None);
+            }
+        }
+        self.whole = true;
+        Ok(())
+    }
+
+    // Goes on by a decision.
+    fn enter(&mut self, decision: Decision, second: Option<Decision>) -> Result<(), Memory>
+        requires { IsFineDecision decision }
+        ensures { OnOk result (Enters self.old self.new decision second) }
+    {
+        self.branch.push(decision)?;
+        self.seconds.push(second)?;
+        Ok(())
+    }
+
+    // Goes back by a decision, and gives that of the second child, where this is still to be read.
+    fn leave(&mut self) -> Option<Decision>
+        requires path { IsPath self.old }
+        requires some { 0 < length self.old.seconds.items }
+        ensures { LeavesOne self.new self.old result }
+    {
+        self.branch.pop();
+        self.seconds.pop().flatten()
+    }
+}

@@ -1,0 +1,29 @@
+use Rattle.std.proofs.Common.{◌≡◌, ◌≢◌, ℕ, ◌+◌, ◌<◌, ◌≤◌, List, [], ◌∷◌, ◌++◌, length, get_or, take, drop, refl, sym, ap, subst, ◌∙◌, append_assoc, inl, inr, rules, arith, true, false}
+use Rattle.std.proofs.lemmas.List.{append-nil}
+use Rattle.cert_lines.specs.Order.{LatestFirst}
+use Rattle.cert_lines.specs.Texts.{ReadsAs}
+use Rattle.cert_format.specs.declared.draft.Draft.{Draft}
+use Rattle.cert_format.specs.declared.judging.Verdict.{Verdict}
+use Rattle.cert_format.specs.declared.reader.Standing.{Standing}
+use Rattle.cert_format.specs.Drafts.{HoldsDraft}
+use Rattle.cert_format.specs.Judging.{Judged, context_of}
+use Rattle.cert_format.specs.Held.{StandingHolds, IsGoing, IsBroken, Advances}
+use Rattle.cert_format.proofs.MoreBytes.{going_more, going_blank, line_good, line_syntax, line_limit, advances_quiet, advances_same, advances_more, take_one, take_run_more, gives_of}
+use Rattle.cert_format.proofs.Standings.{head_of, head_told, on_ok_then, rest_none, none_rest, unfinished_more, unfinished_short, not_plain, piece_parts}
+use Rattle.cert_format.proofs.cert_reader.CertReader.finish_lines.Goals as goal
+
+pub returns-then-not-is_start-clause-refused : goal.returns-then-not-is_start-clause-refused
+returns-then-not-is_start-clause-refused c = λ bytes said rest going fault is.
+    unfinished_more said rest (c.args.self.now.draft.lines + 1) fault (search rules) (ap (λ (k : ℕ). k + 1) going.draft.lines) (sym going.draft.next ∙ c.is_nothing.ensures.0 (search rules))
+    (λ none. (let started = (c.is_start.ensures (context_of c.args.self.now.draft) going.words going.line).1 (rest_none going none).0 in let fails = c.if-not-is_start.true in cc))
+
+pub returns-then-not-is_empty-clause-refused : goal.returns-then-not-is_empty-clause-refused
+returns-then-not-is_empty-clause-refused c = λ bytes said rest going fault is.
+    unfinished_more said rest (c.args.self.now.draft.lines + 1) fault (search rules) (ap (λ (k : ℕ). k + 1) going.draft.lines) (sym going.draft.next ∙ c.is_nothing.ensures.0 (search rules))
+    (λ none. (let empty = (c.is_empty.ensures going.text going.word).1 (rest_none going none).1 in let fails = c.if-not-is_empty.true in cc))
+
+pub returns-clause-whole : goal.returns-clause-whole
+returns-clause-whole c = λ bytes said rest going. (
+  none_rest going ((c.is_start.ensures (context_of c.args.self.now.draft) going.words going.line).0 (search rules)) ((c.is_empty.ensures going.text going.word).0 (search rules)),
+  sym going.draft.next ∙ c.is_nothing.ensures.0 (search rules),
+)

@@ -1,0 +1,20 @@
+// A reader of certificates in pieces.
+ghost use Rattle.cert_format.specs.Drafts.{IsBounded};
+ghost use Rattle.cert_format.specs.BoundedFacts.{IsBounded-prop};
+
+use crate::draft::Draft;
+use crate::line::LineState;
+use crate::reader::Standing;
+use cert_words::Word;
+use std::alloc::Global;
+
+/// Reads the text of a certificate in pieces, however it is cut. It holds what stands before the first node, and no node.
+#[derive(Drop)]
+pub struct CertReader {
+    pub(crate) alloc: Global,
+    pub(crate) standing: Standing,
+    pub(crate) draft: Draft,
+    pub(crate) line: LineState,
+    pub(crate) word: Word,
+    ghost bounded: { IsBounded draft } by { IsBounded-prop draft },
+}

@@ -1,0 +1,10 @@
+//! A word of a certificate's text, what stands between two blanks, that comes in pieces.
+//!
+//! [`Word`] holds a word of any length in a few bytes. At its end it says whether it is a keyword, a number or a step; a number past
+//! every limit is told by a number at the end of the range.
+#![tactic(auto)]
+
+mod number;
+mod word;
+
+pub use word::Word;
