@@ -1,15 +1,14 @@
 -- An unfolded state, and the nodes of it that have a weight, prove a matching least.
-use Rattle.std.proofs.Common.{◌≡◌, ◌≢◌, ℕ, zero, suc, ◌+◌, ◌*◌, ◌%◌, ◌<◌, ◌≤◌, Bool, true, false, not, ◌&&◌, cond, ltb, List, Result, Ok, Err, IfOk, length, get_or, refl, sym, subst, ap, ◌∙◌, arith, inl, inr, ◌⊎◌}
+use Rattle.std.proofs.Common.{◌≡◌, ◌≢◌, ℕ, ◌*◌, ◌%◌, ◌<◌, ◌≤◌, Bool, true, false, not, ◌&&◌, cond, ltb, length, get_or, refl, sym, subst, ap, ◌∙◌, arith, inl, inr, ◌⊎◌}
 use Rattle.std.proofs.lemmas.Bool.{cases_order, false≢true}
 use Rattle.blossom_match.specs.declared.costs.Costs.{Costs}
 use Rattle.blossom_match.specs.declared.state.State.{State}
 use Rattle.blossom_match.specs.declared.least.Matching.{Matching}
-use Rattle.blossom_match.specs.Matching.{total, IsPerfect, IsPacking, IsOdd, IsProved, IsFamily, Within, Apart, AreLaminar, AreDistinct, members, matching_cost, separating, parts}
+use Rattle.blossom_match.specs.Matching.{total, IsPerfect, IsPacking, IsProved, IsFamily, Within, AreLaminar, members, matching_cost, separating, parts}
 use Rattle.blossom_match.specs.Table.{cost}
-use Rattle.blossom_match.specs.Views.{holds, is_used, between}
-use Rattle.blossom_match.specs.Between.{AreSets}
-use Rattle.blossom_match.specs.Unfolded.{LeadsOutOnce, IsUnfolded, ArePicked, mate_of, listed}
-use Rattle.blossom_match.specs.Answer.{IsLeastBy, IsListed, IsMatching, mate_in, set_in, halves_in, sets_in, len_in, member_in}
+use Rattle.blossom_match.specs.Views.{holds, is_used}
+use Rattle.blossom_match.specs.Unfolded.{LeadsOutOnce, IsUnfolded, ArePicked, mate_of}
+use Rattle.blossom_match.specs.Answer.{IsLeastBy, IsListed, mate_in, set_in, halves_in, len_in, member_in}
 use Rattle.blossom_match.proofs.Listing.{listed_is}
 use Rattle.blossom_match.proofs.Totals.{total-ext, total-two, total-none, total-only}
 use Rattle.blossom_match.proofs.Duality.{leads_out, two_sums}
@@ -161,6 +160,7 @@ least_by state m costs un few size long mates picked =
         rising = λ i below. omega (arith, picked.long i below);
         last = picked.within;
       };
+      some = λ i below. omega (arith, picked.weight i below, picked.some i below);
       listed = λ i below. subst (λ k. IsListed k (len_in m i) (member_in m i)) (sym size) (rows_of state m size picked i below).1;
       proved = subst (λ k. IsProved k (cost costs) (mate_in m) (length m.weights.items) (set_in m) (halves_in m)) un.shape.size_is proved;
     }

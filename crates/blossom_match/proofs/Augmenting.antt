@@ -1,21 +1,16 @@
 -- A pair that is matched, and the mates on the way up.
-use Rattle.std.proofs.Common.{◌≡◌, ◌≢◌, ◌⊎◌, ℕ, zero, suc, ◌+◌, ◌*◌, ◌-◌, ◌%◌, ◌<◌, ◌≤◌, Bool, true, false, cond, List, Option, Some, None, IfSome, IsSome, IsSomeAnd, length, slice_index, get_or, set, refl, sym, subst, ap, ◌∙◌, arith, inl, inr}
+use Rattle.std.proofs.Common.{◌≡◌, ◌≢◌, ◌⊎◌, ℕ, ◌<◌, List, Option, Some, None, IfSome, length, slice_index, set, refl, sym, subst, ap, ◌∙◌, arith, inl, inr}
 use Rattle.std.proofs.lemmas.Bool.{cases_eq}
 use Rattle.std.proofs.lemmas.List.{get_or-set_same, get_or-set_other}
 use Rattle.std.proofs.Math.ListN.{length-set}
 use Rattle.blossom_match.specs.declared.costs.Costs.{Costs}
 use Rattle.blossom_match.specs.declared.state.State.{State}
 use Rattle.blossom_match.specs.declared.state.Pair.{Pair}
-use Rattle.blossom_match.specs.declared.state.Label.{Label}
-use Rattle.blossom_match.specs.declared.state.Label.TheVariants.{Free, Outer, Inner}
-use Rattle.blossom_match.specs.Matching.{total}
 use Rattle.blossom_match.specs.Table.{cost, IsTable}
-use Rattle.blossom_match.specs.Views.{label_at, mate_at, link_at, turned}
-use Rattle.blossom_match.specs.Between.{AreMatched, IsBetween, IsTight, IsMatched, HasMate}
-use Rattle.blossom_match.specs.Branching.{IsBranching, IsRung, KeepsBut, inner_nodes, is_inner}
-use Rattle.blossom_match.proofs.Measuring.{total-less}
-use Rattle.blossom_match.proofs.Moving.{is_some_at, is_some_map, if_some_map, some_not_none}
-use Rattle.blossom_match.proofs.Growing.{if_some_at}
+use Rattle.blossom_match.specs.Views.{mate_at, turned}
+use Rattle.blossom_match.specs.Between.{AreMatched, IsBetween, IsTight, IsMatched}
+use Rattle.blossom_match.specs.Branching.{IsBranching}
+use Rattle.blossom_match.proofs.Moving.{if_some_map, some_not_none}
 
 -- all but the mates and the labels is the same
 pub record IsRematched (before now : State) : Type 0 where

@@ -1,8 +1,7 @@
 -- Ways up the tree.
-use Rattle.std.proofs.Common.{◌≡◌, ◌≢◌, ◌⊎◌, ℕ, zero, suc, ◌+◌, ◌*◌, ◌-◌, ◌%◌, ◌<◌, ◌≤◌, Bool, true, false, cond, List, Option, Some, None, is_some, IfSome, IsSomeAnd, length, slice_index, get_or, set, refl, sym, subst, ap, ◌∙◌, arith, inl, inr}
+use Rattle.std.proofs.Common.{◌≡◌, ◌≢◌, ◌⊎◌, ℕ, zero, suc, ◌+◌, ◌<◌, ◌≤◌, cond, List, Option, Some, None, is_some, IfSome, IsSomeAnd, length, slice_index, set, refl, sym, subst, ap, ◌∙◌, arith, inl, inr}
 use Rattle.std.proofs.lemmas.Bool.{cases_eq, cases_lt}
 use Rattle.std.proofs.lemmas.List.{get_or-set_same, get_or-set_other, get_or_past}
-use Rattle.std.proofs.Math.ListN.{length-set}
 use Rattle.blossom_match.specs.declared.state.Pair.{Pair}
 use Rattle.blossom_match.specs.declared.ways.Join.{Join}
 use Rattle.blossom_match.specs.Matching.{total}
@@ -24,9 +23,6 @@ none_number k e = cc
 ones : (n : ℕ) → total n (λ s. 1) ≡ n
 ones zero = refl
 ones (suc n) = omega (arith, ones n)
-
-mark_of : Option ℕ → ℕ
-mark_of o = cond (is_some o) 0 1
 
 at_most_one : (o : Option ℕ) → cond {A = ℕ} (is_some o) 0 1 ≤ 1
 at_most_one None = omega arith
@@ -86,44 +82,43 @@ marked_more top entry slots from root way node steps long m other =
     let at = get_or-set_same way (above top entry node) (Some (steps + 1)) None (omega (arith, up_in, long)) in
     let next : climb top entry (steps + 1) from ≡ above top entry node =
     (let e : steps + 1 ≡ suc steps = omega arith in ap (λ j. climb top entry j from) e ∙ ap (λ x. above top entry x) m.at) in
-    let less = fewer slots way (above top entry node) (steps + 1) up_in (omega (arith, up_in, long)) none in
-    (record {
-      up = m.up;
-      at = next;
-      here = here;
-      marks = λ k below. elim (cases_eq k (steps + 1)) [
-        | inl same ↦ subst (λ j. way_at (set way (above top entry node) (Some (steps + 1))) (climb top entry j from) ≡ Some j) (sym same)
-            (ap (λ x. way_at (set way (above top entry node) (Some (steps + 1))) x) next ∙ at)
-        | inr differs ↦
-            let old = m.marks k (omega (arith, differs, below)) in
-            get_or-set_other way (above top entry node) (climb top entry k from) (Some (steps + 1)) None
-            (λ e. none_number k (sym none ∙ ap (λ x. way_at way x) (sym e) ∙ old)) ∙ old
-      ];
-      only = λ s k is. elim (cases_eq s (above top entry node)) [
-        | inl same ↦
-            let e : k ≡ steps + 1 = some_number k (steps + 1) (sym is ∙ ap (λ x. way_at (set way (above top entry node) (Some (steps + 1))) x) same ∙ at) in
-            (omega (arith, e), ap (λ j. climb top entry j from) e ∙ next ∙ sym same)
-        | inr differs ↦
-            let old = m.only s k (sym (get_or-set_other way (above top entry node) s (Some (steps + 1)) None differs) ∙ is) in
-            (omega (arith, old.0), old.1)
-      ];
-      higher = λ s k is. elim (cases_eq s (above top entry node)) [
-        | inl same ↦ (let e = ap m.up.height same in omega (arith, e))
-        | inr differs ↦
-            let old = m.higher s k (sym (get_or-set_other way (above top entry node) s (Some (steps + 1)) None differs) ∙ is) in
-            omega (arith, old, m.up.lower node m.here other)
-      ];
-      count = omega (arith, m.count, less);
-    }, less)
+    let less = fewer slots way (above top entry node) (steps + 1) up_in (omega (arith, up_in, long)) none in (
+      record {
+        up = m.up;
+        at = next;
+        here = here;
+        marks = λ k below. elim (cases_eq k (steps + 1)) [
+          | inl same ↦ subst (λ j. way_at (set way (above top entry node) (Some (steps + 1))) (climb top entry j from) ≡ Some j) (sym same)
+              (ap (λ x. way_at (set way (above top entry node) (Some (steps + 1))) x) next ∙ at)
+          | inr differs ↦
+              let old = m.marks k (omega (arith, differs, below)) in
+              get_or-set_other way (above top entry node) (climb top entry k from) (Some (steps + 1)) None
+              (λ e. none_number k (sym none ∙ ap (λ x. way_at way x) (sym e) ∙ old)) ∙ old
+        ];
+        only = λ s k is. elim (cases_eq s (above top entry node)) [
+          | inl same ↦
+              let e : k ≡ steps + 1 = some_number k (steps + 1) (sym is ∙ ap (λ x. way_at (set way (above top entry node) (Some (steps + 1))) x) same ∙ at) in
+              (omega (arith, e), ap (λ j. climb top entry j from) e ∙ next ∙ sym same)
+          | inr differs ↦
+              let old = m.only s k (sym (get_or-set_other way (above top entry node) s (Some (steps + 1)) None differs) ∙ is) in
+              (omega (arith, old.0), old.1)
+        ];
+        higher = λ s k is. elim (cases_eq s (above top entry node)) [
+          | inl same ↦ (let e = ap m.up.height same in omega (arith, e))
+          | inr differs ↦
+              let old = m.higher s k (sym (get_or-set_other way (above top entry node) s (Some (steps + 1)) None differs) ∙ is) in
+              omega (arith, old, m.up.lower node m.here other)
+        ];
+        count = omega (arith, m.count, less);
+      },
+      less,
+    )
 
 pub marked_last : (top : List ℕ) (entry : List Pair) (slots from root : ℕ) (way : List (Option ℕ)) (node steps : ℕ) → IsMarking top entry slots from root way node steps → node ≡ root → IsWay top entry from root way
 marked_last top entry slots from root way node steps m is = record { len = steps; ends = m.at ∙ is; marks = m.marks; only = m.only }
 
-climb_more : (top : List ℕ) (entry : List Pair) (k from node : ℕ) → climb top entry k from ≡ node → climb top entry (k + 1) from ≡ above top entry node
-climb_more top entry k from node is = let e : k + 1 ≡ suc k = omega arith in ap (λ j. climb top entry j from) e ∙ ap (λ x. above top entry x) is
-
 pub climb_on : (top : List ℕ) (entry : List Pair) (k from node : ℕ) → climb top entry k from ≡ node → climb top entry (k + 1) from ≡ above top entry node
-climb_on top entry k from node is = climb_more top entry k from node is
+climb_on top entry k from node is = let e : k + 1 ≡ suc k = omega arith in ap (λ j. climb top entry j from) e ∙ ap (λ x. above top entry x) is
 
 pub down_more : (top : List ℕ) (entry : List Pair) (from steps k node slots : ℕ) (next next' : List ℕ) (link link' : List Pair) (pair : Pair) → IsTrail top entry slots from steps → k < steps →
     slots ≡ length next' → slots ≡ length link' → climb top entry k from ≡ node → pair ≡ turned (link_at entry node) →

@@ -1,28 +1,17 @@
 -- One node is made of an odd cycle: the matched pairs and the bases are kept.
-use Rattle.std.proofs.Common.{◌≡◌, ◌≢◌, ◌⊎◌, ℕ, zero, suc, ◌+◌, ◌*◌, ◌-◌, ◌%◌, ◌<◌, ◌≤◌, Bool, true, false, not, ◌&&◌, ◌||◌, cond, eqb, ltb, List, Option, Some, None, is_some, IfSome, IsSomeAnd, length, slice_index, get_or, set, refl, sym, subst, ap, ◌∙◌, arith, inl, inr}
-use Rattle.std.proofs.lemmas.Bool.{cases_eq, cases_lt, cases_order, cases_Bool, false≢true, eq-eqb, ne_eqb, eqb-true, le-ltb, or_right, false_from_ne_true}
+use Rattle.std.proofs.Common.{◌≡◌, ◌≢◌, ℕ, ◌+◌, ◌*◌, ◌<◌, Bool, true, false, Some, None, IfSome, length, slice_index, sym, subst, ap, ◌∙◌, arith, inl, inr}
+use Rattle.std.proofs.lemmas.Bool.{cases_eq, cases_Bool, false≢true, false_from_ne_true}
 use Rattle.std.proofs.lemmas.List.{get_or-set_same, get_or-set_other}
 use Rattle.std.proofs.Math.ListN.{length-set}
 use Rattle.blossom_match.specs.declared.costs.Costs.{Costs}
 use Rattle.blossom_match.specs.declared.state.State.{State}
 use Rattle.blossom_match.specs.declared.state.Pair.{Pair}
-use Rattle.blossom_match.specs.declared.state.Label.{Label}
-use Rattle.blossom_match.specs.declared.state.Label.TheVariants.{Free, Outer, Inner}
-use Rattle.blossom_match.specs.Matching.{total, members, parts, IsOdd, Within, Apart, AreLaminar, AreDistinct}
-use Rattle.blossom_match.specs.Table.{cost}
-use Rattle.blossom_match.specs.Views.{holds, held_sum, between, label_at, mate_at, link_at, child_at, is_used, turned}
-use Rattle.blossom_match.specs.Turns.{top_of, sum_of, label_of}
-use Rattle.blossom_match.specs.Rings.{IsRing, IsSlot, IsShrunk}
-use Rattle.blossom_match.specs.Between.{AreTops, AreSets, AreWeights, AreCycles, AreMatched, AreBased, IsCycle, IsLink, IsMatched, IsTight, IsShape, IsBetween, IsSearching, after}
-use Rattle.blossom_match.proofs.Totals.{total-ext, total-none, total-only, total-swap}
-use Rattle.blossom_match.proofs.Duality.{some_or_none}
-use Rattle.blossom_match.proofs.Raising.{between_apart, cond_same}
-use Rattle.blossom_match.proofs.Moving.{if_some_map, some_not_none}
-use Rattle.blossom_match.proofs.Growing.{if_some_at}
-use Rattle.blossom_match.proofs.Limits.{top_used}
-use Rattle.blossom_match.proofs.Answering.{laminar_same}
-use Rattle.blossom_match.proofs.Keeping.{odd_member, cycle_moved, child_inside}
-use Rattle.blossom_match.proofs.Shrinking.{Shrunk, no_top, on_top, on_other, on_used, used_off, held_top, top_holds, top_on, top_off, used_whole, shrunk_sets, shrunk_tops, shrunk_weights, shrunk_cycles}
+use Rattle.blossom_match.specs.Matching.{Within}
+use Rattle.blossom_match.specs.Views.{holds, mate_at, is_used, turned}
+use Rattle.blossom_match.specs.Turns.{top_of}
+use Rattle.blossom_match.specs.Between.{AreMatched, AreBased, IsMatched, IsTight, IsShape, IsBetween}
+use Rattle.blossom_match.proofs.Moving.{if_some_map}
+use Rattle.blossom_match.proofs.Shrinking.{Shrunk, no_top, on_top, on_used, used_off, held_top, top_holds, top_on, top_off, shrunk_sets, shrunk_tops, shrunk_weights, shrunk_cycles}
 
 pub mate_whole : (costs : Costs) (before now : State) (on : ℕ → Bool) (whole end : ℕ) → Shrunk costs before now on whole end → mate_at now.mate.items whole ≡ mate_at before.mate.items end
 mate_whole costs before now on whole end x =
@@ -142,13 +131,13 @@ shrunk_based costs before now on whole end x =
     let s_used = sym (used_off costs before now on whole end x s other) ∙ used in
     elim (cases_eq (n + slice_index base s) whole) [
       | inl same ↦ (
-          λ e. other (e ∙ same),
-          (let alike : slice_index base s ≡ slice_index base x.slot.part = omega (arith, same, x.slot.named) in
-          let in_base = old.base_in s s_in s_used in
-          let tops_alike : top_of before (slice_index base s) ≡ x.slot.part = ap (λ y. top_of before y) alike ∙ top_base x.slot.part x.slot.part_on in
-          λ v v_in at. ap (λ y. holds n now.held.items y v) same ∙ x.is.row v v_in
-              ∙ ap on (b.tops.inside s v (slice_index base s) s_in v_in in_base (sym (x.is.rows s v v_in other) ∙ at) (old.own s s_in s_used) ∙ tops_alike) ∙ x.slot.part_on),
-        )
+        λ e. other (e ∙ same),
+        (let alike : slice_index base s ≡ slice_index base x.slot.part = omega (arith, same, x.slot.named) in
+            let in_base = old.base_in s s_in s_used in
+            let tops_alike : top_of before (slice_index base s) ≡ x.slot.part = ap (λ y. top_of before y) alike ∙ top_base x.slot.part x.slot.part_on in
+            λ v v_in at. ap (λ y. holds n now.held.items y v) same ∙ x.is.row v v_in
+            ∙ ap on (b.tops.inside s v (slice_index base s) s_in v_in in_base (sym (x.is.rows s v v_in other) ∙ at) (old.own s s_in s_used) ∙ tops_alike) ∙ x.slot.part_on),
+      )
       | inr differs ↦
           let c = old.claimed s s_in s_used (sym (used_off costs before now on whole end x (n + slice_index base s) differs) ∙ claims) in
           (c.0, λ v v_in at. x.is.rows (n + slice_index base s) v v_in differs ∙ c.1 v v_in (sym (x.is.rows s v v_in other) ∙ at))

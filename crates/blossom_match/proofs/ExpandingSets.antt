@@ -1,21 +1,20 @@
 -- The sets, the outermost nodes and the weights once a node of weight 0 is put away.
-use Rattle.std.proofs.Common.{◌≡◌, ◌≢◌, ◌⊎◌, ℕ, zero, suc, ◌+◌, ◌*◌, ◌%◌, ◌<◌, ◌≤◌, Bool, true, false, ◌||◌, cond, ltb, List, Option, Some, None, is_some, IfSome, IsSomeAnd, length, slice_index, refl, sym, subst, ap, ◌∙◌, arith, inl, inr}
-use Rattle.std.proofs.lemmas.Bool.{cases_eq, cases_lt, cases_Bool, false≢true, false_from_ne_true, true_from_ne_false}
+use Rattle.std.proofs.Common.{◌≡◌, ◌≢◌, ℕ, ◌+◌, ◌*◌, ◌%◌, ◌<◌, ◌≤◌, Bool, true, false, ◌||◌, cond, ltb, List, Option, Some, None, is_some, IfSome, IsSomeAnd, slice_index, refl, sym, subst, ap, ◌∙◌, arith, inl, inr}
+use Rattle.std.proofs.lemmas.Bool.{cases_eq, cases_lt, false≢true, true_from_ne_false}
 use Rattle.blossom_match.specs.declared.costs.Costs.{Costs}
 use Rattle.blossom_match.specs.declared.state.Pair.{Pair}
-use Rattle.blossom_match.specs.Matching.{total, members, parts, Within, Apart, IsOdd, AreLaminar, AreDistinct}
+use Rattle.blossom_match.specs.Matching.{members, parts, AreLaminar}
 use Rattle.blossom_match.specs.Table.{cost}
-use Rattle.blossom_match.specs.Views.{holds, held_sum, between, turned, link_at, mate_at, child_at, is_used}
-use Rattle.blossom_match.specs.Between.{IsCycle, AreSets, AreTops, AreWeights, AreCycles, AreMatched, AreBased, IsMatched, IsTight, after}
-use Rattle.blossom_match.specs.Unfolding.{AreParts, IsPaired}
+use Rattle.blossom_match.specs.Views.{holds, held_sum, between, mate_at, child_at, is_used}
+use Rattle.blossom_match.specs.Between.{IsCycle, AreSets, AreTops, AreWeights, AreCycles, AreMatched, AreBased, IsMatched, after}
+use Rattle.blossom_match.specs.Unfolding.{IsPaired}
 use Rattle.blossom_match.proofs.Totals.{total-ext}
 use Rattle.blossom_match.proofs.Raising.{between_apart}
 use Rattle.blossom_match.proofs.Keeping.{cycle_moved, child_inside}
 use Rattle.blossom_match.proofs.Moving.{if_some_map}
-use Rattle.blossom_match.proofs.RowsNested.{IsNest, in_child, child_fewer, some_slot, option_cases, if_some_number}
-use Rattle.blossom_match.proofs.RowsOpening.{IsOpening}
-use Rattle.blossom_match.proofs.UnfoldingTops.{IsOpenedTop, IsInChild, IsElsewhere, where_now, not_child, opened_parts, matched_child, matched_elsewhere, some_pair}
-use Rattle.blossom_match.proofs.UnfoldingSets.{in_by_top, not_topmost, inside_held, pair_elsewhere}
+use Rattle.blossom_match.proofs.RowsNested.{IsNest, in_child, child_fewer, some_slot}
+use Rattle.blossom_match.proofs.UnfoldingTops.{IsOpenedTop, where_now, not_child, opened_parts, matched_child, matched_elsewhere}
+use Rattle.blossom_match.proofs.UnfoldingSets.{in_by_top, not_topmost}
 
 -- the row of a node of weight 0 is empty, and its slot is free
 pub record IsGone (n : ℕ) (held held' : List Bool) (halves : List ℕ) (child child' : List (Option ℕ)) (s : ℕ) : Type 0 where
@@ -60,7 +59,7 @@ sets_gone n held held' halves child child' s g sets = record {
       let t_not = other_used n held held' halves child child' s g t t_used in
       let u_not = other_used n held held' halves child child' s g u u_used in
       sets.distinct t u t_in u_in (was_used n held held' halves child child' s g t t_used) (was_used n held held' halves child child' s g u u_used) other
-          (λ v v_in. sym (g.rows t v v_in t_not) ∙ alike v v_in ∙ g.rows u v v_in u_not);
+      (λ v v_in. sym (g.rows t v v_in t_not) ∙ alike v v_in ∙ g.rows u v v_in u_not);
   empty = λ t v t_in v_in unused. elim (cases_eq t s) [
     | inl same ↦ ap (λ x. holds n held' x v) same ∙ g.row v v_in
     | inr t_not ↦ g.rows t v v_in t_not ∙ sets.empty t v t_in v_in (sym (still_used n held held' halves child child' s g t t_not) ∙ unused)
@@ -202,8 +201,7 @@ based_gone n held held' halves child child' base s g b = record {
   own = λ t t_in used. g.rows t (slice_index base t) (b.base_in t t_in (was_used n held held' halves child child' s g t used)) (other_used n held held' halves child child' s g t used)
       ∙ b.own t t_in (was_used n held held' halves child child' s g t used);
   claimed = λ t t_in used claimed.
-      let old = b.claimed t t_in (was_used n held held' halves child child' s g t used) (was_used n held held' halves child child' s g (n + slice_index base t) claimed) in
-      (
+      let old = b.claimed t t_in (was_used n held held' halves child child' s g t used) (was_used n held held' halves child child' s g (n + slice_index base t) claimed) in (
         old.0,
         λ v v_in on. g.rows (n + slice_index base t) v v_in (other_used n held held' halves child child' s g (n + slice_index base t) claimed)
             ∙ old.1 v v_in (sym (g.rows t v v_in (other_used n held held' halves child child' s g t used)) ∙ on),

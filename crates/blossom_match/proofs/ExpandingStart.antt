@@ -1,20 +1,20 @@
 -- The inner node of weight 0 that is put away.
-use Rattle.std.proofs.Common.{◌≡◌, ◌≢◌, ◌⊎◌, ℕ, zero, suc, ◌+◌, ◌*◌, ◌%◌, ◌<◌, ◌≤◌, Bool, true, false, cond, List, Option, Some, None, length, slice_index, refl, sym, subst, ap, ◌∙◌, arith, inl, inr}
+use Rattle.std.proofs.Common.{◌≡◌, ℕ, ◌*◌, ◌<◌, ◌≤◌, Bool, true, List, Some, slice_index, sym, subst, ap, ◌∙◌, arith}
 use Rattle.blossom_match.specs.declared.costs.Costs.{Costs}
 use Rattle.blossom_match.specs.declared.state.State.{State}
 use Rattle.blossom_match.specs.declared.state.Pair.{Pair}
-use Rattle.blossom_match.specs.Table.{cost, IsAsked}
+use Rattle.blossom_match.specs.Table.{IsAsked}
 use Rattle.blossom_match.specs.Views.{holds, mate_at, link_at, child_at, is_used}
 use Rattle.blossom_match.specs.Turns.{IsSpent, top_of}
 use Rattle.blossom_match.specs.Between.{IsSearching, IsMatched, IsReached, IsCycle, AreTops, after}
-use Rattle.blossom_match.specs.Cycles.{IsOpened, IsRound}
+use Rattle.blossom_match.specs.Cycles.{IsRound}
 use Rattle.blossom_match.specs.Unfolding.{AreParts, IsPaired}
 use Rattle.blossom_match.specs.Expanding.{IsCircle, IsPutAway}
 use Rattle.blossom_match.proofs.Augmenting.{some_same}
 use Rattle.blossom_match.proofs.Limits.{inside_of, IsInside, top_used}
 use Rattle.blossom_match.proofs.RowsAround.{round_of, few_children, child_apart}
 use Rattle.blossom_match.proofs.RowsNested.{if_some_number}
-use Rattle.blossom_match.proofs.RowsOpening.{IsOpenable, IsOpening, opening_of}
+use Rattle.blossom_match.proofs.RowsOpening.{IsOpenable, opening_of}
 use Rattle.blossom_match.proofs.UnfoldingTops.{IsOpenedTop}
 use Rattle.blossom_match.proofs.ExpandingSets.{IsGone, paired_of}
 
@@ -85,7 +85,6 @@ pub put_circle : (costs : Costs) (before now : State) (s first len slots : ℕ) 
     2 * before.size ≡ slots → IsCircle before.next.items slots len (top_of now p.inside)
 put_circle costs before now s first len slots p o is a slots_is =
     let z = put_opening costs before now s first len p o is a in
-    let y = z.0.opening.cycle in
     let at : IsCircle before.next.items (2 * before.size) z.0.opening.cycle.len (top_of now p.inside) =
     record {
       odd = z.0.opening.cycle.odd;

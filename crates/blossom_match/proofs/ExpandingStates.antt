@@ -1,25 +1,24 @@
 -- The state once an inner node is put away.
-use Rattle.std.proofs.Common.{◌≡◌, ◌≢◌, ◌⊎◌, ℕ, zero, suc, ◌+◌, ◌*◌, ◌-◌, ◌/◌, ◌%◌, ◌<◌, ◌≤◌, Bool, true, false, not, ◌&&◌, ◌||◌, cond, ltb, List, Option, Some, None, is_some, IsSome, IsSomeAnd, IfSome, length, slice_index, refl, sym, subst, ap, ◌∙◌, arith, inl, inr}
-use Rattle.std.proofs.lemmas.Bool.{cases_eq, cases_lt, cases_Bool, false≢true, false_from_ne_true}
+use Rattle.std.proofs.Common.{◌≡◌, ℕ, zero, suc, ◌+◌, ◌*◌, ◌-◌, ◌<◌, ◌≤◌, Bool, true, false, not, ◌&&◌, ◌||◌, cond, List, Option, Some, None, IsSome, IsSomeAnd, length, slice_index, refl, sym, subst, ap, ◌∙◌, arith, inl, inr}
+use Rattle.std.proofs.lemmas.Bool.{cases_eq, cases_Bool, false≢true, false_from_ne_true}
 use Rattle.blossom_match.specs.declared.costs.Costs.{Costs}
 use Rattle.blossom_match.specs.declared.state.State.{State}
 use Rattle.blossom_match.specs.declared.state.Pair.{Pair}
 use Rattle.blossom_match.specs.declared.state.Label.{Label}
 use Rattle.blossom_match.specs.declared.state.Label.TheVariants.{Free, Outer, Inner}
-use Rattle.blossom_match.specs.Matching.{total}
-use Rattle.blossom_match.specs.Table.{cost, IsAsked}
-use Rattle.blossom_match.specs.Views.{holds, between, link_at, mate_at, child_at, label_at, is_used, is_outer, any_below, outer_members, has_outer, bare_nodes, to_do}
+use Rattle.blossom_match.specs.Table.{IsAsked}
+use Rattle.blossom_match.specs.Views.{holds, link_at, mate_at, child_at, label_at, is_used, is_outer, any_below, outer_members, has_outer, bare_nodes, to_do}
 use Rattle.blossom_match.specs.Turns.{IsSpent, top_of, label_of}
 use Rattle.blossom_match.specs.Growth.{IsGrowth}
-use Rattle.blossom_match.specs.Between.{IsSearching, IsBetween, AreTops, AreWeights, HasMate, KeepsRoot, after}
+use Rattle.blossom_match.specs.Between.{IsSearching, AreTops, AreWeights, KeepsRoot, after}
 use Rattle.blossom_match.specs.Unfolding.{IsPaired}
 use Rattle.blossom_match.specs.Expanding.{IsPutAway, IsWayIn}
 use Rattle.blossom_match.proofs.Measuring.{total-less, less_to_do}
 use Rattle.blossom_match.proofs.Totals.{total-ext}
 use Rattle.blossom_match.proofs.Keeping.{odd_member}
-use Rattle.blossom_match.proofs.UnfoldingTops.{IsOpenedTop, some_pair, not_child, matched_child, where_now}
+use Rattle.blossom_match.proofs.UnfoldingTops.{not_child, matched_child, where_now}
 use Rattle.blossom_match.proofs.ExpandingSets.{IsGone, sets_gone, tops_gone, weights_gone, cycles_gone, matched_gone, based_gone, tight_sums, still_used, other_used}
-use Rattle.blossom_match.proofs.ExpandingStart.{IsSpentTop, spent_top, put_opening, put_gone}
+use Rattle.blossom_match.proofs.ExpandingStart.{spent_top, put_opening, put_gone}
 use Rattle.blossom_match.proofs.ExpandingWay.{IsExpanding, node, outer_off, label_kept, mate_kept, way_cases, old_node, even_label}
 use Rattle.blossom_match.proofs.ExpandingTree.{tree_now}
 
@@ -134,19 +133,18 @@ expanded_keeps costs before mid now s first len p d =
     let a = d.away in
     let r = d.relabelled in
     let f = facts costs before mid now s first len p d in
-    let x = f.x in
     let root_off = outer_off f.x before.root f.x.searching.tree.root_in f.x.searching.tree.root_outer in
     record {
       size = r.size ∙ a.size;
       root = r.root ∙ a.root;
       kept = λ w w_in has. inl (rw (r.mate, r.top) (elim (where_now costs before.size before.held.items before.halves.items before.child.items before.next.items before.link.items s (top_of mid p.inside) p
           before.top.items mid.top.items before.mate.items mid.mate.items f.x.z.opening w w_in) [
-        | inl i ↦ subst (λ t. IsSome (mate_at mid.mate.items t)) (sym i.at)
-            (is_some_of (mate_at mid.mate.items (after before.next.items i.place (top_of mid p.inside)))
-            (IsPaired costs before.size before.held.items before.halves.items mid.top.items mid.mate.items (after before.next.items i.place (top_of mid p.inside)))
-            (matched_child costs before.size before.held.items before.halves.items before.child.items before.next.items before.link.items s (top_of mid p.inside) p before.top.items mid.top.items before.mate.items mid.mate.items f.x.z i.place i.place_in))
-        | inr e ↦ subst (λ o. IsSome o) (sym (ap (λ t. mate_at mid.mate.items t) e.at ∙ mate_kept f.x w w_in e.not_held)) has
-      ]));
+            | inl i ↦ subst (λ t. IsSome (mate_at mid.mate.items t)) (sym i.at)
+                (is_some_of (mate_at mid.mate.items (after before.next.items i.place (top_of mid p.inside)))
+                (IsPaired costs before.size before.held.items before.halves.items mid.top.items mid.mate.items (after before.next.items i.place (top_of mid p.inside)))
+                (matched_child costs before.size before.held.items before.halves.items before.child.items before.next.items before.link.items s (top_of mid p.inside) p before.top.items mid.top.items before.mate.items mid.mate.items f.x.z i.place i.place_in))
+            | inr e ↦ subst (λ o. IsSome o) (sym (ap (λ t. mate_at mid.mate.items t) e.at ∙ mate_kept f.x w w_in e.not_held)) has
+          ]));
       together = λ w w_in same. rw (r.top, r.root, a.root)
           (let w_off : holds before.size before.held.items s w ≡ false = outer_off f.x w w_in (ap (λ t. label_at before.label.items t) same ∙ f.x.searching.tree.root_outer) in
           f.x.z.opening.off w w_in w_off ∙ same ∙ sym (f.x.z.opening.off before.root f.x.searching.tree.root_in root_off));
@@ -205,7 +203,7 @@ same_outer {costs = costs} {before = before} {s = s} {base = base} {p = p} {top'
                 let t_in : slice_index top' v < 2 * before.size = subst (λ t. t < 2 * before.size) (sym i.at) (x.z.opening.cycle.in_slots i.place i.place_in) in
                 let o = old_node x (slice_index top' v) t_in away (λ free. outer_free (sym outer ∙ free)) in
                 not_child costs before.size before.held.items before.halves.items before.child.items before.next.items before.link.items s base before.top.items x.z.opening.cycle x.z.parts
-                    o.member o.member_in o.off i.place i.place_in (o.at ∙ i.at)
+                o.member o.member_in o.off i.place i.place_in (o.at ∙ i.at)
           ] in
           false_from_ne_true (is_outer (label_at label' (slice_index top' v))) (λ is. never (outer_of (label_at label' (slice_index top' v)) is))
           ∙ sym (ap is_outer (ap (λ t. label_at before.label.items t) (x.z.topmost v v_in i.held_in) ∙ x.inner))
@@ -228,7 +226,6 @@ bare_less : {costs : Costs} {before : State} {s base : ℕ} {p : Pair} {top' : L
     (x : IsExpanding costs before s base p top' mate' label' entry') → x.way.turns ≡ 0 → IsGone before.size before.held.items held' before.halves.items before.child.items child' s → is_used before.size before.child.items s ≡ true →
     bare_nodes before.size held' top' child' label' < bare_nodes before.size before.held.items before.top.items before.child.items before.label.items
 bare_less {before = before} {s = s} {top' = top'} {label' = label'} held' child' x none g used =
-    let n = before.size in
     let gone : is_used before.size child' s ≡ false = false_from_ne_true (is_used before.size child' s)
     (λ on. other_used before.size before.held.items held' before.halves.items before.child.items child' s g s on refl) in
     let now_zero : ◌≡◌ {A = ℕ} (cond (is_used before.size child' s && not (has_outer before.size held' top' label' s)) 1 0) 0 = ap (λ b. cond {A = ℕ} (b && not (has_outer before.size held' top' label' s)) 1 0) gone in
@@ -250,7 +247,7 @@ bare_less {before = before} {s = s} {top' = top'} {label' = label'} held' child'
           any-ext before.size (λ v. holds before.size held' t v && is_outer (label_at label' (slice_index top' v))) (λ v. holds before.size before.held.items t v && is_outer (label_at before.label.items (slice_index before.top.items v)))
           (λ v v_in. ap (λ b. b && is_outer (label_at label' (slice_index top' v))) (g.rows t v v_in other) ∙ ap (λ b. holds before.size before.held.items t v && b) (same_outer x none v v_in)) in
           let alike : ◌≡◌ {A = ℕ} (cond (is_used before.size child' t && not (has_outer before.size held' top' label' t)) 1 0)
-              (cond (is_used before.size before.child.items t && not (has_outer before.size before.held.items before.top.items before.label.items t)) 1 0) =
+          (cond (is_used before.size before.child.items t && not (has_outer before.size before.held.items before.top.items before.label.items t)) 1 0) =
           ap (λ b. cond {A = ℕ} (b && not (has_outer before.size held' top' label' t)) 1 0) (still_used before.size before.held.items held' before.halves.items before.child.items child' s g t other)
           ∙ ap (λ b. cond {A = ℕ} (is_used before.size before.child.items t && not b) 1 0) holders in
           omega (arith, alike))

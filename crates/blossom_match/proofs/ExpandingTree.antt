@@ -1,24 +1,22 @@
 -- The tree once an inner node is put away.
-use Rattle.std.proofs.Common.{◌≡◌, ◌≢◌, ◌⊎◌, ℕ, zero, suc, ◌+◌, ◌*◌, ◌/◌, ◌%◌, ◌<◌, ◌≤◌, Bool, true, false, cond, List, Option, Some, None, IsSome, IsSomeAnd, IfSome, length, slice_index, refl, sym, subst, ap, ◌∙◌, arith, inl, inr}
-use Rattle.std.proofs.lemmas.Bool.{cases_eq, cases_lt, cases_Bool, false≢true, false_from_ne_true}
+use Rattle.std.proofs.Common.{◌≡◌, ◌≢◌, ◌⊎◌, ℕ, zero, suc, ◌+◌, ◌*◌, ◌/◌, ◌%◌, ◌<◌, ◌≤◌, false, List, Option, Some, IsSomeAnd, IfSome, slice_index, refl, sym, subst, ap, ◌∙◌, arith, inl, inr}
+use Rattle.std.proofs.lemmas.Bool.{cases_eq, cases_Bool, false_from_ne_true}
 use Rattle.std.proofs.Math.Nat.{mul-le-mul_left}
 use Rattle.blossom_match.specs.declared.costs.Costs.{Costs}
 use Rattle.blossom_match.specs.declared.state.State.{State}
 use Rattle.blossom_match.specs.declared.state.Pair.{Pair}
 use Rattle.blossom_match.specs.declared.state.Label.{Label}
 use Rattle.blossom_match.specs.declared.state.Label.TheVariants.{Free, Outer, Inner}
-use Rattle.blossom_match.specs.Table.{cost}
-use Rattle.blossom_match.specs.Views.{holds, between, turned, link_at, mate_at, label_at}
-use Rattle.blossom_match.specs.Between.{IsSearching, IsMatched, IsReached, IsTight, IsTree, after}
+use Rattle.blossom_match.specs.Views.{holds, turned, link_at, mate_at, label_at}
+use Rattle.blossom_match.specs.Between.{IsMatched, IsReached, IsTight, IsTree, after}
 use Rattle.blossom_match.proofs.Augmenting.{some_same}
 use Rattle.blossom_match.proofs.Growing.{if_some_at}
 use Rattle.blossom_match.proofs.Keeping.{odd_member}
-use Rattle.blossom_match.proofs.Moving.{is_some_map, if_some_map}
+use Rattle.blossom_match.proofs.Moving.{is_some_map}
 use Rattle.blossom_match.proofs.Raising.{inner_not_free, outer_not_free}
-use Rattle.blossom_match.proofs.UnfoldingTops.{IsOpenedTop, some_is, some_pair, not_child, pair_out, where_now}
+use Rattle.blossom_match.proofs.UnfoldingTops.{some_is, some_pair}
 use Rattle.blossom_match.proofs.UnfoldingSets.{at_base}
-use Rattle.blossom_match.proofs.ExpandingWay.{IsExpanding, IsOld, IsJoined, node, outer_off, off_way, other_node, label_kept, entry_kept, mate_kept, way_cases, old_node, even_label, odd_label, mate_up, mate_down, joined,
-    scale, floor, depth_now, depth_on, depth_off, nodes_apart}
+use Rattle.blossom_match.proofs.ExpandingWay.{IsExpanding, IsOld, node, outer_off, off_way, other_node, label_kept, entry_kept, mate_kept, way_cases, old_node, even_label, odd_label, mate_up, mate_down, joined, scale, floor, depth_now, depth_on, depth_off, nodes_apart}
 
 inner_outer : Inner ≡ Outer → ⊥
 inner_outer e = cc
@@ -35,7 +33,6 @@ record IsEntered {costs : Costs} {before : State} {s base : ℕ} {p : Pair} {top
 entered_first : {costs : Costs} {before : State} {s base : ℕ} {p : Pair} {top' : List ℕ} {mate' : List (Option Pair)} {label' : List Label} {entry' : List Pair} → (x : IsExpanding costs before s base p top' mate' label' entry') →
     IsEntered x 0
 entered_first {costs = costs} {before = before} {s = s} {base = base} {top' = top'} {label' = label'} {entry' = entry'} x =
-    let e = link_at before.entry.items s in
     let e_is : link_at entry' (node x 0) ≡ link_at before.entry.items s = ap (λ t. link_at entry' t) x.way.begins ∙ x.way.entered in
     let off : holds before.size before.held.items s (link_at before.entry.items s).outside ≡ false = outer_off x (link_at before.entry.items s).outside x.reached.entry_tight.outside_in x.reached.above in
     let at : slice_index top' (link_at before.entry.items s).outside ≡ slice_index before.top.items (link_at before.entry.items s).outside = x.z.opening.off (link_at before.entry.items s).outside x.reached.entry_tight.outside_in off in
@@ -44,7 +41,7 @@ entered_first {costs = costs} {before = before} {s = s} {base = base} {top' = to
     λ same. off_way x (link_at before.entry.items s).outside x.reached.entry_tight.outside_in off 0 (omega arith) (sym at ∙ sym same ∙ here) in
     let all : (q : Pair) → q ≡ link_at before.entry.items s → (y : IsTight costs before.size top' before.sums.items q) × (slice_index top' q.inside ≡ node x 0) × (slice_index top' q.outside ≡ slice_index before.top.items (link_at before.entry.items s).outside) =
     λ q is. subst (λ r. (y : IsTight costs before.size top' before.sums.items r) × (slice_index top' r.inside ≡ node x 0) × (slice_index top' r.outside ≡ slice_index before.top.items (link_at before.entry.items s).outside)) (sym is)
-        (record { inside_in = x.reached.entry_tight.inside_in; outside_in = x.reached.entry_tight.outside_in; apart = apart; tight = x.reached.entry_tight.tight }, here, at) in
+    (record { inside_in = x.reached.entry_tight.inside_in; outside_in = x.reached.entry_tight.outside_in; apart = apart; tight = x.reached.entry_tight.tight }, here, at) in
     let now = all (link_at entry' (node x 0)) e_is in
     record {
       tight = now.0;
@@ -72,18 +69,17 @@ entered_later {costs = costs} {before = before} {s = s} {base = base} {top' = to
     let apart : slice_index top' (link_at entry' (node x (suc (suc (2 * j))))).inside ≢ slice_index top' (link_at entry' (node x (suc (suc (2 * j))))).outside =
     λ same. nodes_apart x (suc (suc (2 * j))) (suc (2 * j)) (omega (arith, j_in)) (omega (arith, j_in)) (λ e. omega (arith, e)) (sym here ∙ same ∙ there) in
     let all : (k : ℕ) → suc (suc (2 * j)) ≡ k →
-        (y : IsTight costs before.size top' before.sums.items (link_at entry' (node x k))) × (slice_index top' (link_at entry' (node x k)).inside ≡ node x k) × (slice_index top' (link_at entry' (node x k)).outside ≡ node x (suc (2 * j))) =
-    λ k is. subst (λ k. (y : IsTight costs before.size top' before.sums.items (link_at entry' (node x k))) × (slice_index top' (link_at entry' (node x k)).inside ≡ node x k) × (slice_index top' (link_at entry' (node x k)).outside ≡ node x (suc (2 * j)))) is
-        (
-          record {
-            inside_in = w.inside_in;
-            outside_in = w.outside_in;
-            apart = apart;
-            tight = x.tight_now (link_at entry' (node x (suc (suc (2 * j))))).inside (link_at entry' (node x (suc (suc (2 * j))))).outside w.inside_in w.outside_in apart w.tight;
-          },
-          here,
-          there,
-        ) in
+    (y : IsTight costs before.size top' before.sums.items (link_at entry' (node x k))) × (slice_index top' (link_at entry' (node x k)).inside ≡ node x k) × (slice_index top' (link_at entry' (node x k)).outside ≡ node x (suc (2 * j))) =
+    λ k is. subst (λ k. (y : IsTight costs before.size top' before.sums.items (link_at entry' (node x k))) × (slice_index top' (link_at entry' (node x k)).inside ≡ node x k) × (slice_index top' (link_at entry' (node x k)).outside ≡ node x (suc (2 * j)))) is (
+      record {
+        inside_in = w.inside_in;
+        outside_in = w.outside_in;
+        apart = apart;
+        tight = x.tight_now (link_at entry' (node x (suc (suc (2 * j))))).inside (link_at entry' (node x (suc (suc (2 * j))))).outside w.inside_in w.outside_in apart w.tight;
+      },
+      here,
+      there,
+    ) in
     let now = all (2 * i) twice in
     record {
       tight = now.0;
@@ -158,8 +154,10 @@ deeper_at {top' = top'} {entry' = entry'} x i i_in e m =
   where
     less_plus : (a b c : ℕ) → b < c → a + b < a + c
     less_plus a b c less = omega (arith, less)
+
     less_most : (a b c d : ℕ) → b < c → a + c ≤ d → a + b < d
     less_most a b c d less up = omega (arith, less, up)
+
     within : (low i turns : ℕ) → low < suc (2 * i) → i ≤ turns → low < suc (2 * turns)
     within low i turns less below = omega (arith, less, below)
 
@@ -188,7 +186,6 @@ reached_old : {costs : Costs} {before : State} {s base : ℕ} {p : Pair} {top' :
 reached_old {costs = costs} {before = before} {s = s} {top' = top'} {mate' = mate'} {label' = label'} {entry' = entry'} x t t_in inner o =
     let mate_is : mate_at mate' t ≡ mate_at before.mate.items t = ap (λ y. mate_at mate' y) (sym o.at) ∙ mate_kept x o.member o.member_in o.off ∙ ap (λ y. mate_at before.mate.items y) o.at in
     let entry_is : link_at entry' t ≡ link_at before.entry.items t = ap (λ y. link_at entry' y) (sym o.at) ∙ entry_kept x o.member o.member_in o.off ∙ ap (λ y. link_at before.entry.items y) o.at in
-    let e = link_at before.entry.items t in
     subst (λ m. IsSomeAnd m (IsReached costs before.size top' before.sums.items label' (link_at entry' t) t)) (sym mate_is)
     (subst (λ q. IsSomeAnd (mate_at before.mate.items t) (IsReached costs before.size top' before.sums.items label' q t)) (sym entry_is)
     (is_some_map (mate_at before.mate.items t) (IsReached costs before.size before.top.items before.sums.items before.label.items (link_at before.entry.items t) t)
@@ -250,19 +247,19 @@ outer_old {costs = costs} {before = before} {s = s} {base = base} {p = p} {top' 
   | inr some ↦
       let mate_is : mate_at mate' t ≡ mate_at before.mate.items t = ap (λ y. mate_at mate' y) (sym o.at) ∙ mate_kept x o.member o.member_in o.off ∙ ap (λ y. mate_at before.mate.items y) o.at in
       inr (subst (λ m. IsSomeAnd m (λ q. label_at label' (slice_index top' q.outside) ≡ Inner)) (sym mate_is)
-          (is_some_map (mate_at before.mate.items t) (λ q. label_at before.label.items (slice_index before.top.items q.outside) ≡ Inner) (λ q. label_at label' (slice_index top' q.outside) ≡ Inner)
-          (λ q is inner.
-          let m = if_some_at (mate_at before.mate.items (slice_index before.top.items o.member)) (IsMatched costs before.size before.top.items before.sums.items before.mate.items (slice_index before.top.items o.member)) q
-          (ap (λ y. mate_at before.mate.items y) o.at ∙ is) (x.searching.so_far.matched o.member o.member_in) in
-          elim (cases_Bool (holds before.size before.held.items s q.outside)) [
-            | inl on ↦
-                let same : p ≡ turned q = some_same p (turned q) (sym x.z.matched ∙ ap (λ y. mate_at before.mate.items y) (sym (x.z.topmost q.outside m.tight.outside_in on)) ∙ m.back) in
-                let at : slice_index top' q.outside ≡ base = ap (λ y. slice_index top' y.inside) (sym same)
-                    ∙ at_base costs before.size before.held.items before.halves.items before.child.items before.next.items before.link.items s base p before.top.items top' before.mate.items mate' x.z in
-                ap (λ y. label_at label' y) at ∙ ap (λ k. label_at label' (after before.next.items k base)) (sym x.way.ends) ∙ x.way.inner x.way.turns (omega arith)
-            | inr off ↦ ap (λ y. label_at label' y) (x.z.opening.off q.outside m.tight.outside_in off) ∙ label_kept x q.outside m.tight.outside_in off ∙ inner
-          ])
-          some))
+      (is_some_map (mate_at before.mate.items t) (λ q. label_at before.label.items (slice_index before.top.items q.outside) ≡ Inner) (λ q. label_at label' (slice_index top' q.outside) ≡ Inner)
+      (λ q is inner.
+      let m = if_some_at (mate_at before.mate.items (slice_index before.top.items o.member)) (IsMatched costs before.size before.top.items before.sums.items before.mate.items (slice_index before.top.items o.member)) q
+      (ap (λ y. mate_at before.mate.items y) o.at ∙ is) (x.searching.so_far.matched o.member o.member_in) in
+      elim (cases_Bool (holds before.size before.held.items s q.outside)) [
+        | inl on ↦
+            let same : p ≡ turned q = some_same p (turned q) (sym x.z.matched ∙ ap (λ y. mate_at before.mate.items y) (sym (x.z.topmost q.outside m.tight.outside_in on)) ∙ m.back) in
+            let at : slice_index top' q.outside ≡ base = ap (λ y. slice_index top' y.inside) (sym same)
+            ∙ at_base costs before.size before.held.items before.halves.items before.child.items before.next.items before.link.items s base p before.top.items top' before.mate.items mate' x.z in
+            ap (λ y. label_at label' y) at ∙ ap (λ k. label_at label' (after before.next.items k base)) (sym x.way.ends) ∙ x.way.inner x.way.turns (omega arith)
+        | inr off ↦ ap (λ y. label_at label' y) (x.z.opening.off q.outside m.tight.outside_in off) ∙ label_kept x q.outside m.tight.outside_in off ∙ inner
+      ])
+      some))
 ]
 
 pub tree_now : {costs : Costs} {before : State} {s base : ℕ} {p : Pair} {top' : List ℕ} {mate' : List (Option Pair)} {label' : List Label} {entry' : List Pair} → (x : IsExpanding costs before s base p top' mate' label' entry') →
@@ -294,8 +291,8 @@ tree_now {costs = costs} {before = before} {s = s} {base = base} {p = p} {top' =
               let l = odd_label x k.0 k.1 odd in
               let q = mate_down x (k.0 / 2) l.2 in
               inr (some_is (mate_at mate' t) (λ q. label_at label' (slice_index top' q.outside) ≡ Inner) q.0
-                  (ap (λ y. mate_at mate' y) (k.2 ∙ ap (λ j. node x j) l.1) ∙ q.1)
-                  (ap (λ y. label_at label' y) q.2 ∙ x.way.inner (k.0 / 2) (omega (arith, l.2))))
+              (ap (λ y. mate_at mate' y) (k.2 ∙ ap (λ j. node x j) l.1) ∙ q.1)
+              (ap (λ y. label_at label' y) q.2 ∙ x.way.inner (k.0 / 2) (omega (arith, l.2))))
         ]
         | inr away ↦ outer_old x t t_in outer (old_node x t t_in away (λ free. outer_not_free (sym outer ∙ free)))
       ];

@@ -1,22 +1,20 @@
 -- The nodes on the even way through a cycle, and the nodes elsewhere.
-use Rattle.std.proofs.Common.{◌≡◌, ◌≢◌, ◌⊎◌, ℕ, zero, suc, ◌+◌, ◌*◌, ◌/◌, ◌%◌, ◌<◌, ◌≤◌, Bool, true, false, cond, eqb, List, Option, Some, None, IsSomeAnd, IfSome, length, slice_index, refl, sym, subst, ap, ◌∙◌, arith, inl, inr}
-use Rattle.std.proofs.lemmas.Bool.{cases_eq, cases_lt, cases_Bool, false≢true, false_from_ne_true, eq-eqb, ne_eqb, eqb-true}
-use Rattle.std.proofs.Math.Nat.{mul-le-mul_left}
+use Rattle.std.proofs.Common.{◌≡◌, ◌≢◌, ◌⊎◌, ℕ, zero, suc, ◌+◌, ◌*◌, ◌/◌, ◌%◌, ◌<◌, ◌≤◌, true, false, cond, eqb, List, Option, Some, slice_index, refl, sym, subst, ap, ◌∙◌, arith, inl, inr}
+use Rattle.std.proofs.lemmas.Bool.{cases_eq, cases_lt, false≢true, false_from_ne_true, eq-eqb, ne_eqb, eqb-true}
 use Rattle.blossom_match.specs.declared.costs.Costs.{Costs}
 use Rattle.blossom_match.specs.declared.state.State.{State}
 use Rattle.blossom_match.specs.declared.state.Pair.{Pair}
 use Rattle.blossom_match.specs.declared.state.Label.{Label}
 use Rattle.blossom_match.specs.declared.state.Label.TheVariants.{Free, Outer, Inner}
 use Rattle.blossom_match.specs.Table.{cost}
-use Rattle.blossom_match.specs.Views.{holds, between, turned, link_at, mate_at, label_at}
-use Rattle.blossom_match.specs.Between.{IsSearching, IsMatched, IsReached, IsTight, after}
+use Rattle.blossom_match.specs.Views.{holds, between, link_at, mate_at, label_at}
+use Rattle.blossom_match.specs.Between.{IsSearching, IsReached, after}
 use Rattle.blossom_match.specs.Expanding.{AreMates, IsStep, IsWayIn}
 use Rattle.blossom_match.proofs.Duality.{some_or_none}
-use Rattle.blossom_match.proofs.Raising.{inner_not_free, outer_not_free}
 use Rattle.blossom_match.proofs.RowsAround.{child_apart}
 use Rattle.blossom_match.proofs.RowsOpening.{between_turned}
-use Rattle.blossom_match.proofs.UnfoldingTops.{IsOpenedTop, not_child, pair_out}
-use Rattle.blossom_match.proofs.UnfoldingSets.{not_topmost, pair_elsewhere}
+use Rattle.blossom_match.proofs.UnfoldingTops.{IsOpenedTop, not_child}
+use Rattle.blossom_match.proofs.UnfoldingSets.{not_topmost}
 
 -- an inner node is put away, and its children on a way are in the tree
 pub record IsExpanding (costs : Costs) (before : State) (s base : ℕ) (p : Pair) (top' : List ℕ) (mate' : List (Option Pair)) (label' : List Label) (entry' : List Pair) : Type 0 where

@@ -1,24 +1,23 @@
 -- Two ways up the tree close an odd cycle.
-use Rattle.std.proofs.Common.{◌≡◌, ◌≢◌, ◌⊎◌, ℕ, zero, suc, ◌+◌, ◌*◌, ◌-◌, ◌%◌, ◌<◌, ◌≤◌, Bool, true, false, ◌||◌, cond, leb, List, Option, Some, None, IfSome, IsSome, IsSomeAnd, length, slice_index, get_or, refl, sym, subst, ap, ◌∙◌, arith, inl, inr}
-use Rattle.std.proofs.lemmas.Bool.{cases_eq, cases_lt, cases_order, cases_Bool, false≢true, true_from_ne_false, false_from_ne_true, le-leb, lt-leb, leb-true, or_left, or_right, or_cases}
+use Rattle.std.proofs.Common.{◌≡◌, ◌≢◌, ◌⊎◌, ℕ, zero, suc, ◌+◌, ◌*◌, ◌%◌, ◌<◌, ◌≤◌, Bool, true, false, cond, List, Option, Some, None, length, slice_index, refl, sym, subst, ap, ◌∙◌, arith, inl, inr}
+use Rattle.std.proofs.lemmas.Bool.{cases_lt, false≢true, le-leb, leb-true, or_left, or_right, or_cases}
 use Rattle.std.proofs.lemmas.List.{get_or_past}
 use Rattle.blossom_match.specs.declared.costs.Costs.{Costs}
 use Rattle.blossom_match.specs.declared.state.State.{State}
 use Rattle.blossom_match.specs.declared.state.Pair.{Pair}
 use Rattle.blossom_match.specs.declared.state.Label.{Label}
 use Rattle.blossom_match.specs.declared.state.Label.TheVariants.{Free, Outer, Inner}
-use Rattle.blossom_match.specs.Table.{cost, IsTable}
+use Rattle.blossom_match.specs.Table.{IsTable}
 use Rattle.blossom_match.specs.Views.{label_at, mate_at, link_at, turned, is_outer}
-use Rattle.blossom_match.specs.Turns.{top_of, sum_of, label_of}
-use Rattle.blossom_match.specs.Ways.{AreAimed, IsWayUp, IsWay, IsJoin, IsTrail, IsFork, IsClosed, IsForked, above, climb, way_at, is_within, on_cycle}
-use Rattle.blossom_match.specs.Rings.{IsRing}
-use Rattle.blossom_match.specs.Between.{IsTight, IsMatched, IsReached, IsSearching}
-use Rattle.blossom_match.proofs.Moving.{label_cases, is_some_at, some_not_none}
+use Rattle.blossom_match.specs.Turns.{top_of, label_of}
+use Rattle.blossom_match.specs.Ways.{AreAimed, IsWayUp, IsWay, IsJoin, IsFork, IsForked, above, climb, way_at, is_within, on_cycle}
+use Rattle.blossom_match.specs.Between.{IsTight, IsSearching}
+use Rattle.blossom_match.proofs.Moving.{label_cases}
 use Rattle.blossom_match.proofs.Growing.{if_some_at}
-use Rattle.blossom_match.proofs.Augmenting.{tight_turned, some_same}
+use Rattle.blossom_match.proofs.Augmenting.{some_same}
 use Rattle.blossom_match.proofs.Limits.{inside_of, some_value}
 use Rattle.blossom_match.proofs.Rooting.{matched_at}
-use Rattle.blossom_match.proofs.Climbing.{some_number, none_number, way_in}
+use Rattle.blossom_match.proofs.Climbing.{some_number}
 
 abbrev pub flip : Label → Label
 flip Outer = Inner
@@ -56,8 +55,7 @@ side_some (suc k) e = flip_some (side k) (side_some k) e
 pub side_even : (k : ℕ) → (side k ≡ Outer → k % 2 ≡ 0) × (side k ≡ Inner → k % 2 ≡ 1)
 side_even zero = (λ e. refl, λ e. absurd (outer_inner e))
 side_even (suc k) =
-    let p = side_even k in
-    (
+    let p = side_even k in (
       λ e. label_cases (side k) (suc k % 2 ≡ 0) (λ free. absurd (side_some k free)) (λ outer. absurd (outer_inner (sym e ∙ ap flip outer))) (λ inner. let odd = p.1 inner in omega (arith, odd)),
       λ e. label_cases (side k) (suc k % 2 ≡ 1) (λ free. absurd (side_some k free)) (λ outer. let even = p.0 outer in omega (arith, even)) (λ inner. absurd (outer_inner (sym (ap flip inner) ∙ e))),
     )
@@ -179,7 +177,7 @@ pub record IsArm (costs : Costs) (state : State) (depth : ℕ → ℕ) (from len
 arm_sides : (costs : Costs) (state : State) (u : ℕ) (way : List (Option ℕ)) → (searching : IsSearching costs state) → AreAimed (2 * state.size) state.mate.items state.label.items state.entry.items →
     u < state.size → label_of state (top_of state u) ≡ Outer → (w : IsWay state.top.items state.entry.items (top_of state u) (top_of state state.root) way) → (k : ℕ) → k ≤ w.len →
     (label_of state (climb state.top.items state.entry.items k (top_of state u)) ≡ side k) × (climb state.top.items state.entry.items k (top_of state u) < 2 * state.size)
-      × (k < w.len → IsRise costs state searching.tree.depth (climb state.top.items state.entry.items k (top_of state u)))
+    × (k < w.len → IsRise costs state searching.tree.depth (climb state.top.items state.entry.items k (top_of state u)))
 arm_sides costs state u way searching aimed u_in outer w =
     let not_root : (k : ℕ) → k < w.len → climb state.top.items state.entry.items k (top_of state u) ≢ top_of state state.root = λ k k_in e.
     (let same = some_number k w.len (sym (w.marks k (omega (arith, k_in))) ∙ ap (λ x. way_at way x) (e ∙ sym w.ends) ∙ w.marks w.len (omega arith)) in
@@ -192,7 +190,7 @@ arm_sides costs state u way searching aimed u_in outer w =
     go : ((k : ℕ) → label_of state (climb state.top.items state.entry.items k (top_of state u)) ≡ side k → climb state.top.items state.entry.items k (top_of state u) < 2 * state.size →
         k < w.len → IsRise costs state searching.tree.depth (climb state.top.items state.entry.items k (top_of state u))) → (k : ℕ) → k ≤ w.len →
         (label_of state (climb state.top.items state.entry.items k (top_of state u)) ≡ side k) × (climb state.top.items state.entry.items k (top_of state u) < 2 * state.size)
-          × (k < w.len → IsRise costs state searching.tree.depth (climb state.top.items state.entry.items k (top_of state u)))
+        × (k < w.len → IsRise costs state searching.tree.depth (climb state.top.items state.entry.items k (top_of state u)))
     go rise zero below = (outer, searching.so_far.tops.top_in u u_in, rise zero outer (searching.so_far.tops.top_in u u_in))
     go rise (suc k) below =
         let r = go rise k (omega arith) in
@@ -310,17 +308,34 @@ arm_mate costs state depth from len a way x a_in outer k k_in = label_cases (sid
         ((top_of state p.outside ≡ climb state.top.items state.entry.items j from) × (climb state.top.items state.entry.items j from ≢ climb state.top.items state.entry.items a from))
     upward k k_in k_outer =
         let r = x.rises k (omega (arith, k_in, a_in)) in
-        let at = x.sides k (omega (arith, k_in, a_in)) ∙ k_outer in
-        (suc k, k_in, link_at state.entry.items (climb state.top.items state.entry.items k from), (r.pairs at).0, (refl, λ e.
-            outer_inner (sym outer ∙ ap (λ s. label_of state s) (sym e) ∙ r.flips ∙ ap flip at)))
+        let at = x.sides k (omega (arith, k_in, a_in)) ∙ k_outer in (
+          suc k,
+          k_in,
+          link_at state.entry.items (climb state.top.items state.entry.items k from),
+          (r.pairs at).0,
+          (
+            refl,
+            λ e.
+                outer_inner (sym outer ∙ ap (λ s. label_of state s) (sym e) ∙ r.flips ∙ ap flip at),
+          ),
+        )
+
     downward : (k : ℕ) → k < a → side k ≡ Inner → (j : ℕ) × (j ≤ a) × (p : Pair) × (mate_at state.mate.items (climb state.top.items state.entry.items k from) ≡ Some p) ×
         ((top_of state p.outside ≡ climb state.top.items state.entry.items j from) × (climb state.top.items state.entry.items j from ≢ climb state.top.items state.entry.items a from))
     downward zero k_in k_inner = absurd (outer_inner k_inner)
     downward (suc k) k_in k_inner =
         let r = x.rises k (omega (arith, k_in, a_in)) in
-        let at = x.sides k (omega (arith, k_in, a_in)) ∙ flip_inner (side k) k_inner in
-        (k, omega (arith, k_in), turned (link_at state.entry.items (climb state.top.items state.entry.items k from)), (r.pairs at).1, (r.here, λ e.
-            (let same = arm_same costs state depth from len way x k a (omega (arith, k_in, a_in)) a_in e in omega (arith, same, k_in))))
+        let at = x.sides k (omega (arith, k_in, a_in)) ∙ flip_inner (side k) k_inner in (
+          k,
+          omega (arith, k_in),
+          turned (link_at state.entry.items (climb state.top.items state.entry.items k from)),
+          (r.pairs at).1,
+          (
+            r.here,
+            λ e.
+                (let same = arm_same costs state depth from len way x k a (omega (arith, k_in, a_in)) a_in e in omega (arith, same, k_in)),
+          ),
+        )
 
 -- the mate of the end is not on the way
 pub arm_leaves : (costs : Costs) (state : State) (depth : ℕ → ℕ) (from len a end t : ℕ) (way : List (Option ℕ)) → IsArm costs state depth from len way → a ≤ len → climb state.top.items state.entry.items a from ≡ end →

@@ -1,11 +1,11 @@
 -- The members of a cycle's nodes are held by one node.
-use Rattle.std.proofs.Common.{◌≡◌, ◌≢◌, ℕ, ◌+◌, ◌*◌, ◌<◌, ◌≤◌, Bool, true, false, cond, List, length, slice_index, get_or, set, refl, sym, subst, ap, ◌∙◌, arith, inl, inr}
+use Rattle.std.proofs.Common.{◌≡◌, ◌≢◌, ℕ, ◌+◌, ◌*◌, ◌<◌, ◌≤◌, Bool, false, cond, List, length, slice_index, get_or, set, sym, subst, ap, ◌∙◌, arith, inl, inr}
 use Rattle.std.proofs.lemmas.Bool.{cases_eq}
 use Rattle.std.proofs.lemmas.List.{get_or-set_same, get_or-set_other, get_or_default}
 use Rattle.blossom_match.specs.declared.state.Label.{Label}
 use Rattle.blossom_match.specs.declared.state.Label.TheVariants.{Free}
 use Rattle.blossom_match.specs.Views.{holds, label_at}
-use Rattle.blossom_match.proofs.Cells.{cell_in, row_of_cell, column_of_cell}
+use Rattle.blossom_match.proofs.Cells.{row_of_cell, column_of_cell}
 
 pub record AreFreed (label now : List Label) (on : ℕ → Bool) (s : ℕ) : Type 0 where
   pub done : (k : ℕ) → k < s → label_at now k ≡ cond (on k) Free (label_at label k)

@@ -1,5 +1,5 @@
 -- A matched pair of nodes comes into the tree.
-use Rattle.std.proofs.Common.{◌≡◌, ◌≢◌, ◌⊎◌, ℕ, zero, suc, ◌+◌, ◌*◌, ◌-◌, ◌%◌, ◌<◌, ◌≤◌, Bool, true, false, not, ◌&&◌, cond, eqb, List, Option, Some, None, IfSome, IsSomeAnd, length, slice_index, get_or, set, refl, sym, subst, ap, ◌∙◌, arith, inl, inr}
+use Rattle.std.proofs.Common.{◌≡◌, ◌≢◌, ◌⊎◌, ℕ, suc, ◌+◌, ◌*◌, ◌%◌, ◌<◌, Bool, cond, eqb, List, Option, Some, IfSome, IsSomeAnd, length, slice_index, set, refl, sym, subst, ap, ◌∙◌, arith, inl, inr}
 use Rattle.std.proofs.lemmas.Bool.{cases_eq, eq-eqb, ne_eqb}
 use Rattle.std.proofs.lemmas.List.{get_or-set_same, get_or-set_other}
 use Rattle.std.proofs.Math.ListN.{length-set}
@@ -8,16 +8,15 @@ use Rattle.blossom_match.specs.declared.state.State.{State}
 use Rattle.blossom_match.specs.declared.state.Pair.{Pair}
 use Rattle.blossom_match.specs.declared.state.Label.{Label}
 use Rattle.blossom_match.specs.declared.state.Label.TheVariants.{Free, Outer, Inner}
-use Rattle.blossom_match.specs.Matching.{total}
 use Rattle.blossom_match.specs.Table.{cost, IsTable}
 use Rattle.blossom_match.specs.Turns.{IsReach}
 use Rattle.blossom_match.specs.Growth.{IsGrowth}
-use Rattle.blossom_match.specs.Views.{no_pair, label_at, mate_at, link_at, turned, is_outer, outer_members, bare_nodes, has_outer, is_used, to_do}
-use Rattle.blossom_match.specs.Between.{AreTops, AreWeights, AreMatched, IsTight, IsMatched, IsTree, IsReached, IsSearching}
+use Rattle.blossom_match.specs.Views.{no_pair, label_at, mate_at, link_at, to_do}
+use Rattle.blossom_match.specs.Between.{AreTops, IsMatched, IsTree, IsReached, IsSearching}
 use Rattle.blossom_match.proofs.Measuring.{outer_more, less_to_do}
 use Rattle.blossom_match.proofs.Planting.{relabeled}
-use Rattle.blossom_match.proofs.Raising.{free_or_not, outer_not_free, inner_not_free}
-use Rattle.blossom_match.proofs.Moving.{Bal, matched_balance, is_some_at, is_some_map, if_some_map, some_not_none, label_cases}
+use Rattle.blossom_match.proofs.Raising.{outer_not_free, inner_not_free}
+use Rattle.blossom_match.proofs.Moving.{Bal, matched_balance, is_some_at, is_some_map, if_some_map}
 
 pub free_only : (m : Label) → Bal Free m → m ≡ Free
 free_only Free bal = refl

@@ -1,12 +1,11 @@
 -- A cycle of children is kept where what it speaks of is kept.
-use Rattle.std.proofs.Common.{◌≡◌, ◌≢◌, ◌⊎◌, ℕ, zero, suc, ◌+◌, ◌*◌, ◌%◌, ◌<◌, ◌≤◌, Bool, true, false, cond, List, Option, length, slice_index, refl, sym, subst, ap, ◌∙◌, arith, inl, inr}
-use Rattle.std.proofs.lemmas.Bool.{cases_eq, cases_lt, false≢true}
+use Rattle.std.proofs.Common.{◌≡◌, ℕ, zero, suc, ◌*◌, ◌<◌, ◌≤◌, Bool, true, cond, List, Option, slice_index, refl, sym, subst, ap, ◌∙◌, arith, inl, inr}
+use Rattle.std.proofs.lemmas.Bool.{cases_eq, false≢true}
 use Rattle.blossom_match.specs.declared.costs.Costs.{Costs}
 use Rattle.blossom_match.specs.declared.state.Pair.{Pair}
-use Rattle.blossom_match.specs.Matching.{total, members, IsOdd, Apart}
-use Rattle.blossom_match.specs.Views.{holds, between, link_at, child_at, is_used}
+use Rattle.blossom_match.specs.Matching.{members, IsOdd}
+use Rattle.blossom_match.specs.Views.{holds, between, link_at, is_used}
 use Rattle.blossom_match.specs.Between.{IsCycle, IsLink, AreSets, AreTops, after}
-use Rattle.blossom_match.specs.Table.{cost}
 use Rattle.blossom_match.proofs.Totals.{total-none}
 use Rattle.blossom_match.proofs.Duality.{some_or_none}
 

@@ -1,19 +1,16 @@
 -- How far the weights can be raised.
-use Rattle.std.proofs.Common.{◌≡◌, ◌≢◌, ◌⊎◌, ℕ, zero, suc, ◌+◌, ◌*◌, ◌-◌, ◌/◌, ◌%◌, ◌<◌, ◌≤◌, Bool, true, false, not, ◌||◌, cond, eqb, ltb, List, Option, Some, None, is_some, IfSome, IsSomeAnd, length, slice_index, refl, sym, subst, ap, ◌∙◌, arith, inl, inr}
+use Rattle.std.proofs.Common.{◌≡◌, ◌≢◌, ◌⊎◌, ℕ, zero, suc, ◌+◌, ◌*◌, ◌/◌, ◌<◌, ◌≤◌, Bool, true, not, ◌||◌, cond, eqb, ltb, Option, Some, None, is_some, IfSome, IsSomeAnd, slice_index, refl, sym, subst, ap, ◌∙◌, arith, inl, inr}
 use Rattle.std.proofs.lemmas.Bool.{cases_eq, cases_lt, cases_Bool, false≢true, eqb-true, true_from_ne_false, false_from_ne_true, not-false, eq-eqb, le-ltb}
 use Rattle.blossom_match.specs.declared.costs.Costs.{Costs}
 use Rattle.blossom_match.specs.declared.costs.TheConstants.{MAX_COST}
 use Rattle.blossom_match.specs.declared.state.State.{State}
 use Rattle.blossom_match.specs.declared.state.Pair.{Pair}
-use Rattle.blossom_match.specs.declared.state.Label.{Label}
 use Rattle.blossom_match.specs.declared.state.Label.TheVariants.{Free, Outer, Inner}
 use Rattle.blossom_match.specs.declared.room.Turn.{Turn}
-use Rattle.blossom_match.specs.declared.room.Event.{Event}
-use Rattle.blossom_match.specs.declared.room.Event.TheVariants.{Reach, Meet, Spent}
-use Rattle.blossom_match.specs.Matching.{total, members}
+use Rattle.blossom_match.specs.Matching.{members}
 use Rattle.blossom_match.specs.Table.{cost, IsAsked}
-use Rattle.blossom_match.specs.Views.{holds, held_sum, label_at, mate_at, link_at, child_at, is_used}
-use Rattle.blossom_match.specs.Turns.{Happens, IsLawful, IsMeet, IsReach, IsSpent, top_of, sum_of, label_of}
+use Rattle.blossom_match.specs.Views.{holds, mate_at, link_at, child_at, is_used}
+use Rattle.blossom_match.specs.Turns.{Happens, IsLawful, IsMeet, IsSpent, top_of, sum_of, label_of}
 use Rattle.blossom_match.specs.Rooms.{KeepsPair, KeepsNode, IsNodeTurn, IsNoMore, IsLess}
 use Rattle.blossom_match.specs.Between.{IsBetween, IsSearching, IsReached, IsMatched}
 use Rattle.blossom_match.proofs.Totals.{total-only}
@@ -126,11 +123,14 @@ inside_of costs state s searching s_in inner =
     let e = link_at state.entry.items s in
     let at : IfSome (mate_at state.mate.items s) (IsMatched costs state.size state.top.items state.sums.items state.mate.items s) =
     subst (λ x. IfSome (mate_at state.mate.items x) (IsMatched costs state.size state.top.items state.sums.items state.mate.items x)) r.2.entry_here
-    (searching.so_far.matched (link_at state.entry.items s).inside r.2.entry_tight.inside_in) in
-    (r.0, r.1, record {
-      reached = r.2;
-      matched = if_some_at (mate_at state.mate.items s) (IsMatched costs state.size state.top.items state.sums.items state.mate.items s) r.0 r.1 at;
-    })
+    (searching.so_far.matched (link_at state.entry.items s).inside r.2.entry_tight.inside_in) in (
+      r.0,
+      r.1,
+      record {
+        reached = r.2;
+        matched = if_some_at (mate_at state.mate.items s) (IsMatched costs state.size state.top.items state.sums.items state.mate.items s) r.0 r.1 at;
+      },
+    )
 
 from_meet : (costs : Costs) (state : State) (r : Option Turn) (v w : ℕ) → IsAsked costs → top_of state v ≢ top_of state w → label_of state (top_of state v) ≡ Outer → label_of state (top_of state w) ≡ Outer →
     KeepsPair costs state r v w → IsSomeAnd r (λ t. sum_of state v + t.amount ≤ 2 * MAX_COST)

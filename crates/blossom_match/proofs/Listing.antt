@@ -1,8 +1,8 @@
 -- The members of a set, listed.
-use Rattle.std.proofs.Common.{◌≡◌, ◌≢◌, ◌⊎◌, ℕ, zero, suc, ◌+◌, ◌-◌, ◌*◌, ◌<◌, ◌≤◌, Bool, true, false, ◌||◌, cond, eqb, List, [], ◌∷◌, ◌++◌, length, get_or, slice_index, refl, sym, subst, ap, ◌∙◌, arith, inl, inr, add-one}
-use Rattle.std.proofs.lemmas.Bool.{cases_eq, cases_lt, cases_Bool, false≢true, eq-eqb, ne_eqb}
+use Rattle.std.proofs.Common.{◌≡◌, ℕ, zero, suc, ◌<◌, ◌≤◌, Bool, true, false, ◌||◌, cond, eqb, List, [], ◌∷◌, ◌++◌, length, get_or, refl, sym, subst, ap, ◌∙◌, arith, inl, inr}
+use Rattle.std.proofs.lemmas.Bool.{cases_eq, cases_lt, cases_Bool, eq-eqb, ne_eqb}
 use Rattle.std.proofs.lemmas.List.{get_or_append_left, get_or_at, length-append}
-use Rattle.blossom_match.specs.Matching.{total, members}
+use Rattle.blossom_match.specs.Matching.{members}
 use Rattle.blossom_match.specs.Unfolded.{listed}
 use Rattle.blossom_match.specs.Answer.{is_among, IsListed}
 use Rattle.blossom_match.proofs.Totals.{total-ext}
@@ -104,13 +104,15 @@ pub listed_is : (n k : ℕ) (set : ℕ → Bool) (list : ℕ → ℕ) → k ≡ 
     ((v : ℕ) → v < n → is_among k list v ≡ set v) × IsListed n k list
 listed_is n k set list long is =
     let same : (v : ℕ) → v < n → is_among k list v ≡ set v = λ v v_in.
-    among_ext k list (λ j. get_or (listed n set) j 0) v is ∙ ap (λ x. is_among x (λ j. get_or (listed n set) j 0) v) long ∙ listed_among n set v v_in in
-    (same, record {
-      range = λ j below.
-          let r = listed_all n set j (omega (arith, below, long)) in
-          (omega (arith, r.0, is j below), omega (arith, r.1, is j below));
-      rising = λ i j less below. omega (arith, listed_rising n set i j less (omega (arith, below, long)), is i (omega (arith, less, below)), is j below);
-      count =
-          total-ext n (λ v. cond (is_among k list v) 1 0) (λ v. cond (set v) 1 0) (λ v v_in. ap (λ b. cond b 1 0) (same v v_in))
-          ∙ sym (listed_len n set) ∙ sym long;
-    })
+    among_ext k list (λ j. get_or (listed n set) j 0) v is ∙ ap (λ x. is_among x (λ j. get_or (listed n set) j 0) v) long ∙ listed_among n set v v_in in (
+      same,
+      record {
+        range = λ j below.
+            let r = listed_all n set j (omega (arith, below, long)) in
+            (omega (arith, r.0, is j below), omega (arith, r.1, is j below));
+        rising = λ i j less below. omega (arith, listed_rising n set i j less (omega (arith, below, long)), is i (omega (arith, less, below)), is j below);
+        count =
+            total-ext n (λ v. cond (is_among k list v) 1 0) (λ v. cond (set v) 1 0) (λ v v_in. ap (λ b. cond b 1 0) (same v v_in))
+            ∙ sym (listed_len n set) ∙ sym long;
+      },
+    )

@@ -1,17 +1,15 @@
 -- A raise by a lawful amount keeps all that holds between two turns.
-use Rattle.std.proofs.Common.{◌≡◌, ◌≢◌, ◌⊎◌, ℕ, zero, suc, ◌+◌, ◌*◌, ◌-◌, ◌%◌, ◌<◌, ◌≤◌, Bool, true, false, not, ◌&&◌, cond, List, Option, Some, None, IfSome, IsSomeAnd, length, slice_index, refl, sym, subst, ap, ◌∙◌, arith, inl, inr}
-use Rattle.std.proofs.lemmas.Bool.{cases_eq, cases_lt, false≢true}
+use Rattle.std.proofs.Common.{◌≡◌, ◌≢◌, ℕ, suc, ◌+◌, ◌*◌, ◌%◌, ◌<◌, ◌≤◌, Bool, true, List, Option, Some, None, IfSome, IsSomeAnd, length, slice_index, refl, sym, subst, ap, ◌∙◌, arith, inl, inr}
+use Rattle.std.proofs.lemmas.Bool.{cases_eq, false≢true}
 use Rattle.blossom_match.specs.declared.costs.Costs.{Costs}
-use Rattle.blossom_match.specs.declared.costs.TheConstants.{MAX_COST}
 use Rattle.blossom_match.specs.declared.state.State.{State}
 use Rattle.blossom_match.specs.declared.state.Pair.{Pair}
 use Rattle.blossom_match.specs.declared.state.Label.{Label}
 use Rattle.blossom_match.specs.declared.state.Label.TheVariants.{Free, Outer, Inner}
-use Rattle.blossom_match.specs.Matching.{total, parts}
-use Rattle.blossom_match.specs.Table.{cost, IsAsked, IsTable}
-use Rattle.blossom_match.specs.Views.{holds, held_sum, between, label_at, mate_at, link_at, child_at, is_used, turned, to_do}
-use Rattle.blossom_match.specs.Between.{AreTops, AreSets, AreWeights, AreCycles, AreMatched, DoPack, IsCycle, IsLink, IsMatched, IsTight, IsTree, IsReached, IsShape, IsBetween, IsSearching, KeepsMates, after}
-use Rattle.blossom_match.specs.Turns.{FitsMoved, IsLawful, IsMoved, moved, top_of, sum_of, label_of}
+use Rattle.blossom_match.specs.Table.{cost, IsTable}
+use Rattle.blossom_match.specs.Views.{holds, held_sum, label_at, mate_at, link_at, child_at, turned, to_do}
+use Rattle.blossom_match.specs.Between.{AreTops, AreSets, AreWeights, AreCycles, AreMatched, DoPack, IsCycle, IsLink, IsMatched, IsTight, IsTree, IsReached, IsShape, IsSearching, after}
+use Rattle.blossom_match.specs.Turns.{FitsMoved, IsLawful, IsMoved, moved}
 use Rattle.blossom_match.proofs.Raising.{Raised, free_or_not, pack_cases, even_alike, even_both, kept_sums, enough_sum, between_apart, between_inside, outer_not_free, inner_not_free, top_below}
 
 -- labels that balance each other

@@ -1,5 +1,5 @@
 -- A tree of one node.
-use Rattle.std.proofs.Common.{◌≡◌, ◌≢◌, ◌⊎◌, ℕ, ◌+◌, ◌*◌, ◌%◌, ◌<◌, ◌≤◌, zero, suc, replicate, List, Option, Some, None, IfSome, IsSomeAnd, length, slice_index, get_or, set, refl, sym, subst, ap, ◌∙◌, arith, inl, inr}
+use Rattle.std.proofs.Common.{◌≡◌, ◌≢◌, ℕ, ◌+◌, ◌%◌, ◌<◌, zero, suc, replicate, List, Option, None, length, slice_index, get_or, set, refl, sym, ap, ◌∙◌, inl, inr}
 use Rattle.std.proofs.lemmas.Bool.{cases_eq}
 use Rattle.std.proofs.lemmas.List.{get_or-set_same, get_or-set_other}
 use Rattle.blossom_match.specs.declared.costs.Costs.{Costs}
@@ -7,9 +7,8 @@ use Rattle.blossom_match.specs.declared.state.State.{State}
 use Rattle.blossom_match.specs.declared.state.Pair.{Pair}
 use Rattle.blossom_match.specs.declared.state.Label.{Label}
 use Rattle.blossom_match.specs.declared.state.Label.TheVariants.{Free, Outer, Inner}
-use Rattle.blossom_match.specs.Views.{label_at, mate_at, link_at}
-use Rattle.blossom_match.specs.Between.{IsBetween, IsTree, IsReached, IsTreeless}
-use Rattle.blossom_match.proofs.Raising.{outer_not_free, inner_not_free}
+use Rattle.blossom_match.specs.Views.{label_at, mate_at}
+use Rattle.blossom_match.specs.Between.{IsBetween, IsTree, IsTreeless}
 
 free_not_outer : Free ≡ Outer → ⊥
 free_not_outer e = cc

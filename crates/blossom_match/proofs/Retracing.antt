@@ -1,6 +1,6 @@
 -- The ways up are marked: all that a search needs stays. Then one node is made of the cycle.
-use Rattle.std.proofs.Common.{◌≡◌, ◌≢◌, ◌⊎◌, ℕ, zero, suc, ◌+◌, ◌*◌, ◌-◌, ◌%◌, ◌<◌, ◌≤◌, Bool, true, false, ◌||◌, cond, ltb, List, Option, Some, None, is_some, IfSome, IsSome, IsSomeAnd, length, slice_index, get_or, set, refl, sym, subst, ap, ◌∙◌, arith, inl, inr}
-use Rattle.std.proofs.lemmas.Bool.{cases_eq, cases_lt, cases_Bool, false≢true, false_from_ne_true, or_right}
+use Rattle.std.proofs.Common.{◌≡◌, ◌≢◌, ℕ, ◌+◌, ◌*◌, ◌<◌, ◌≤◌, Bool, true, false, ◌||◌, cond, ltb, List, Option, Some, None, is_some, IfSome, IsSomeAnd, length, slice_index, refl, sym, subst, ap, ◌∙◌, arith, inl, inr}
+use Rattle.std.proofs.lemmas.Bool.{cases_lt, cases_Bool, false≢true, false_from_ne_true, or_right}
 use Rattle.std.proofs.lemmas.List.{get_or-set_same, get_or-set_other, get_or_past}
 use Rattle.std.proofs.Math.ListN.{length-set}
 use Rattle.blossom_match.specs.declared.costs.Costs.{Costs}
@@ -9,18 +9,16 @@ use Rattle.blossom_match.specs.declared.state.Pair.{Pair}
 use Rattle.blossom_match.specs.declared.state.Label.{Label}
 use Rattle.blossom_match.specs.declared.state.Label.TheVariants.{Free, Outer, Inner}
 use Rattle.blossom_match.specs.declared.ways.Join.{Join}
-use Rattle.blossom_match.specs.Table.{cost, IsTable}
 use Rattle.blossom_match.specs.Views.{holds, label_at, mate_at, link_at, child_at, is_used, to_do}
-use Rattle.blossom_match.specs.Turns.{IsMeet, top_of, sum_of, label_of}
+use Rattle.blossom_match.specs.Turns.{IsMeet, top_of, label_of}
 use Rattle.blossom_match.specs.Ways.{AreAimed, IsClosed, IsForked, IsJoin, IsSameTree, IsWay, climb, on_cycle, way_at}
 use Rattle.blossom_match.specs.Growth.{IsGrowth}
-use Rattle.blossom_match.specs.Rings.{IsRing, IsSlot, IsShrunk, IsRelinked, IsGathered, IsFounded}
+use Rattle.blossom_match.specs.Rings.{IsSlot, IsRelinked, IsGathered, IsFounded}
 use Rattle.blossom_match.specs.Between.{IsBetween, IsSearching, IsReached, IsTree, KeepsRoot}
 use Rattle.blossom_match.proofs.Moving.{if_some_map, is_some_map}
 use Rattle.blossom_match.proofs.Turning.{keeps_same, root_kept}
 use Rattle.blossom_match.proofs.Limits.{top_used}
-use Rattle.blossom_match.proofs.Climbing.{some_number}
-use Rattle.blossom_match.proofs.Forking.{Joined, Arms, arms_of, arm_same, on_one, on_other}
+use Rattle.blossom_match.proofs.Forking.{Joined, arms_of, arm_same, on_one, on_other}
 use Rattle.blossom_match.proofs.Ringing.{ring_of}
 use Rattle.blossom_match.proofs.Shrinking.{Shrunk}
 
@@ -184,10 +182,10 @@ pub foot_of : (costs : Costs) (state : State) (u v end a b w : ℕ) → Joined c
     IsFoot state (on_cycle state.one_way.items state.other_way.items a b) end w
 foot_of costs state u v end a b w x one other = elim (cases_lt 0 a) [
   | inl some ↦ subst (λ y. IsFoot state (on_cycle state.one_way.items state.other_way.items a b) end y) (sym (one some)) (record {
-      member_in = x.forked.meet.u_in;
-      node_in = x.forked.searching.so_far.tops.top_in u x.forked.meet.u_in;
-      slot = one_slot costs state u v end a b x some;
-    })
+    member_in = x.forked.meet.u_in;
+    node_in = x.forked.searching.so_far.tops.top_in u x.forked.meet.u_in;
+    slot = one_slot costs state u v end a b x some;
+  })
   | inr few ↦
       let none : a ≡ 0 = omega (arith, few) in
       subst (λ y. IsFoot state (on_cycle state.one_way.items state.other_way.items a b) end y) (sym (other none)) (record {

@@ -1,21 +1,19 @@
 -- The nodes of two ways, linked, are an odd cycle.
-use Rattle.std.proofs.Common.{◌≡◌, ◌≢◌, ◌⊎◌, ℕ, zero, suc, ◌+◌, ◌*◌, ◌-◌, ◌%◌, ◌<◌, ◌≤◌, Bool, true, false, cond, leb, List, Option, Some, None, IfSome, IsSome, IsSomeAnd, length, slice_index, refl, sym, subst, ap, ◌∙◌, arith, inl, inr}
-use Rattle.std.proofs.lemmas.Bool.{cases_eq, cases_lt, cases_order, cases_Bool, false≢true, false_from_ne_true, le-leb, lt-leb}
+use Rattle.std.proofs.Common.{◌≡◌, ◌≢◌, ℕ, suc, ◌+◌, ◌*◌, ◌-◌, ◌<◌, ◌≤◌, Bool, true, false, cond, leb, List, Option, Some, IsSome, slice_index, refl, sym, subst, ap, ◌∙◌, arith, inl, inr}
+use Rattle.std.proofs.lemmas.Bool.{cases_eq, cases_lt, cases_order, false_from_ne_true, le-leb, lt-leb}
 use Rattle.blossom_match.specs.declared.costs.Costs.{Costs}
 use Rattle.blossom_match.specs.declared.state.State.{State}
 use Rattle.blossom_match.specs.declared.state.Pair.{Pair}
-use Rattle.blossom_match.specs.declared.state.Label.{Label}
 use Rattle.blossom_match.specs.declared.state.Label.TheVariants.{Free, Outer, Inner}
-use Rattle.blossom_match.specs.Table.{cost, IsTable}
-use Rattle.blossom_match.specs.Views.{label_at, mate_at, link_at, turned}
-use Rattle.blossom_match.specs.Turns.{top_of, sum_of, label_of}
+use Rattle.blossom_match.specs.Views.{mate_at, link_at, turned}
+use Rattle.blossom_match.specs.Turns.{top_of, label_of}
 use Rattle.blossom_match.specs.Ways.{IsClosed, above, climb, on_cycle}
 use Rattle.blossom_match.specs.Rings.{IsRing}
 use Rattle.blossom_match.specs.Between.{IsTight}
-use Rattle.blossom_match.proofs.Moving.{label_cases, is_some_at, some_not_none}
+use Rattle.blossom_match.proofs.Moving.{some_not_none}
 use Rattle.blossom_match.proofs.Growing.{if_some_at}
 use Rattle.blossom_match.proofs.Augmenting.{tight_turned, some_same, pair}
-use Rattle.blossom_match.proofs.Forking.{Joined, Arms, IsArm, IsRise, arms_of, arm_same, arm_low, arm_mate, arm_leaves, cross, end_outer, flip, side, side_some, side_even, height, height_outer, rise_of, on_one, on_other, on_cases}
+use Rattle.blossom_match.proofs.Forking.{Joined, Arms, IsArm, arms_of, arm_same, arm_low, arm_mate, arm_leaves, cross, end_outer, flip, side_some, side_even, height, height_outer, rise_of, on_one, on_other, on_cases}
 
 outer_inner : Outer ≡ Inner → ⊥
 outer_inner e = cc
@@ -170,7 +168,6 @@ pub record HasMateOn (state : State) (on : ℕ → Bool) (s end : ℕ) : Type 0 
   pub mate : Pair
   pub is : mate_at state.mate.items s ≡ Some mate
   pub there : on (top_of state mate.outside) ≡ true
-  pub other : top_of state mate.outside ≢ end
 
 mate_on : (costs : Costs) (state : State) (depth : ℕ → ℕ) (first second end a b : ℕ) → Arms costs state depth first second end a b → (s : ℕ) → on_cycle state.one_way.items state.other_way.items a b s ≡ true → s ≢ end →
     HasMateOn state (on_cycle state.one_way.items state.other_way.items a b) s end
@@ -184,7 +181,6 @@ mate_on costs state depth first second end a b x s is other =
             mate = m.2;
             is = ap (λ y. mate_at state.mate.items y) (sym w.2) ∙ m.3;
             there = ap (λ y. on_cycle state.one_way.items state.other_way.items a b y) m.4.0 ∙ on_one costs state depth first second end a b x m.0 m.1;
-            other = λ e. m.4.1 (sym m.4.0 ∙ e ∙ sym x.one_end);
           }
       | inr w ↦
           let k_in : w.0 < b = (elim (cases_eq w.0 b) [ inl same ↦ absurd (other (sym w.2 ∙ ap (λ i. up state i second) same ∙ x.other_end)) | inr differs ↦ omega (arith, w.1, differs) ]) in
@@ -193,7 +189,6 @@ mate_on costs state depth first second end a b x s is other =
             mate = m.2;
             is = ap (λ y. mate_at state.mate.items y) (sym w.2) ∙ m.3;
             there = ap (λ y. on_cycle state.one_way.items state.other_way.items a b y) m.4.0 ∙ on_other costs state depth first second end a b x m.0 m.1;
-            other = λ e. m.4.1 (sym m.4.0 ∙ e ∙ sym x.other_end);
           }
     ]
 
@@ -248,13 +243,13 @@ ring_of costs state u v end a b next next' link link' x c =
     let labels : (s : ℕ) → on_cycle state.one_way.items state.other_way.items a b s ≡ true → (label_of state s ≢ Free) × (s < 2 * state.size) = λ s is.
     elim (on_cases costs state depth (top_of state u) (top_of state v) end a b arms s is) [
       | inl w ↦ (
-          λ free. side_some w.0 (sym (arms.one.sides w.0 (omega (arith, w.1, arms.a_in))) ∙ ap (λ y. label_of state y) w.2 ∙ free),
-          subst (λ y. y < 2 * state.size) w.2 (arms.one.slots w.0 (omega (arith, w.1, arms.a_in))),
-        )
+        λ free. side_some w.0 (sym (arms.one.sides w.0 (omega (arith, w.1, arms.a_in))) ∙ ap (λ y. label_of state y) w.2 ∙ free),
+        subst (λ y. y < 2 * state.size) w.2 (arms.one.slots w.0 (omega (arith, w.1, arms.a_in))),
+      )
       | inr w ↦ (
-          λ free. side_some w.0 (sym (arms.other.sides w.0 (omega (arith, w.1, arms.b_in))) ∙ ap (λ y. label_of state y) w.2 ∙ free),
-          subst (λ y. y < 2 * state.size) w.2 (arms.other.slots w.0 (omega (arith, w.1, arms.b_in))),
-        )
+        λ free. side_some w.0 (sym (arms.other.sides w.0 (omega (arith, w.1, arms.b_in))) ∙ ap (λ y. label_of state y) w.2 ∙ free),
+        subst (λ y. y < 2 * state.size) w.2 (arms.other.slots w.0 (omega (arith, w.1, arms.b_in))),
+      )
     ] in
     record {
       len = a + b + 1;
@@ -283,9 +278,6 @@ ring_of costs state u v end a b next next' link link' x c =
       mates_on = λ s p is other p_is.
           let m = mate_on costs state depth (top_of state u) (top_of state v) end a b arms s is other in
           subst (λ q. on_cycle state.one_way.items state.other_way.items a b (top_of state q.outside) ≡ true) (some_same m.mate p (sym m.is ∙ p_is)) m.there;
-      mates_not_end = λ s p is other p_is.
-          let m = mate_on costs state depth (top_of state u) (top_of state v) end a b arms s is other in
-          subst (λ q. top_of state q.outside ≢ end) (some_same m.mate p (sym m.is ∙ p_is)) m.other;
       end_off = end_leaves costs state u v end a b x arms;
       low = λ s is s_outer. elim (on_cases costs state depth (top_of state u) (top_of state v) end a b arms s is) [
         | inl w ↦ arm_depth costs state depth (top_of state u) arms.one_len a end state.one_way.items arms.one arms.a_in arms.one_end outer s w.0 w.1 w.2 s_outer

@@ -1,22 +1,19 @@
 -- One node is made of an odd cycle: the tree is kept, and less is left to do.
-use Rattle.std.proofs.Common.{◌≡◌, ◌≢◌, ◌⊎◌, ℕ, zero, suc, ◌+◌, ◌*◌, ◌-◌, ◌%◌, ◌<◌, ◌≤◌, Bool, true, false, cond, eqb, List, Option, Some, None, IfSome, IsSome, IsSomeAnd, length, slice_index, refl, sym, subst, ap, ◌∙◌, arith, inl, inr}
+use Rattle.std.proofs.Common.{◌≡◌, ◌≢◌, ◌⊎◌, ℕ, ◌*◌, ◌<◌, Bool, true, false, cond, eqb, Option, Some, None, IfSome, IsSome, IsSomeAnd, slice_index, refl, sym, subst, ap, ◌∙◌, arith, inl, inr}
 use Rattle.std.proofs.lemmas.Bool.{cases_eq, cases_Bool, false≢true, eq-eqb, ne_eqb}
 use Rattle.blossom_match.specs.declared.costs.Costs.{Costs}
 use Rattle.blossom_match.specs.declared.state.State.{State}
 use Rattle.blossom_match.specs.declared.state.Pair.{Pair}
 use Rattle.blossom_match.specs.declared.state.Label.{Label}
 use Rattle.blossom_match.specs.declared.state.Label.TheVariants.{Free, Outer, Inner}
-use Rattle.blossom_match.specs.Matching.{total}
-use Rattle.blossom_match.specs.Views.{label_at, mate_at, link_at, turned, is_outer, outer_members, to_do}
-use Rattle.blossom_match.specs.Turns.{top_of, sum_of, label_of}
+use Rattle.blossom_match.specs.Views.{label_at, mate_at, link_at, is_outer, to_do}
+use Rattle.blossom_match.specs.Turns.{top_of, label_of}
 use Rattle.blossom_match.specs.Growth.{IsGrowth}
-use Rattle.blossom_match.specs.Rings.{IsRing, IsSlot, IsShrunk}
-use Rattle.blossom_match.specs.Between.{IsMatched, IsTight, IsTree, IsReached, IsSearching, HasMate, KeepsRoot}
+use Rattle.blossom_match.specs.Between.{IsMatched, IsTree, IsReached, IsSearching, KeepsRoot}
 use Rattle.blossom_match.proofs.Measuring.{total-less, one_le, less_to_do}
-use Rattle.blossom_match.proofs.Raising.{outer_not_free, inner_not_free}
 use Rattle.blossom_match.proofs.Moving.{if_some_map, is_some_map, is_some_at, some_not_none}
 use Rattle.blossom_match.proofs.Growing.{if_some_at}
-use Rattle.blossom_match.proofs.Limits.{inside_of, some_value}
+use Rattle.blossom_match.proofs.Limits.{some_value}
 use Rattle.blossom_match.proofs.Shrinking.{Shrunk, no_top, on_top, top_on, top_off}
 use Rattle.blossom_match.proofs.Enclosing.{mate_whole, mate_off, end_on, crosses, tight_apart, shrunk_between}
 
@@ -137,9 +134,6 @@ never_both costs before now on whole end x s p off m deeper outer at_e at_p =
     let low = x.ring.low (top_of before (link_at before.entry.items s).outside) at_e outer in
     let same = ap (λ y. x.searching.tree.depth y) is in
     omega (arith, deeper, low, same)
-
-depth_now : (depth : ℕ → ℕ) (whole end s : ℕ) → ℕ
-depth_now depth whole end s = cond (eqb s whole) (depth end) (depth s)
 
 at_whole : (depth : ℕ → ℕ) (whole end s : ℕ) → s ≡ whole → cond (eqb s whole) (depth end) (depth s) ≡ depth end
 at_whole depth whole end s same = ap (λ b. cond b (depth end) (depth s)) (eq-eqb s whole same)

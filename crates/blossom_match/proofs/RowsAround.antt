@@ -1,9 +1,9 @@
 -- Places along a cycle of children.
-use Rattle.std.proofs.Common.{◌≡◌, ◌≢◌, ◌⊎◌, ℕ, zero, suc, ◌+◌, ◌*◌, ◌-◌, ◌/◌, ◌%◌, ◌<◌, ◌≤◌, Bool, true, false, cond, List, Option, Some, length, slice_index, refl, sym, subst, ap, ◌∙◌, arith, inl, inr}
-use Rattle.std.proofs.lemmas.Bool.{cases_eq, cases_lt, cases_order, cases_Bool, false≢true, false_from_ne_true}
+use Rattle.std.proofs.Common.{◌≡◌, ◌≢◌, ◌⊎◌, ℕ, zero, suc, ◌+◌, ◌*◌, ◌-◌, ◌/◌, ◌%◌, ◌<◌, ◌≤◌, Bool, true, false, cond, List, Option, slice_index, refl, sym, subst, ap, ◌∙◌, arith, inl, inr}
+use Rattle.std.proofs.lemmas.Bool.{cases_lt, cases_order, false≢true, false_from_ne_true}
 use Rattle.blossom_match.specs.declared.costs.Costs.{Costs}
 use Rattle.blossom_match.specs.declared.state.Pair.{Pair}
-use Rattle.blossom_match.specs.Matching.{total, members, Apart}
+use Rattle.blossom_match.specs.Matching.{total, members}
 use Rattle.blossom_match.specs.Views.{holds, link_at, is_used}
 use Rattle.blossom_match.specs.Between.{IsCycle, IsLink, AreSets, after}
 use Rattle.blossom_match.specs.Cycles.{IsRound, IsTrip, IsWhole}
@@ -64,33 +64,32 @@ apart_any costs n held halves child next link s c y j k v j_in k_in other v_in o
 -- a cycle may begin at each child
 pub turned_cycle : (costs : Costs) (n : ℕ) (held : List Bool) (halves : List ℕ) (child : List (Option ℕ)) (next : List ℕ) (link : List Pair) (s c : ℕ) (y : IsCycle costs n held halves child next link s c)
     (k : ℕ) → k < y.len → (z : IsCycle costs n held halves child next link s (after next k c)) × (z.len ≡ y.len)
-turned_cycle costs n held halves child next link s c y k k_in =
-    (
-      record {
-        len = y.len;
-        odd = y.odd;
-        several = y.several;
-        closes = sym (after_add next y.len k (y.len + k) c refl) ∙ after_add next k y.len (y.len + k) c (omega arith) ∙ ap (λ x. after next k x) y.closes;
-        in_slots = λ j j_in. (let w = placed next y.len c y.closes j k j_in k_in in subst (λ x. x < 2 * n) (sym w.2) (y.in_slots w.0 w.1));
-        used = λ j j_in. (let w = placed next y.len c y.closes j k j_in k_in in ap (λ x. is_used n child x) w.2 ∙ y.used w.0 w.1);
-        inner = λ j v j_in v_in on.
-            let w = placed next y.len c y.closes j k j_in k_in in
-            y.inner w.0 v w.1 v_in (ap (λ x. holds n held x v) (sym w.2) ∙ on);
-        covers = λ v v_in on.
-            let i = y.covers v v_in on in
-            let w = reached next y.len c y.closes (omega (arith, y.several)) k i.0 k_in i.1 in
-            (w.0, w.1, ap (λ x. holds n held x v) w.2 ∙ i.2);
-        disjoint = λ i j less j_in v v_in on.
-            let a = placed next y.len c y.closes i k (omega (arith, less, j_in)) k_in in
-            let b = placed next y.len c y.closes j k j_in k_in in
-            ap (λ x. holds n held x v) b.2
-            ∙ apart_any costs n held halves child next link s c y a.0 b.0 v a.1 b.1 (differ a.0 b.0 i j less j_in a.1 b.1 a.3 b.3) v_in (ap (λ x. holds n held x v) (sym a.2) ∙ on);
-        links = λ j j_in.
-            let w = placed next y.len c y.closes j k j_in k_in in
-            subst (λ x. IsLink costs n held halves (link_at link x) x (slice_index next x)) (sym w.2) (y.links w.0 w.1);
-      },
-      refl,
-    )
+turned_cycle costs n held halves child next link s c y k k_in = (
+  record {
+    len = y.len;
+    odd = y.odd;
+    several = y.several;
+    closes = sym (after_add next y.len k (y.len + k) c refl) ∙ after_add next k y.len (y.len + k) c (omega arith) ∙ ap (λ x. after next k x) y.closes;
+    in_slots = λ j j_in. (let w = placed next y.len c y.closes j k j_in k_in in subst (λ x. x < 2 * n) (sym w.2) (y.in_slots w.0 w.1));
+    used = λ j j_in. (let w = placed next y.len c y.closes j k j_in k_in in ap (λ x. is_used n child x) w.2 ∙ y.used w.0 w.1);
+    inner = λ j v j_in v_in on.
+        let w = placed next y.len c y.closes j k j_in k_in in
+        y.inner w.0 v w.1 v_in (ap (λ x. holds n held x v) (sym w.2) ∙ on);
+    covers = λ v v_in on.
+        let i = y.covers v v_in on in
+        let w = reached next y.len c y.closes (omega (arith, y.several)) k i.0 k_in i.1 in
+        (w.0, w.1, ap (λ x. holds n held x v) w.2 ∙ i.2);
+    disjoint = λ i j less j_in v v_in on.
+        let a = placed next y.len c y.closes i k (omega (arith, less, j_in)) k_in in
+        let b = placed next y.len c y.closes j k j_in k_in in
+        ap (λ x. holds n held x v) b.2
+        ∙ apart_any costs n held halves child next link s c y a.0 b.0 v a.1 b.1 (differ a.0 b.0 i j less j_in a.1 b.1 a.3 b.3) v_in (ap (λ x. holds n held x v) (sym a.2) ∙ on);
+    links = λ j j_in.
+        let w = placed next y.len c y.closes j k j_in k_in in
+        subst (λ x. IsLink costs n held halves (link_at link x) x (slice_index next x)) (sym w.2) (y.links w.0 w.1);
+  },
+  refl,
+)
   where
     differ : (a b i j : ℕ) → i < j → j < y.len → a < y.len → b < y.len → (a ≡ i + k) ⊎ (a + y.len ≡ i + k) → (b ≡ j + k) ⊎ (b + y.len ≡ j + k) → a ≢ b
     differ a b i j less j_in a_in b_in (inl p) (inl q) = λ same. omega (arith, less, p, q, same)

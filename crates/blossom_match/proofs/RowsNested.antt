@@ -1,10 +1,10 @@
 -- A used node inside a set lies inside one of its children.
-use Rattle.std.proofs.Common.{◌≡◌, ◌≢◌, ◌⊎◌, ℕ, zero, suc, ◌+◌, ◌*◌, ◌-◌, ◌/◌, ◌%◌, ◌<◌, ◌≤◌, Bool, true, false, not, ◌&&◌, ◌||◌, cond, ltb, List, Option, Some, None, is_some, IfSome, length, slice_index, refl, sym, subst, ap, ◌∙◌, arith, inl, inr}
-use Rattle.std.proofs.lemmas.Bool.{cases_eq, cases_lt, cases_order, cases_Bool, false≢true, false_from_ne_true, true_from_ne_false, le-ltb}
+use Rattle.std.proofs.Common.{◌≡◌, ◌≢◌, ◌⊎◌, ℕ, zero, suc, ◌+◌, ◌*◌, ◌<◌, ◌≤◌, Bool, true, false, not, ◌&&◌, ◌||◌, cond, ltb, List, Option, Some, None, is_some, IfSome, refl, sym, subst, ap, ◌∙◌, arith, inl, inr}
+use Rattle.std.proofs.lemmas.Bool.{cases_eq, cases_lt, false≢true, le-ltb}
 use Rattle.blossom_match.specs.declared.costs.Costs.{Costs}
 use Rattle.blossom_match.specs.declared.state.Pair.{Pair}
-use Rattle.blossom_match.specs.Matching.{total, members, Within, Apart, AreDistinct, AreLaminar}
-use Rattle.blossom_match.specs.Views.{holds, link_at, child_at, is_used}
+use Rattle.blossom_match.specs.Matching.{members, Within, AreDistinct}
+use Rattle.blossom_match.specs.Views.{holds, child_at, is_used}
 use Rattle.blossom_match.specs.Between.{IsCycle, AreCycles, AreSets, after}
 use Rattle.blossom_match.proofs.Measuring.{total-less}
 use Rattle.blossom_match.proofs.Duality.{some_or_none}
@@ -97,7 +97,7 @@ child_fewer costs n held halves child next link s c sets y k k_in = elim (cases_
     from j j_in other =
         let m = odd_member n (holds n held (after next j c)) (sets.odd (after next j c) (y.in_slots j j_in) (y.used j j_in)) in
         fewer_at n (holds n held (after next k c)) (holds n held s) m.0 (λ v v_in on. y.inner k v k_in v_in on) m.1
-            (apart_any costs n held halves child next link s c y j k m.0 j_in k_in other m.1 m.2) (y.inner j m.0 j_in m.1 m.2)
+        (apart_any costs n held halves child next link s c y j k m.0 j_in k_in other m.1 m.2) (y.inner j m.0 j_in m.1 m.2)
 
 -- a node that is a child of a set inside s
 pub record IsChildIn (costs : Costs) (n : ℕ) (held : List Bool) (halves : List ℕ) (child : List (Option ℕ)) (next : List ℕ) (link : List Pair) (s t : ℕ) : Type 0 where
@@ -147,8 +147,8 @@ child_in costs n held halves child next link nest (suc m) s c t y s_in s_used sm
           | inr some ↦
               let r = child_in costs n held halves child next link nest m t some.0 (after next k.0 c) some.2 t_in t_used (omega (arith, small, less)) d_in d_used (λ e. differ (sym e)) around_it in
               absurd (not_equal n (holds n held t) (holds n held s) within
-                  (λ w w_in on. r.within w w_in (same_cycle costs n held halves child next link s c r.set r.first y r.cycle k.0 r.place k.1 r.place_in (sym r.at) w w_in on))
-                  (nest.sets.distinct t s t_in s_in t_used s_used other))
+              (λ w w_in on. r.within w w_in (same_cycle costs n held halves child next link s c r.set r.first y r.cycle k.0 r.place k.1 r.place_in (sym r.at) w w_in on))
+              (nest.sets.distinct t s t_in s_in t_used s_used other))
         ]
         | inr (inr apart) ↦ absurd (false≢true (sym (apart v.0 v.1 v.2) ∙ k.2))
       ]
@@ -172,8 +172,8 @@ in_child costs n held halves child next link nest s c t y s_in s_used t_in t_use
           | inr some ↦
               let r = child_in costs n held halves child next link nest (members n (holds n held t)) t some.0 (after next k.0 c) some.2 t_in t_used (omega arith) d_in d_used (λ e. differ (sym e)) around_it in
               absurd (not_equal n (holds n held t) (holds n held s) within
-                  (λ w w_in on. r.within w w_in (same_cycle costs n held halves child next link s c r.set r.first y r.cycle k.0 r.place k.1 r.place_in (sym r.at) w w_in on))
-                  (nest.sets.distinct t s t_in s_in t_used s_used other))
+              (λ w w_in on. r.within w w_in (same_cycle costs n held halves child next link s c r.set r.first y r.cycle k.0 r.place k.1 r.place_in (sym r.at) w w_in on))
+              (nest.sets.distinct t s t_in s_in t_used s_used other))
         ]
         | inr (inr apart) ↦ absurd (false≢true (sym (apart v.0 v.1 v.2) ∙ k.2))
       ]

@@ -1,14 +1,13 @@
 -- What it means that a set is opened: its children are outermost nodes, and matched.
-use Rattle.std.proofs.Common.{◌≡◌, ◌≢◌, ◌⊎◌, ℕ, zero, suc, ◌+◌, ◌*◌, ◌-◌, ◌/◌, ◌%◌, ◌<◌, ◌≤◌, Bool, true, false, cond, List, Option, Some, None, length, slice_index, refl, sym, subst, ap, ◌∙◌, arith, inl, inr}
-use Rattle.std.proofs.lemmas.Bool.{cases_eq, cases_lt, cases_order, cases_Bool, false≢true, false_from_ne_true}
+use Rattle.std.proofs.Common.{◌≡◌, ◌≢◌, ◌⊎◌, ℕ, suc, ◌*◌, ◌-◌, ◌/◌, ◌%◌, ◌<◌, ◌≤◌, Bool, true, false, cond, List, Option, Some, slice_index, refl, sym, subst, ap, ◌∙◌, arith, inl, inr}
+use Rattle.std.proofs.lemmas.Bool.{cases_eq, false≢true, false_from_ne_true}
 use Rattle.blossom_match.specs.declared.costs.Costs.{Costs}
 use Rattle.blossom_match.specs.declared.state.Pair.{Pair}
-use Rattle.blossom_match.specs.Matching.{total, parts, separating}
+use Rattle.blossom_match.specs.Matching.{parts}
 use Rattle.blossom_match.specs.Table.{cost}
-use Rattle.blossom_match.specs.Views.{holds, turned, link_at, mate_at, child_at, is_used, between}
-use Rattle.blossom_match.specs.Between.{IsCycle, IsLink, AreSets, after}
-use Rattle.blossom_match.specs.Cycles.{IsOpened, IsReleased, IsWhole}
-use Rattle.blossom_match.specs.Unfolding.{AreParts}
+use Rattle.blossom_match.specs.Views.{holds, turned, link_at, mate_at, between}
+use Rattle.blossom_match.specs.Between.{IsCycle, AreSets, after}
+use Rattle.blossom_match.specs.Cycles.{IsOpened, IsWhole}
 use Rattle.blossom_match.proofs.Totals.{total-ext}
 use Rattle.blossom_match.proofs.RowsAround.{turned_cycle, whole_len, placed}
 
@@ -78,7 +77,6 @@ even_partner : (costs : Costs) (n : ℕ) (held : List Bool) (halves : List ℕ) 
     IsPartner costs n held halves next base y.len mate k
 even_partner costs n held halves child next link s base mate same y k j k_in even some follows here there =
     let l = y.links j (omega (arith, k_in, follows)) in
-    let p = link_at link (after next j base) in
     record {
       pair = turned (link_at link (after next j base));
       other = j;
@@ -156,10 +154,9 @@ opening_of costs n held halves child next link s c len p top top' mate mate' o d
     let i = o.cycle.covers p.inside o.inside_in o.inside_held in
     let base_is : slice_index top' p.inside ≡ after next i.0 c = d.released.own i.0 p.inside (omega (arith, i.1, len_is)) o.inside_in i.2 in
     let z = turned_cycle costs n held halves child next link s c o.cycle i.0 i.1 in
-    let at : (o : IsOpening costs n held halves child next link s (after next i.0 c) p top top' mate mate') × (o.cycle.len ≡ len) =
-    (
+    let at : (o : IsOpening costs n held halves child next link s (after next i.0 c) p top top' mate mate') × (o.cycle.len ≡ len) = (
       opening_at costs n held halves child next link s c (after next i.0 c) len p top top' mate mate' o d len_is base_is i.2 z.0 z.1
-      (λ k k_in. (let w = placed next o.cycle.len c o.cycle.closes k i.0 (omega (arith, k_in, z.1)) i.1 in (w.0, w.1, w.2))),
+          (λ k k_in. (let w = placed next o.cycle.len c o.cycle.closes k i.0 (omega (arith, k_in, z.1)) i.1 in (w.0, w.1, w.2))),
       z.1 ∙ sym len_is,
     ) in
     subst (λ x. (o : IsOpening costs n held halves child next link s x p top top' mate mate') × (o.cycle.len ≡ len)) (sym base_is) at

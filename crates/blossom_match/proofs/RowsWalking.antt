@@ -1,6 +1,6 @@
 -- One step along a cycle of children.
-use Rattle.std.proofs.Common.{◌≡◌, ◌≢◌, ◌⊎◌, ℕ, zero, suc, ◌+◌, ◌*◌, ◌-◌, ◌/◌, ◌%◌, ◌<◌, ◌≤◌, Bool, true, false, cond, List, Option, Some, length, slice_index, refl, sym, subst, ap, ◌∙◌, arith, inl, inr}
-use Rattle.std.proofs.lemmas.Bool.{cases_eq, cases_lt, cases_order, cases_Bool, false≢true, false_from_ne_true}
+use Rattle.std.proofs.Common.{◌≡◌, ◌≢◌, ℕ, suc, ◌*◌, ◌/◌, ◌<◌, ◌≤◌, Bool, true, false, cond, List, Option, Some, length, slice_index, sym, subst, ap, ◌∙◌, arith, inl, inr}
+use Rattle.std.proofs.lemmas.Bool.{cases_eq, cases_lt, cases_order}
 use Rattle.blossom_match.specs.declared.state.Pair.{Pair}
 use Rattle.blossom_match.specs.Views.{holds, turned, link_at, mate_at}
 use Rattle.blossom_match.specs.Between.{after}
@@ -50,14 +50,6 @@ goes_more next first count count' part' goes at other more j some j_in = elim (c
   | inr less ↦ goes j some (omega (arith, less, j_in, more))
 ]
 
-pub whole_now : (next : List ℕ) (first count count' part' : ℕ) → ((j : ℕ) → 1 ≤ j → j ≤ count → after next j first ≢ first) → part' ≡ after next (suc count) first → part' ≡ first → count' ≡ suc count →
-    IsWhole next count' first
-whole_now next first count count' part' goes at same more = record {
-  some = omega (arith, more);
-  closes = subst (λ x. after next x first ≡ first) (sym more) (sym at ∙ same);
-  least = λ k some k_in. goes k some (omega (arith, k_in, more));
-}
-
 pub one_further : (next : List ℕ) (base i i' part after_part : ℕ) → part ≡ after next (2 * i) base → after_part ≡ slice_index next (slice_index next part) → i' ≡ suc i → after_part ≡ after next (2 * i') base
 one_further next base i i' part after_part at step more =
     let same : suc (suc (2 * i)) ≡ 2 * i' = omega (arith, more) in
@@ -74,8 +66,8 @@ paired_more next link base i i' part mate mate' mate'' at more trip so_far here 
     let two : slice_index next (slice_index next part) ≡ after next (suc (suc (2 * i))) base = ap (λ x. slice_index next (slice_index next x)) at in
     let before : (k : ℕ) → k ≤ 2 * i → mate_at mate'' (after next k base) ≡ mate_at mate' (after next k base) =
     λ k k_in. off (after next k base)
-        (λ e. trip.apart k (suc (2 * i)) (omega (arith, k_in)) (omega (arith, more)) (e ∙ one))
-        (λ e. trip.apart k (suc (suc (2 * i))) (omega (arith, k_in)) (omega (arith, more)) (e ∙ two)) in
+    (λ e. trip.apart k (suc (2 * i)) (omega (arith, k_in)) (omega (arith, more)) (e ∙ one))
+    (λ e. trip.apart k (suc (suc (2 * i))) (omega (arith, k_in)) (omega (arith, more)) (e ∙ two)) in
     record {
       odd = λ j j_in. elim (cases_eq j i) [
         | inl same ↦ subst (λ x. mate_at mate'' (after next (suc (2 * x)) base) ≡ Some (link_at link (after next (suc (2 * x)) base))) (sym same)

@@ -1,9 +1,8 @@
 -- An even way along a cycle.
-use Rattle.std.proofs.Common.{◌≡◌, ◌≢◌, ◌⊎◌, ℕ, zero, suc, ◌+◌, ◌*◌, ◌-◌, ◌/◌, ◌%◌, ◌<◌, ◌≤◌, Bool, true, false, cond, eqb, List, Option, Some, length, slice_index, refl, sym, subst, ap, ◌∙◌, arith, inl, inr}
+use Rattle.std.proofs.Common.{◌≡◌, ◌≢◌, ℕ, suc, ◌+◌, ◌*◌, ◌-◌, ◌/◌, ◌%◌, ◌<◌, ◌≤◌, cond, eqb, List, length, slice_index, refl, sym, subst, ap, ◌∙◌, arith, inl, inr}
 use Rattle.std.proofs.lemmas.Bool.{cases_eq, cases_lt, eq-eqb, ne_eqb}
 use Rattle.blossom_match.specs.declared.state.Pair.{Pair}
 use Rattle.blossom_match.specs.declared.state.Label.{Label}
-use Rattle.blossom_match.specs.declared.state.Label.TheVariants.{Free, Outer, Inner}
 use Rattle.blossom_match.specs.Views.{turned, link_at, label_at}
 use Rattle.blossom_match.specs.Between.{after}
 use Rattle.blossom_match.specs.Cycles.{IsTrip}
@@ -24,12 +23,6 @@ on_trip next slots len base from place c place_in odd at =
         | inr more ↦ c.apart 0 (j + place) (omega (arith, odd)) (omega (arith, less, k_in, place_in)) (sym (ends k (omega (arith, more, k_in, place_in))) ∙ sym same ∙ there j)
       ];
     }
-
-pub back_trip : (next : List ℕ) (slots len base place : ℕ) → IsCircle next slots len base → place < len → IsTrip next slots place base
-back_trip next slots len base place c place_in = record {
-  in_slots = λ k k_in. c.in_slots k (omega (arith, k_in, place_in));
-  apart = λ j k less k_in. c.apart j k less (omega (arith, k_in, place_in));
-}
 
 pub way_back : (next : List ℕ) (link : List Pair) (slots base from len place : ℕ) (e : Pair) (label label' : List Label) (entry entry' entry'' : List Pair) → IsCircle next slots len base → place < len → place % 2 ≡ 0 →
     after next place base ≡ from → AreLabelled next base (place + 1) label label' → AreEnteredBack next link base place entry entry' → link_at entry'' from ≡ e → ((t : ℕ) → t ≢ from → link_at entry'' t ≡ link_at entry' t) →
@@ -52,8 +45,8 @@ way_back next link slots base from len place e label label' entry entry' entry''
       steps = λ i i_in.
           inl (
             stays (after next (place - suc (suc (2 * i))) base)
-            (λ same. c.apart (place - suc (suc (2 * i))) place (omega (arith, i_in)) place_in (same ∙ sym at))
-            ∙ b.each (place - suc (suc (2 * i))) (omega (arith, i_in)),
+                (λ same. c.apart (place - suc (suc (2 * i))) place (omega (arith, i_in)) place_in (same ∙ sym at))
+                ∙ b.each (place - suc (suc (2 * i))) (omega (arith, i_in)),
             ap (λ x. after next x base) (one_up (place - suc (suc (2 * i))) (place - suc (2 * i)) (omega (arith, i_in))),
           );
       entries_off = λ t none.
@@ -63,6 +56,7 @@ way_back next link slots base from len place e label label' entry entry' entry''
   where
     one_up : (a b : ℕ) → suc a ≡ b → suc a ≡ b
     one_up a b is = is
+
     whole : (p : ℕ) → p ≡ p - 0
     whole p = omega arith
 
@@ -120,9 +114,9 @@ way_on next link slots base from len place e label label' entry entry' entry'' c
           let b_at = node (suc (2 * i)) (omega (arith, i_in, twice)) in
           inr (
             ap (λ x. link_at entry'' x) a
-            ∙ stays (after next (suc (suc (2 * i))) from) (λ same. trip.apart 0 (suc (suc (2 * i))) (omega arith) (omega (arith, i_in, twice, place_in)) (sym same))
-            ∙ b.each (suc (2 * i)) (omega (arith, i_in, twice, place_in))
-            ∙ ap (λ x. turned (link_at link x)) (sym b_at),
+                ∙ stays (after next (suc (suc (2 * i))) from) (λ same. trip.apart 0 (suc (suc (2 * i))) (omega arith) (omega (arith, i_in, twice, place_in)) (sym same))
+                ∙ b.each (suc (2 * i)) (omega (arith, i_in, twice, place_in))
+                ∙ ap (λ x. turned (link_at link x)) (sym b_at),
             ap (λ x. slice_index next x) b_at ∙ sym a,
           );
       entries_off = λ t none.

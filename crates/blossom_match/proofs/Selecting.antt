@@ -1,6 +1,6 @@
 -- The nodes that have a weight, one after another.
-use Rattle.std.proofs.Common.{◌≡◌, ◌≢◌, ◌⊎◌, ℕ, zero, suc, ◌+◌, ◌-◌, ◌*◌, ◌<◌, ◌≤◌, Bool, true, false, cond, eqb, List, [], ◌∷◌, ◌++◌, length, take, drop, get_or, slice_index, refl, sym, subst, ap, ◌∙◌, arith, inl, inr}
-use Rattle.std.proofs.lemmas.Bool.{cases_eq, cases_lt, eq-eqb, ne_eqb}
+use Rattle.std.proofs.Common.{◌≡◌, ◌≢◌, ℕ, suc, ◌+◌, ◌-◌, ◌*◌, ◌<◌, ◌≤◌, Bool, true, false, cond, eqb, List, [], ◌∷◌, ◌++◌, length, take, drop, get_or, slice_index, refl, sym, subst, ap, ◌∙◌, arith, inl, inr}
+use Rattle.std.proofs.lemmas.Bool.{cases_eq, eq-eqb, ne_eqb}
 use Rattle.std.proofs.lemmas.List.{get_or_append_left, get_or_at, get_or-append_right, get_or-take, get_or-drop, length-append, length-take-le, length-drop}
 use Rattle.std.proofs.Math.Nat.{mul-le-mul_left}
 use Rattle.blossom_match.specs.declared.state.State.{State}
@@ -20,6 +20,7 @@ skipped state s starts members weights p none = record {
   node_in = λ i below. omega (arith, p.node_in i below);
   rising = p.rising;
   some = p.some;
+  weight = p.weight;
   starts_len = p.starts_len;
   ends = p.ends;
   within = p.within;
@@ -34,6 +35,7 @@ begin_picked state = record {
   node_in = λ i below. absurd (omega (arith, below));
   rising = λ i j less below. absurd (omega (arith, below));
   some = λ i below. absurd (omega (arith, below));
+  weight = λ i below. absurd (omega (arith, below));
   starts_len = refl;
   ends = refl;
   within = λ i below. absurd (omega (arith, below));
@@ -77,6 +79,11 @@ picked state s starts members weights p some =
       some = λ i below. elim (cases_eq i (length weights)) [
         | inl same ↦ subst (λ x. 1 ≤ slice_index state.halves.items x) (sym (ap node' same ∙ at_last)) some
         | inr other ↦ subst (λ x. 1 ≤ slice_index state.halves.items x) (sym (off i other)) (p.some i (low i below other))
+      ];
+      weight = λ i below. elim (cases_eq i (length weights)) [
+        | inl same ↦ ap (λ x. slice_index (weights ++ (h ∷ [])) x) same ∙ weight_last ∙ ap (λ x. slice_index state.halves.items x) (sym (ap node' same ∙ at_last))
+        | inr other ↦ (
+            let i_low = low i below other in weight_off i i_low ∙ p.weight i i_low ∙ ap (λ x. slice_index state.halves.items x) (sym (off i other)))
       ];
       starts_len = omega (arith, starts_long, weights_long, p.starts_len);
       ends = starts_end (length (weights ++ (h ∷ []))) (omega (arith, weights_long, p.starts_len));

@@ -1,27 +1,20 @@
 -- One node is made of an odd cycle: what holds between two searches is kept.
-use Rattle.std.proofs.Common.{◌≡◌, ◌≢◌, ◌⊎◌, ℕ, zero, suc, ◌+◌, ◌*◌, ◌-◌, ◌%◌, ◌<◌, ◌≤◌, Bool, true, false, not, ◌&&◌, ◌||◌, cond, eqb, ltb, List, Option, Some, None, is_some, IfSome, IsSomeAnd, length, slice_index, get_or, set, refl, sym, subst, ap, ◌∙◌, arith, inl, inr}
-use Rattle.std.proofs.lemmas.Bool.{cases_eq, cases_lt, cases_order, cases_Bool, false≢true, eq-eqb, ne_eqb, eqb-true, le-ltb, or_right, false_from_ne_true}
+use Rattle.std.proofs.Common.{◌≡◌, ◌≢◌, ℕ, zero, suc, ◌*◌, ◌%◌, ◌<◌, ◌≤◌, Bool, true, false, ◌||◌, cond, eqb, ltb, Option, Some, None, is_some, IfSome, slice_index, refl, sym, subst, ap, ◌∙◌, arith, inl, inr}
+use Rattle.std.proofs.lemmas.Bool.{cases_eq, cases_order, cases_Bool, false≢true, eq-eqb, ne_eqb, eqb-true, le-ltb, or_right, false_from_ne_true}
 use Rattle.std.proofs.lemmas.List.{get_or-set_same, get_or-set_other}
-use Rattle.std.proofs.Math.ListN.{length-set}
 use Rattle.blossom_match.specs.declared.costs.Costs.{Costs}
 use Rattle.blossom_match.specs.declared.state.State.{State}
-use Rattle.blossom_match.specs.declared.state.Pair.{Pair}
-use Rattle.blossom_match.specs.declared.state.Label.{Label}
-use Rattle.blossom_match.specs.declared.state.Label.TheVariants.{Free, Outer, Inner}
-use Rattle.blossom_match.specs.Matching.{total, members, parts, IsOdd, Within, Apart, AreLaminar, AreDistinct}
-use Rattle.blossom_match.specs.Table.{cost}
-use Rattle.blossom_match.specs.Views.{holds, held_sum, between, label_at, mate_at, link_at, child_at, is_used, turned}
-use Rattle.blossom_match.specs.Turns.{top_of, sum_of, label_of}
+use Rattle.blossom_match.specs.Matching.{total, members, parts, IsOdd, AreLaminar}
+use Rattle.blossom_match.specs.Views.{holds, held_sum, between, link_at, child_at, is_used}
+use Rattle.blossom_match.specs.Turns.{top_of}
 use Rattle.blossom_match.specs.Rings.{IsRing, IsSlot, IsShrunk}
-use Rattle.blossom_match.specs.Between.{AreTops, AreSets, AreWeights, AreCycles, AreMatched, AreBased, IsCycle, IsLink, IsMatched, IsTight, IsShape, IsBetween, IsSearching, after}
+use Rattle.blossom_match.specs.Between.{AreTops, AreSets, AreWeights, AreCycles, IsCycle, IsLink, IsBetween, IsSearching, after}
 use Rattle.blossom_match.proofs.Totals.{total-ext, total-none, total-only, total-swap}
 use Rattle.blossom_match.proofs.Duality.{some_or_none}
-use Rattle.blossom_match.proofs.Raising.{between_apart, cond_same}
-use Rattle.blossom_match.proofs.Moving.{if_some_map, some_not_none}
-use Rattle.blossom_match.proofs.Growing.{if_some_at}
+use Rattle.blossom_match.proofs.Raising.{between_apart}
 use Rattle.blossom_match.proofs.Limits.{top_used}
 use Rattle.blossom_match.proofs.Answering.{laminar_same}
-use Rattle.blossom_match.proofs.Keeping.{odd_member, cycle_moved, child_inside}
+use Rattle.blossom_match.proofs.Keeping.{cycle_moved, child_inside}
 
 pub record Shrunk (costs : Costs) (before now : State) (on : ℕ → Bool) (whole end : ℕ) : Type 0 where
   pub searching : IsSearching costs before
@@ -89,13 +82,13 @@ counted costs before now on whole end x v = elim (cases_Bool (on (top_of before 
       let w = x.ring.all (top_of before v) at in
       ap (λ b. cond {A = ℕ} b 1 0) at
       ∙ sym (
-        total-only x.ring.len (λ k. cond (eqb (top_of before v) (x.ring.spot k)) 1 0) w.0 w.1
-        (λ k k_in other. ap (λ b. cond b 1 0) (ne_eqb (top_of before v) (x.ring.spot k) (λ e. elim (cases_order k w.0) [
-          | inl same ↦ other same
-          | inr (inl less) ↦ x.ring.apart k w.0 less w.1 (sym e ∙ sym w.2)
-          | inr (inr more) ↦ x.ring.apart w.0 k more k_in (w.2 ∙ e)
-        ])))
-        ∙ ap (λ b. cond b 1 0) (eq-eqb (top_of before v) (x.ring.spot w.0) (sym w.2)))
+      total-only x.ring.len (λ k. cond (eqb (top_of before v) (x.ring.spot k)) 1 0) w.0 w.1
+      (λ k k_in other. ap (λ b. cond b 1 0) (ne_eqb (top_of before v) (x.ring.spot k) (λ e. elim (cases_order k w.0) [
+        | inl same ↦ other same
+        | inr (inl less) ↦ x.ring.apart k w.0 less w.1 (sym e ∙ sym w.2)
+        | inr (inr more) ↦ x.ring.apart w.0 k more k_in (w.2 ∙ e)
+      ])))
+      ∙ ap (λ b. cond b 1 0) (eq-eqb (top_of before v) (x.ring.spot w.0) (sym w.2)))
   | inr off ↦
       ap (λ b. cond {A = ℕ} b 1 0) off
       ∙ sym (total-none x.ring.len (λ k. cond (eqb (top_of before v) (x.ring.spot k)) 1 0)

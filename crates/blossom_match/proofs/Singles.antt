@@ -1,15 +1,12 @@
 -- What holds before the first search.
-use Rattle.std.proofs.Common.{◌≡◌, ◌≢◌, ◌⊎◌, ℕ, zero, suc, ◌+◌, ◌*◌, ◌%◌, ◌<◌, ◌≤◌, Bool, true, false, ◌||◌, cond, ltb, List, Option, Some, None, is_some, IfSome, length, slice_index, get_or, replicate, refl, sym, subst, ap, ◌∙◌, arith, inl, inr}
+use Rattle.std.proofs.Common.{◌≡◌, ◌≢◌, ℕ, zero, suc, ◌+◌, ◌*◌, ◌%◌, ◌<◌, ◌≤◌, Bool, true, false, ◌||◌, cond, ltb, List, Option, None, is_some, IfSome, slice_index, get_or, replicate, refl, sym, subst, ap, ◌∙◌, arith, inl, inr}
 use Rattle.std.proofs.lemmas.Bool.{cases_eq, cases_lt, le-ltb, lt-ltb, false≢true}
 use Rattle.blossom_match.specs.declared.costs.Costs.{Costs}
 use Rattle.blossom_match.specs.declared.state.State.{State}
 use Rattle.blossom_match.specs.declared.state.Pair.{Pair}
-use Rattle.blossom_match.specs.declared.state.Label.{Label}
-use Rattle.blossom_match.specs.declared.state.Label.TheVariants.{Free, Outer, Inner}
-use Rattle.blossom_match.specs.Matching.{total, members, parts, IsOdd, Within, Apart, AreLaminar, AreDistinct}
-use Rattle.blossom_match.specs.Table.{cost}
-use Rattle.blossom_match.specs.Views.{holds, held_sum, between, label_at, mate_at, link_at, child_at, is_used}
-use Rattle.blossom_match.specs.Between.{AreTops, AreSets, AreWeights, AreCycles, AreMatched, AreBased, IsCycle, IsMatched, IsShape, IsBetween}
+use Rattle.blossom_match.specs.Matching.{members, parts}
+use Rattle.blossom_match.specs.Views.{holds, between, mate_at, child_at}
+use Rattle.blossom_match.specs.Between.{AreTops, AreSets, AreWeights, AreCycles, AreBased, IsCycle, IsMatched, IsShape, IsBetween}
 use Rattle.blossom_match.proofs.Totals.{total-none, total-only}
 
 -- single members, each its own outermost node

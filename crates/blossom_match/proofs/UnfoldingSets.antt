@@ -1,15 +1,15 @@
 -- What leads out of each used node once a set is opened.
-use Rattle.std.proofs.Common.{◌≡◌, ◌≢◌, ◌⊎◌, ℕ, zero, suc, ◌+◌, ◌*◌, ◌%◌, ◌<◌, ◌≤◌, Bool, true, false, cond, List, Option, Some, None, IsSomeAnd, length, slice_index, refl, sym, subst, ap, ◌∙◌, arith, inl, inr}
-use Rattle.std.proofs.lemmas.Bool.{cases_eq, cases_lt, cases_Bool, false≢true, false_from_ne_true}
+use Rattle.std.proofs.Common.{◌≡◌, ◌≢◌, ℕ, ◌*◌, ◌<◌, ◌≤◌, Bool, true, false, List, Option, Some, slice_index, sym, subst, ap, ◌∙◌, arith, inl, inr}
+use Rattle.std.proofs.lemmas.Bool.{cases_eq, cases_Bool, false≢true, false_from_ne_true}
 use Rattle.blossom_match.specs.declared.costs.Costs.{Costs}
 use Rattle.blossom_match.specs.declared.state.Pair.{Pair}
-use Rattle.blossom_match.specs.Matching.{total, members, Within}
+use Rattle.blossom_match.specs.Matching.{members}
 use Rattle.blossom_match.specs.Views.{holds, mate_at, is_used}
-use Rattle.blossom_match.specs.Between.{AreSets, AreCycles, after}
-use Rattle.blossom_match.specs.Unfolding.{AreParts, ArePairedTops, IsPaired, IsAlike, IsLedOut, AreLedOut}
+use Rattle.blossom_match.specs.Between.{after}
+use Rattle.blossom_match.specs.Unfolding.{IsAlike, IsLedOut, AreLedOut}
 use Rattle.blossom_match.proofs.Augmenting.{some_same}
 use Rattle.blossom_match.proofs.RowsNested.{IsNest, in_child, child_fewer}
-use Rattle.blossom_match.proofs.UnfoldingTops.{IsOpenedTop, IsInChild, IsElsewhere, where_now, not_child, pair_out}
+use Rattle.blossom_match.proofs.UnfoldingTops.{IsOpenedTop, where_now, not_child, pair_out}
 
 -- the pairs of the other children stay inside
 child_pair_inside : (costs : Costs) (n : ℕ) (held : List Bool) (halves : List ℕ) (child : List (Option ℕ)) (next : List ℕ) (link : List Pair) (s base : ℕ) (p : Pair)
@@ -170,7 +170,7 @@ opened_around costs n held halves child next link s base p top top' mate mate' z
                     let same : p ≡ q = some_same p q (sym z.opening.at_base ∙ ap (λ k. mate_at mate' (after next k base)) (sym first) ∙ ap (λ x. mate_at mate' x) (sym i.at) ∙ is) in
                     ap (λ x. holds n held t x.outside) (sym same)
                     ∙ l.others p.inside p z.opening.inside_in (inside p.inside z.opening.inside_in held_s)
-                        (λ e. differ (sym e ∙ z.topmost p.inside z.opening.inside_in held_s)) (ap (λ x. mate_at mate x) (z.topmost p.inside z.opening.inside_in held_s) ∙ z.matched)
+                    (λ e. differ (sym e ∙ z.topmost p.inside z.opening.inside_in held_s)) (ap (λ x. mate_at mate x) (z.topmost p.inside z.opening.inside_in held_s) ∙ z.matched)
                 | inr later ↦ through v q i.place (omega (arith, later)) i.place_in i.at is
               ]
               | inr e ↦ l.others v q v_in at_v (λ same. other (e.at ∙ same ∙ sym (z.opening.off l.base l.base_in base_off)))
@@ -194,12 +194,12 @@ opened_once costs n held halves child next link s base p top top' mate mate' z n
   | inr other ↦ elim (once t t_in t_used) [
     | inl alike ↦ inl (opened_alike costs n held halves child next link s base p top top' mate mate' z nest s_in s_used t t_in t_used other alike)
     | inr led ↦ inr (elim (cases_Bool (holds n held t p.inside)) [
-        | inr off ↦ opened_beside costs n held halves child next link s base p top top' mate mate' z t off led
-        | inl on ↦ opened_around costs n held halves child next link s base p top top' mate mate' z t
-            (λ v v_in at_v. led.whole p.inside v z.opening.inside_in v_in on
-            (z.topmost v v_in at_v ∙ sym (z.topmost p.inside z.opening.inside_in (inside_held costs n held halves child next link s base p top top' mate mate' z))))
-            led
-      ])
+      | inr off ↦ opened_beside costs n held halves child next link s base p top top' mate mate' z t off led
+      | inl on ↦ opened_around costs n held halves child next link s base p top top' mate mate' z t
+          (λ v v_in at_v. led.whole p.inside v z.opening.inside_in v_in on
+          (z.topmost v v_in at_v ∙ sym (z.topmost p.inside z.opening.inside_in (inside_held costs n held halves child next link s base p top top' mate mate' z))))
+          led
+    ])
   ]
 ]
 

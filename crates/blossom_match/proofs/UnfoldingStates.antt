@@ -1,26 +1,24 @@
 -- The state while sets are unfolded.
-use Rattle.std.proofs.Common.{◌≡◌, ◌≢◌, ◌⊎◌, ℕ, zero, suc, ◌+◌, ◌*◌, ◌%◌, ◌<◌, ◌≤◌, Bool, true, false, cond, List, Option, Some, None, IsSome, IfSome, IsSomeAnd, length, slice_index, refl, sym, subst, ap, ◌∙◌, arith, inl, inr}
-use Rattle.std.proofs.lemmas.Bool.{cases_eq, cases_lt, cases_Bool, false≢true, false_from_ne_true, true_from_ne_false}
+use Rattle.std.proofs.Common.{◌≡◌, ◌≢◌, ℕ, ◌*◌, ◌<◌, true, List, Option, Some, None, IsSome, IfSome, IsSomeAnd, length, slice_index, refl, sym, subst, ap, ◌∙◌, arith, inl, inr}
+use Rattle.std.proofs.lemmas.Bool.{false≢true, false_from_ne_true, true_from_ne_false}
 use Rattle.blossom_match.specs.declared.costs.Costs.{Costs}
 use Rattle.blossom_match.specs.declared.state.State.{State}
 use Rattle.blossom_match.specs.declared.state.Pair.{Pair}
-use Rattle.blossom_match.specs.Matching.{IsPerfect}
 use Rattle.blossom_match.specs.Table.{cost, IsAsked}
 use Rattle.blossom_match.specs.Views.{holds, turned, mate_at, child_at, is_used, between}
 use Rattle.blossom_match.specs.Turns.{top_of}
-use Rattle.blossom_match.specs.Between.{IsBetween, IsMatched, IsCycle, HasMate, after}
+use Rattle.blossom_match.specs.Between.{IsBetween, IsMatched, IsCycle, HasMate}
 use Rattle.blossom_match.specs.Cycles.{IsOpened, IsRound}
 use Rattle.blossom_match.specs.Unfolded.{IsUnfolded, LeadsOutOnce, mate_of, outside_of}
-use Rattle.blossom_match.specs.Unfolding.{AreParts, ArePairedTops, IsPaired, IsAlike, IsLedOut, AreLedOut, IsUnfolding}
+use Rattle.blossom_match.specs.Unfolding.{AreParts, IsPaired, IsAlike, IsLedOut, IsUnfolding}
 use Rattle.blossom_match.proofs.Raising.{between_apart}
 use Rattle.blossom_match.proofs.Augmenting.{some_same}
-use Rattle.blossom_match.proofs.Moving.{some_not_none}
 use Rattle.blossom_match.proofs.Keeping.{odd_member}
 use Rattle.blossom_match.proofs.RowsAround.{round_of}
-use Rattle.blossom_match.proofs.RowsNested.{IsNest, single_or_cycle, if_some_number}
-use Rattle.blossom_match.proofs.RowsOpening.{IsOpening, IsOpenable, opening_of, first_place}
-use Rattle.blossom_match.proofs.UnfoldingTops.{IsOpenedTop, some_is, some_pair, opened_parts, opened_matched}
-use Rattle.blossom_match.proofs.UnfoldingSets.{opened_once, opened_fewer, opened_others}
+use Rattle.blossom_match.proofs.RowsNested.{if_some_number}
+use Rattle.blossom_match.proofs.RowsOpening.{IsOpenable, opening_of}
+use Rattle.blossom_match.proofs.UnfoldingTops.{IsOpenedTop, some_pair, opened_parts, opened_matched}
+use Rattle.blossom_match.proofs.UnfoldingSets.{opened_once}
 
 some_if : (o : Option Pair) (P Q : Pair → Type 0) → IsSome o → IfSome o P → ((p : Pair) → P p → Q p) → IsSomeAnd o Q
 some_if None P Q some has to = absurd (false≢true some)
@@ -152,27 +150,6 @@ unfolding_more costs before now v base p u v_in used z r = record {
       z (record { sets = u.sets; cycles = u.cycles }) (u.parts.top_in v v_in) used u.once);
 }
 
--- the set of a member has a child
-pub has_child : (costs : Costs) (state : State) (v : ℕ) → IsUnfolding costs state → v < state.size → state.size ≤ top_of state v → child_at state.child.items (top_of state v) ≡ None → ⊥
-has_child costs state v u v_in larger none =
-    let used : is_used state.size state.child.items (top_of state v) ≡ true = true_from_ne_false (is_used state.size state.child.items (top_of state v))
-    (λ unused. false≢true (sym (u.sets.empty (top_of state v) v (u.parts.top_in v v_in) v_in unused) ∙ u.parts.own v v_in)) in
-    elim (single_or_cycle costs state.size state.held.items state.halves.items state.child.items state.next.items state.link.items u.cycles (top_of state v) (u.parts.top_in v v_in) used) [
-      | inl low ↦ absurd (omega (arith, low, larger))
-      | inr some ↦ none_some (child_at state.child.items (top_of state v)) some.0 none some.1
-    ]
-  where
-    none_some : (o : Option ℕ) (c : ℕ) → o ≡ None → o ≡ Some c → ⊥
-    none_some o c is_none is_some = number_not_none c (sym is_some ∙ is_none)
-      where
-        number_not_none : (c : ℕ) → Some c ≡ None → ⊥
-        number_not_none c e = cc
-
-pub has_pair : (costs : Costs) (state : State) (v : ℕ) → IsUnfolding costs state → v < state.size → mate_at state.mate.items (top_of state v) ≡ None → ⊥
-has_pair costs state v u v_in none =
-    let q = some_pair (mate_at state.mate.items (top_of state v)) (IsPaired costs state.size state.held.items state.halves.items state.top.items state.mate.items (top_of state v)) (u.matched v v_in) in
-    some_not_none q.0 (sym q.1 ∙ none)
-
 -- a member that is an outermost node, and its pair
 record IsLone (costs : Costs) (state : State) (v : ℕ) (p : Pair) : Type 0 where
   is : mate_at state.mate.items v ≡ Some p
@@ -185,8 +162,7 @@ record IsLone (costs : Costs) (state : State) (v : ℕ) (p : Pair) : Type 0 wher
 lone : (costs : Costs) (state : State) → IsUnfolding costs state → ((v : ℕ) → v < state.size → top_of state v ≡ v) → (v : ℕ) → v < state.size → (p : Pair) × IsLone costs state v p
 lone costs state u singles v v_in =
     let q = some_pair (mate_at state.mate.items (top_of state v)) (IsPaired costs state.size state.held.items state.halves.items state.top.items state.mate.items (top_of state v)) (u.matched v v_in) in
-    let here : q.0.inside ≡ v = sym (singles q.0.inside q.2.inside_in) ∙ q.2.here ∙ singles v v_in in
-    (
+    let here : q.0.inside ≡ v = sym (singles q.0.inside q.2.inside_in) ∙ q.2.here ∙ singles v v_in in (
       q.0,
       record {
         is = ap (λ t. mate_at state.mate.items t) (sym (singles v v_in)) ∙ q.1;
@@ -216,7 +192,7 @@ once_alike costs state u singles s s_in used alike =
       held = m.2;
       out = ap (λ x. holds state.size state.held.items s x) is
           ∙ false_from_ne_true (holds state.size state.held.items s p.0.outside)
-              (λ on. p.1.apart (sym (singles p.0.outside p.1.outside_in) ∙ alike p.0.outside m.0 p.1.outside_in m.1 on m.2 ∙ singles m.0 m.1));
+          (λ on. p.1.apart (sym (singles p.0.outside p.1.outside_in) ∙ alike p.0.outside m.0 p.1.outside_in m.1 on m.2 ∙ singles m.0 m.1));
       others = λ v v_in other on. absurd (other (sym (singles v v_in) ∙ alike v m.0 v_in m.1 on m.2 ∙ singles m.0 m.1));
     }
 

@@ -1,18 +1,15 @@
 -- The outermost nodes and their pairs once a set is opened.
-use Rattle.std.proofs.Common.{◌≡◌, ◌≢◌, ◌⊎◌, ℕ, zero, suc, ◌+◌, ◌*◌, ◌%◌, ◌<◌, ◌≤◌, Bool, true, false, cond, List, Option, Some, None, IsSomeAnd, length, slice_index, refl, sym, subst, ap, ◌∙◌, arith, inl, inr}
-use Rattle.std.proofs.lemmas.Bool.{cases_eq, cases_lt, cases_Bool, false≢true, false_from_ne_true}
+use Rattle.std.proofs.Common.{◌≡◌, ◌≢◌, ◌⊎◌, ℕ, zero, suc, ◌*◌, ◌%◌, ◌<◌, Bool, true, false, List, Option, Some, None, IsSomeAnd, slice_index, refl, sym, subst, ap, ◌∙◌, arith, inl, inr}
+use Rattle.std.proofs.lemmas.Bool.{cases_Bool, false≢true, false_from_ne_true}
 use Rattle.blossom_match.specs.declared.costs.Costs.{Costs}
 use Rattle.blossom_match.specs.declared.state.Pair.{Pair}
-use Rattle.blossom_match.specs.Matching.{total, members, Within}
-use Rattle.blossom_match.specs.Table.{cost}
-use Rattle.blossom_match.specs.Views.{holds, turned, link_at, mate_at, child_at, is_used, between}
-use Rattle.blossom_match.specs.Between.{IsCycle, AreSets, AreCycles, after}
-use Rattle.blossom_match.specs.Unfolding.{AreParts, ArePairedTops, IsPaired, IsAlike, IsLedOut, AreLedOut}
+use Rattle.blossom_match.specs.Views.{holds, turned, mate_at}
+use Rattle.blossom_match.specs.Between.{IsCycle, AreSets, after}
+use Rattle.blossom_match.specs.Unfolding.{AreParts, IsPaired}
 use Rattle.blossom_match.proofs.Augmenting.{some_same}
 use Rattle.blossom_match.proofs.Moving.{is_some_map}
 use Rattle.blossom_match.proofs.RowsAround.{child_apart}
-use Rattle.blossom_match.proofs.RowsNested.{IsNest, in_child}
-use Rattle.blossom_match.proofs.RowsOpening.{IsOpening, IsPartner}
+use Rattle.blossom_match.proofs.RowsOpening.{IsOpening}
 
 pub some_is : (o : Option Pair) (P : Pair → Type 0) (p : Pair) → o ≡ Some p → P p → IsSomeAnd o P
 some_is o P p is has = subst (λ x. IsSomeAnd x P) (sym is) has
@@ -60,7 +57,6 @@ not_child costs n held halves child next link s base top y parts v v_in off k k_
 pub opened_parts : (costs : Costs) (n : ℕ) (held : List Bool) (halves : List ℕ) (child : List (Option ℕ)) (next : List ℕ) (link : List Pair) (s base : ℕ) (p : Pair)
     (top top' : List ℕ) (mate mate' : List (Option Pair)) → IsOpenedTop costs n held halves child next link s base p top top' mate mate' → AreParts n held top'
 opened_parts costs n held halves child next link s base p top top' mate mate' z =
-    let x = z.opening in
     record {
       top_in = λ v v_in. elim (where_now costs n held halves child next link s base p top top' mate mate' z.opening v v_in) [
         | inl i ↦ subst (λ t. t < 2 * n) (sym i.at) (z.opening.cycle.in_slots i.place i.place_in)

@@ -1,5 +1,5 @@
 -- One cost is written, in both orders.
-use Rattle.std.proofs.Common.{◌≡◌, ◌≢◌, ◌⊎◌, ℕ, ◌+◌, ◌*◌, ◌<◌, ◌≤◌, List, length, get_or, set, refl, sym, subst, ap, ◌∙◌, arith, inl, inr}
+use Rattle.std.proofs.Common.{◌≡◌, ◌≢◌, ℕ, ◌+◌, ◌*◌, ◌<◌, ◌≤◌, List, length, get_or, set, refl, sym, subst, ap, ◌∙◌, arith, inl, inr}
 use Rattle.std.proofs.lemmas.Bool.{cases_eq}
 use Rattle.std.proofs.lemmas.List.{get_or-set_same, get_or-set_other}
 use Rattle.std.proofs.Math.ListN.{length-set}
@@ -51,19 +51,19 @@ table_kept before now u v x table u_in v_in apart small size is =
           let a_in : a < before.size = omega (arith, a_now, size) in
           let b_in : b < before.size = omega (arith, b_now, size) in
           elim (cases_eq a u) [
-        | inl a_u ↦ elim (cases_eq b v) [
-          | inl b_v ↦ rw (a_u, b_v) (w.there ∙ sym w.back)
-          | inr b_not ↦ w.others a b a_in b_in (λ p q. b_not q) (λ p q. apart (sym a_u ∙ p)) ∙ table.same a b a_in b_in
-              ∙ sym (w.others b a b_in a_in (λ p q. apart (sym a_u ∙ q)) (λ p q. b_not p))
-        ]
-        | inr a_not ↦ elim (cases_eq a v) [
-          | inl a_v ↦ elim (cases_eq b u) [
-            | inl b_u ↦ rw (a_v, b_u) (w.back ∙ sym w.there)
-            | inr b_not ↦ w.others a b a_in b_in (λ p q. a_not p) (λ p q. b_not q) ∙ table.same a b a_in b_in
-                ∙ sym (w.others b a b_in a_in (λ p q. b_not p) (λ p q. a_not q))
-          ]
-          | inr a_other ↦ w.others a b a_in b_in (λ p q. a_not p) (λ p q. a_other p) ∙ table.same a b a_in b_in
-              ∙ sym (w.others b a b_in a_in (λ p q. a_other q) (λ p q. a_not q))
-        ]
-      ];
+            | inl a_u ↦ elim (cases_eq b v) [
+              | inl b_v ↦ rw (a_u, b_v) (w.there ∙ sym w.back)
+              | inr b_not ↦ w.others a b a_in b_in (λ p q. b_not q) (λ p q. apart (sym a_u ∙ p)) ∙ table.same a b a_in b_in
+                  ∙ sym (w.others b a b_in a_in (λ p q. apart (sym a_u ∙ q)) (λ p q. b_not p))
+            ]
+            | inr a_not ↦ elim (cases_eq a v) [
+              | inl a_v ↦ elim (cases_eq b u) [
+                | inl b_u ↦ rw (a_v, b_u) (w.back ∙ sym w.there)
+                | inr b_not ↦ w.others a b a_in b_in (λ p q. a_not p) (λ p q. b_not q) ∙ table.same a b a_in b_in
+                    ∙ sym (w.others b a b_in a_in (λ p q. b_not p) (λ p q. a_not q))
+              ]
+              | inr a_other ↦ w.others a b a_in b_in (λ p q. a_not p) (λ p q. a_other p) ∙ table.same a b a_in b_in
+                  ∙ sym (w.others b a b_in a_in (λ p q. a_other q) (λ p q. a_not q))
+            ]
+          ];
     }

@@ -1,5 +1,5 @@
 -- Matchings with weights on odd sets, as they are answered. Members are numbered from 0 here, and from 1 in the lists of the sets.
-use Rattle.std.specs.Prelude.{◌≡◌, ℕ, zero, suc, ◌+◌, ◌-◌, ◌*◌, ◌<◌, ◌≤◌, ◌==◌, ◌||◌, Bool, false, length, slice_index}
+use Rattle.std.specs.Prelude.{◌≡◌, ℕ, zero, suc, ◌+◌, ◌-◌, ◌<◌, ◌≤◌, ◌==◌, ◌||◌, Bool, false, length, slice_index}
 use Rattle.blossom_match.specs.declared.costs.Costs.{Costs}
 use Rattle.blossom_match.specs.declared.least.Matching.{Matching}
 use Rattle.blossom_match.specs.Matching.{IsProved, members}
@@ -52,5 +52,6 @@ pub record IsMatching (m : Matching) : Type 0 where
 pub record IsLeastBy (costs : Costs) (m : Matching) : Type 0 where
   pub size : m.size ≡ costs.size
   pub made : IsMatching m
+  pub some : (i : ℕ) → i < sets_in m → 1 ≤ halves_in m i
   pub listed : (i : ℕ) → i < sets_in m → IsListed m.size (len_in m i) (member_in m i)
   pub proved : IsProved costs.size (cost costs) (mate_in m) (sets_in m) (set_in m) (halves_in m)

@@ -1,10 +1,10 @@
 -- How the children of an inner node take its place in the tree. No public contract speaks of this.
-use Rattle.std.specs.Prelude.{◌≡◌, ◌≢◌, ◌⊎◌, ℕ, zero, suc, ◌+◌, ◌*◌, ◌/◌, ◌%◌, ◌<◌, ◌≤◌, Bool, true, false, List, length, slice_index, Option, Some, None}
+use Rattle.std.specs.Prelude.{◌≡◌, ◌≢◌, ◌⊎◌, ℕ, suc, ◌*◌, ◌%◌, ◌<◌, ◌≤◌, false, List, length, None}
 use Rattle.blossom_match.specs.declared.state.State.{State}
 use Rattle.blossom_match.specs.declared.state.Pair.{Pair}
 use Rattle.blossom_match.specs.declared.state.Label.{Label}
 use Rattle.blossom_match.specs.declared.state.Label.TheVariants.{Free, Outer, Inner}
-use Rattle.blossom_match.specs.Views.{holds, turned, child_at, link_at, mate_at, label_at}
+use Rattle.blossom_match.specs.Views.{holds, turned, child_at, link_at, label_at}
 use Rattle.blossom_match.specs.Between.{after}
 use Rattle.blossom_match.specs.Cycles.{IsOpened}
 

@@ -1,5 +1,5 @@
 -- What each answer to an event keeps of the tree. No public contract speaks of this.
-use Rattle.std.specs.Prelude.{◌≡◌, ℕ, ◌<◌, ◌≤◌}
+use Rattle.std.specs.Prelude.{◌≡◌, ℕ, ◌<◌}
 use Rattle.blossom_match.specs.declared.state.State.{State}
 use Rattle.blossom_match.specs.declared.state.Label.TheVariants.{Outer}
 use Rattle.blossom_match.specs.Turns.{top_of, label_of}

@@ -1,12 +1,11 @@
 -- An odd cycle of nodes of a tree, and the node that is made of it. No public contract speaks of this.
-use Rattle.std.specs.Prelude.{◌≡◌, ◌≢◌, ℕ, zero, suc, ◌+◌, ◌*◌, ◌%◌, ◌<◌, ◌≤◌, Bool, true, false, if◌then◌else◌, List, length, slice_index, slice_set, Option, Some, None, IsSome}
+use Rattle.std.specs.Prelude.{◌≡◌, ◌≢◌, ℕ, suc, ◌+◌, ◌*◌, ◌%◌, ◌<◌, ◌≤◌, Bool, true, false, if◌then◌else◌, List, length, slice_index, slice_set, Some, None, IsSome}
 use Rattle.blossom_match.specs.declared.costs.Costs.{Costs}
 use Rattle.blossom_match.specs.declared.state.State.{State}
 use Rattle.blossom_match.specs.declared.state.Pair.{Pair}
-use Rattle.blossom_match.specs.declared.state.Label.{Label}
 use Rattle.blossom_match.specs.declared.state.Label.TheVariants.{Free, Outer, Inner}
-use Rattle.blossom_match.specs.Views.{holds, label_at, link_at, mate_at, child_at}
-use Rattle.blossom_match.specs.Between.{IsTight, IsTree}
+use Rattle.blossom_match.specs.Views.{holds, link_at, mate_at, child_at}
+use Rattle.blossom_match.specs.Between.{IsTight}
 use Rattle.blossom_match.specs.Turns.{top_of, label_of}
 
 -- an odd cycle of nodes, joined by tight pairs, with its node of least depth
@@ -30,7 +29,6 @@ pub record IsRing (costs : Costs) (state : State) (depth : ℕ → ℕ) (next : 
   pub has_inner : (s : ℕ) × (on s ≡ true) × (label_of state s ≡ Inner)
   pub matched : (s : ℕ) → on s ≡ true → s ≢ end → IsSome (mate_at state.mate.items s)
   pub mates_on : (s : ℕ) (p : Pair) → on s ≡ true → s ≢ end → mate_at state.mate.items s ≡ Some p → on (top_of state p.outside) ≡ true
-  pub mates_not_end : (s : ℕ) (p : Pair) → on s ≡ true → s ≢ end → mate_at state.mate.items s ≡ Some p → top_of state p.outside ≢ end
   pub end_off : (p : Pair) → mate_at state.mate.items end ≡ Some p → on (top_of state p.outside) ≡ false
   pub low : (s : ℕ) → on s ≡ true → label_of state s ≡ Outer → depth end ≤ depth s
 

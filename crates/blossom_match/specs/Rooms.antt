@@ -1,13 +1,13 @@
 -- What has been found of the least room. No public contract speaks of this.
-use Rattle.std.specs.Prelude.{◌≡◌, ◌≢◌, ◌⊎◌, ℕ, ◌+◌, ◌*◌, ◌-◌, ◌<◌, ◌≤◌, Bool, true, false, List, length, slice_index, slice_index_or, Option, Some, None, IfSome, IsSomeAnd}
+use Rattle.std.specs.Prelude.{◌≡◌, ◌≢◌, ℕ, ◌+◌, ◌*◌, ◌-◌, ◌<◌, ◌≤◌, Bool, true, false, List, length, slice_index, slice_index_or, Option, Some, None, IfSome, IsSomeAnd}
 use Rattle.blossom_match.specs.declared.costs.Costs.{Costs}
 use Rattle.blossom_match.specs.declared.state.State.{State}
 use Rattle.blossom_match.specs.declared.state.Label.{Label}
 use Rattle.blossom_match.specs.declared.state.Label.TheVariants.{Free, Outer, Inner}
 use Rattle.blossom_match.specs.declared.room.Turn.{Turn}
-use Rattle.blossom_match.specs.declared.room.Event.TheVariants.{Reach, Meet, Spent}
+use Rattle.blossom_match.specs.declared.room.Event.TheVariants.{Spent}
 use Rattle.blossom_match.specs.Table.{cost}
-use Rattle.blossom_match.specs.Turns.{Happens, top_of, sum_of, label_of}
+use Rattle.blossom_match.specs.Turns.{top_of, sum_of, label_of}
 
 -- what was found leaves room for a pair
 pub record KeepsPair (costs : Costs) (state : State) (found : Option Turn) (u v : ℕ) : Type 0 where

@@ -1,5 +1,5 @@
 -- Tables of costs. Members are numbered from 0.
-use Rattle.std.specs.Prelude.{◌≡◌, ◌≢◌, ℕ, ◌+◌, ◌*◌, ◌<◌, ◌≤◌, ◌%◌, length, slice_index}
+use Rattle.std.specs.Prelude.{◌≡◌, ℕ, ◌+◌, ◌*◌, ◌<◌, ◌≤◌, ◌%◌, length, slice_index}
 use Rattle.blossom_match.specs.declared.costs.Costs.{Costs}
 use Rattle.blossom_match.specs.declared.costs.TheConstants.{MAX_COST}
 

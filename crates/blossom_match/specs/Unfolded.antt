@@ -45,6 +45,7 @@ pub record ArePicked (state : State) (below : ℕ) (starts members weights : Lis
   pub node_in : (i : ℕ) → i < length weights → node i < below
   pub rising : (i j : ℕ) → i < j → j < length weights → node i < node j
   pub some : (i : ℕ) → i < length weights → 1 ≤ slice_index state.halves.items (node i)
+  pub weight : (i : ℕ) → i < length weights → slice_index weights i ≡ slice_index state.halves.items (node i)
   pub starts_len : length starts ≡ length weights + 1
   pub ends : slice_index starts (length weights) ≡ length members
   pub within : (i : ℕ) → i < length weights → slice_index starts (i + 1) ≤ length members

@@ -4,7 +4,7 @@ use Rattle.blossom_match.specs.declared.costs.Costs.{Costs}
 use Rattle.blossom_match.specs.declared.state.State.{State}
 use Rattle.blossom_match.specs.declared.state.Pair.{Pair}
 use Rattle.blossom_match.specs.declared.state.Label.{Label}
-use Rattle.blossom_match.specs.declared.state.Label.TheVariants.{Free, Outer, Inner}
+use Rattle.blossom_match.specs.declared.state.Label.TheVariants.{Outer, Inner}
 use Rattle.blossom_match.specs.Matching.{total}
 use Rattle.blossom_match.specs.Views.{label_at, link_at, mate_at, turned}
 use Rattle.blossom_match.specs.Turns.{IsMeet, top_of}

@@ -1,5 +1,5 @@
 // Walks along the cycle of a set's children.
-ghost use Rattle.std.specs.Prelude.{◌≡◌, ◌≢◌, ℕ, suc, ◌+◌, ◌*◌, ◌/◌, ◌<◌, ◌≤◌, Bool, true, false, if◌then◌else◌, length, slice_index, Some};
+ghost use Rattle.std.specs.Prelude.{◌≡◌, ◌≢◌, ℕ, ◌*◌, ◌<◌, ◌≤◌, true, if◌then◌else◌, length, slice_index, Some};
 ghost use Rattle.blossom_match.specs.Views.{holds, turned, link_at, mate_at};
 ghost use Rattle.blossom_match.specs.Between.{after};
 ghost use Rattle.blossom_match.specs.Cycles.{ArePaired, IsOpened, IsReleased, IsRound, IsTrip, IsWhole};

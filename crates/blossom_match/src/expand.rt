@@ -1,9 +1,9 @@
 // Puts an inner node of weight 0 away, and its children into its place.
-ghost use Rattle.std.specs.Prelude.{◌≡◌, ◌≢◌, ◌⊎◌, ℕ, suc, ◌+◌, ◌*◌, ◌%◌, ◌<◌, ◌≤◌, true, false, length, slice_index, Option, Some, None};
+ghost use Rattle.std.specs.Prelude.{◌≡◌, ◌≢◌, ℕ, ◌+◌, ◌*◌, ◌%◌, ◌<◌, ◌≤◌, false, length, Some};
 ghost use Rattle.blossom_match.specs.declared.state.Label.TheVariants.{Inner, Outer};
 ghost use Rattle.blossom_match.specs.Growth.{IsGrowth};
 ghost use Rattle.blossom_match.specs.Table.{IsAsked};
-ghost use Rattle.blossom_match.specs.Views.{holds, link_at, mate_at, child_at, to_do};
+ghost use Rattle.blossom_match.specs.Views.{holds, mate_at, child_at, to_do};
 ghost use Rattle.blossom_match.specs.Between.{IsSearching, KeepsRoot, after};
 ghost use Rattle.blossom_match.specs.Turns.{IsSpent};
 ghost use Rattle.blossom_match.specs.Cycles.{IsTrip};
@@ -36,7 +36,11 @@ fn label_on_way(k: usize) -> Label
     ensures even { k % 2 ≡ 0 → result ≡ Inner }
     ensures odd { k % 2 ≡ 1 → result ≡ Outer }
 {
-    if k % 2 == 0 { Label::Inner } else { Label::Outer }
+    if k % 2 == 0 {
+        Label::Inner
+    } else {
+        Label::Outer
+    }
 }
 
 /// Makes nodes inner and outer in turn.
@@ -140,7 +144,16 @@ fn put_away(costs: &Costs, state: &mut State, s: usize, first: usize, mate: Pair
     requires matched { mate_at state.old.mate.items s ≡ Some mate }
     ensures { IsPutAway state.old state.new s first result mate }
 {
-    let len = open_cycle(state.size, &state.held, &state.next, &state.link, &mut state.top, &mut state.mate, first, mate);
+    let len = open_cycle(
+        state.size,
+        &state.held,
+        &state.next,
+        &state.link,
+        &mut state.top,
+        &mut state.mate,
+        first,
+        mate,
+    );
     empty_row(state.size, &mut state.held, s);
     state.child[s] = None;
     state.label[s] = Label::Free;
@@ -164,5 +177,14 @@ pub(crate) fn expand(costs: &Costs, state: &mut State, s: usize, first: usize, m
     let entry = state.entry[s];
     let len = put_away(costs, state, s, first, mate);
     let (from, base) = (state.top[entry.inside], state.top[mate.inside]);
-    label_way(&state.next, &state.link, &mut state.label, &mut state.entry, base, from, len, entry);
+    label_way(
+        &state.next,
+        &state.link,
+        &mut state.label,
+        &mut state.entry,
+        base,
+        from,
+        len,
+        entry,
+    );
 }

@@ -6,9 +6,9 @@ ghost use Rattle.blossom_match.specs.Unfolded.{IsUnfolded, mate_of};
 ghost use Rattle.blossom_match.specs.Answer.{IsLeastBy, IsMatching, halves_in, len_in, mate_in, member_in, sets_in};
 
 use crate::Costs;
+use crate::beginning::begin;
 use crate::picking::list_sets;
 use crate::search::search;
-use crate::beginning::begin;
 use crate::state::State;
 use crate::unfold::unfold;
 use carp_base::Memory;

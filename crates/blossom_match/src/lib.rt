@@ -10,6 +10,7 @@
 //! - `state`: the sets, their weights, the matched pairs and the tree of a search, between two steps.
 //! - `search`: one tree, grown from one unmatched member. A turn finds how far its weights can be raised (`room`), raises
 //!   them (`raise`), and answers what stops them: `grow`, `augment`, `shrink` or `expand`.
+//! - `cycle`: the children of a set, made outermost nodes and matched, for `expand` and `unfold`.
 //! - `unfold`: the pairs inside the sets, once all outermost sets are matched.
 //! - `laws`: what is proved of all packings and matchings.
 #![tactic(auto)]

@@ -39,7 +39,10 @@ fn pick(costs: &Costs, state: &State, s: usize, sets: &mut Sets) -> Result<(), M
     requires picked { ArePicked state.now s sets.old.starts.items sets.old.members.items sets.old.weights.items }
     ensures { OnOk result (ArePicked state.now (s + 1) sets.new.starts.items sets.new.members.items sets.new.weights.items) }
 {
-    list_members(&state.held[s * state.size..(s + 1) * state.size], &mut sets.members)?;
+    list_members(
+        &state.held[s * state.size..(s + 1) * state.size],
+        &mut sets.members,
+    )?;
     sets.starts.push(sets.members.len())?;
     sets.weights.push(state.halves[s])?;
     Ok(())

@@ -135,7 +135,13 @@ fn plant(costs: &Costs, state: &mut State, root: usize)
 
 /// Matches one more pair of nodes, so that the node of this member is matched. It has fewer turns than there are nodes,
 /// squared.
-pub(crate) fn search(costs: &Costs, state: &mut State, root: usize, known: &mut [bool], least: &mut [u64])
+pub(crate) fn search(
+    costs: &Costs,
+    state: &mut State,
+    root: usize,
+    known: &mut [bool],
+    least: &mut [u64],
+)
     requires asked { IsAsked costs.now }
     requires between { IsBetween costs.now state.old }
     requires treeless { IsTreeless state.old.label.items }

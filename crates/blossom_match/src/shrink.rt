@@ -131,7 +131,15 @@ fn link_cycle(costs: &Costs, state: &mut State, u: usize, v: usize, join: Join)
     ensures closed { IsClosed state.old.top.items state.old.entry.items u v (top_of state.old u) (top_of state.old v) join.one join.other state.old.next.items state.new.next.items state.old.link.items state.new.link.items }
     ensures relinked { IsRelinked state.old state.new }
 {
-    close_links(&state.top, &state.entry, u, v, join, &mut state.next, &mut state.link);
+    close_links(
+        &state.top,
+        &state.entry,
+        u,
+        v,
+        join,
+        &mut state.next,
+        &mut state.link,
+    );
 }
 
 /// Puts the members of the nodes of the cycle into a new node.
@@ -146,7 +154,14 @@ fn gather(costs: &Costs, state: &mut State, join: Join, whole: usize)
     requires whole_in { whole < 2 * state.old.size }
     ensures { IsGathered state.old state.new (on_cycle state.old.one_way.items state.old.other_way.items join.one join.other) whole }
 {
-    take_members(&state.one_way, &state.other_way, join, whole, &mut state.top, &mut state.held);
+    take_members(
+        &state.one_way,
+        &state.other_way,
+        join,
+        whole,
+        &mut state.top,
+        &mut state.held,
+    );
     free_parts(&state.one_way, &state.other_way, join, &mut state.label);
 }
 

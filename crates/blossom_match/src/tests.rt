@@ -9,7 +9,9 @@ use std::alloc::Global;
 
 // The next number of a made series, below a bound.
 fn next(seed: &mut u64, bound: u64) -> u64 {
-    *seed = seed.wrapping_mul(6364136223846793005).wrapping_add(1442695040888963407);
+    *seed = seed
+        .wrapping_mul(6364136223846793005)
+        .wrapping_add(1442695040888963407);
     if bound == 0 { 0 } else { (*seed >> 33) % bound }
 }
 
@@ -30,15 +32,29 @@ fn cost_of(costs: &Costs, a: u32, b: u32) -> u64
     requires { IsTable costs.now }
 {
     let size = costs.size as u32;
-    if 1 <= a && a <= size && 1 <= b && b <= size { costs.get(a, b) } else { 0 }
+    if 1 <= a && a <= size && 1 <= b && b <= size {
+        costs.get(a, b)
+    } else {
+        0
+    }
 }
 
 // What costs a table has: inside groups and between them, at random within a factor of 2, or as ways in a grid.
 #[derive(Clone, Copy)]
 enum Kind {
-    Groups { width: u32, inside: u64, between: u64 },
-    Random { least: u64, seed: u64 },
-    Grid { width: u64, seed: u64 },
+    Groups {
+        width: u32,
+        inside: u64,
+        between: u64,
+    },
+    Random {
+        least: u64,
+        seed: u64,
+    },
+    Grid {
+        width: u64,
+        seed: u64,
+    },
 }
 
 // A place that belongs to a member.
@@ -50,7 +66,11 @@ fn place(member: u32, width: u64, seed: u64) -> (u64, u64) {
 
 fn cost_by(kind: Kind, a: u32, b: u32, seed: &mut u64) -> u64 {
     match kind {
-        Kind::Groups { width, inside, between } => {
+        Kind::Groups {
+            width,
+            inside,
+            between,
+        } => {
             if a.wrapping_sub(1).checked_div(width) == b.wrapping_sub(1).checked_div(width) {
                 inside
             } else {
@@ -95,7 +115,11 @@ fn table(alloc: Global, size: u32, kind: Kind) -> Result<Costs, Memory>
 fn mate(found: &Matching, v: u32) -> u32
     requires { IsMatching found.now }
 {
-    if 1 <= v && v as usize <= found.size { found.mate(v) } else { 0 }
+    if 1 <= v && v as usize <= found.size {
+        found.mate(v)
+    } else {
+        0
+    }
 }
 
 fn is_perfect(found: &Matching) -> bool
@@ -244,8 +268,14 @@ fn agrees(alloc: Global, size: u32, kind: Kind) -> Result<bool, Memory> {
 
 fn all_agree(alloc: Global, size: u32) -> Result<bool, Memory> {
     for seed in 0..40 {
-        let random = Kind::Random { least: 1 + seed * seed, seed };
-        let grid = Kind::Grid { width: 2 + seed, seed };
+        let random = Kind::Random {
+            least: 1 + seed * seed,
+            seed,
+        };
+        let grid = Kind::Grid {
+            width: 2 + seed,
+            seed,
+        };
         if !agrees(alloc, size, random)? || !agrees(alloc, size, grid)? {
             return Ok(false);
         }
@@ -256,23 +286,54 @@ fn all_agree(alloc: Global, size: u32) -> Result<bool, Memory> {
 #[test]
 fn matches_groups(rt: HostRuntime) {
     let alloc = rt.alloc();
-    let pairs = Kind::Groups { width: 2, inside: 3, between: 4 };
+    let pairs = Kind::Groups {
+        width: 2,
+        inside: 3,
+        between: 4,
+    };
     assert_eq!(rt; matched(alloc, 4, pairs), Ok(Some((6, 12))));
-    let triangles = Kind::Groups { width: 3, inside: 2, between: 10 };
+    let triangles = Kind::Groups {
+        width: 3,
+        inside: 2,
+        between: 10,
+    };
     assert_eq!(rt; matched(alloc, 6, triangles), Ok(Some((14, 28))));
-    let one_pair = Kind::Groups { width: 2, inside: 5, between: 0 };
+    let one_pair = Kind::Groups {
+        width: 2,
+        inside: 5,
+        between: 0,
+    };
     assert_eq!(rt; matched(alloc, 2, one_pair), Ok(Some((5, 10))));
-    let free = Kind::Groups { width: 4, inside: 0, between: 0 };
+    let free = Kind::Groups {
+        width: 4,
+        inside: 0,
+        between: 0,
+    };
     assert_eq!(rt; matched(alloc, 4, free), Ok(Some((0, 0))));
     assert_eq!(rt; matched(alloc, 0, free), Ok(Some((0, 0))));
-    let dear = Kind::Groups { width: 3, inside: MAX_COST, between: MAX_COST };
-    assert_eq!(rt; matched(alloc, 6, dear), Ok(Some((3 * MAX_COST, 6 * MAX_COST))));
+    let dear = Kind::Groups {
+        width: 3,
+        inside: MAX_COST,
+        between: MAX_COST,
+    };
+    assert_eq!(rt;
+        matched(alloc, 6, dear),
+        Ok(Some((3 * MAX_COST, 6 * MAX_COST)))
+    );
 }
 
 #[test]
 fn has_no_set_without_weight(rt: HostRuntime) {
     let alloc = rt.alloc();
-    let costs = table(alloc, 0, Kind::Groups { width: 1, inside: 0, between: 0 });
+    let costs = table(
+        alloc,
+        0,
+        Kind::Groups {
+            width: 1,
+            inside: 0,
+            between: 0,
+        },
+    );
     let sets = costs.map(|costs| match_least(alloc, &costs).map(|found| found.sets()));
     assert_eq!(rt; sets, Ok(Ok(0)));
 }
@@ -280,16 +341,44 @@ fn has_no_set_without_weight(rt: HostRuntime) {
 #[test]
 fn knows_a_metric_table(rt: HostRuntime) {
     let alloc = rt.alloc();
-    let metric = table(alloc, 6, Kind::Groups { width: 3, inside: 2, between: 1 });
+    let metric = table(
+        alloc,
+        6,
+        Kind::Groups {
+            width: 3,
+            inside: 2,
+            between: 1,
+        },
+    );
     assert_eq!(rt; metric.map(|costs| costs.is_metric()), Ok(true));
-    let not = table(alloc, 6, Kind::Groups { width: 3, inside: 3, between: 1 });
+    let not = table(
+        alloc,
+        6,
+        Kind::Groups {
+            width: 3,
+            inside: 3,
+            between: 1,
+        },
+    );
     assert_eq!(rt; not.map(|costs| costs.is_metric()), Ok(false));
 }
 
 #[test]
 fn reads_what_was_set(rt: HostRuntime) {
-    let costs = table(rt.alloc(), 4, Kind::Groups { width: 2, inside: 3, between: 4 });
-    let read = costs.map(|costs| (cost_of(&costs, 1, 2), cost_of(&costs, 3, 2), cost_of(&costs, 4, 4)));
+    let costs = table(
+        rt.alloc(),
+        4,
+        Kind::Groups {
+            width: 2,
+            inside: 3,
+            between: 4,
+        },
+    );
+    let read = costs.map(|costs| (
+        cost_of(&costs, 1, 2),
+        cost_of(&costs, 3, 2),
+        cost_of(&costs, 4, 4),
+    ));
     assert_eq!(rt; read, Ok((3, 4, 0)));
 }
 

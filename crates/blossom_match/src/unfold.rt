@@ -45,15 +45,22 @@ fn open_set(costs: &Costs, state: &mut State, v: usize)
     requires larger { state.old.size ≤ top_of state.old v }
     ensures so_far { IsUnfolding costs.now state.new }
     ensures size { state.new.size ≡ state.old.size }
-    ensures fewer {
-        members state.new.size (holds state.new.size state.new.held.items (top_of state.new v))
-        < members state.old.size (holds state.old.size state.old.held.items (top_of state.old v))
-    }
+    ensures fewer { members state.new.size (holds state.new.size state.new.held.items (top_of state.new v))
+        < members state.old.size (holds state.old.size state.old.held.items (top_of state.old v)) }
     ensures others { (w : ℕ) → w < state.old.size → top_of state.old w ≢ top_of state.old v → top_of state.new w ≡ top_of state.old w }
 {
     let first = child_of(costs, state, v);
     let pair = pair_of(costs, state, v);
-    open_cycle(state.size, &state.held, &state.next, &state.link, &mut state.top, &mut state.mate, first, pair);
+    open_cycle(
+        state.size,
+        &state.held,
+        &state.next,
+        &state.link,
+        &mut state.top,
+        &mut state.mate,
+        first,
+        pair,
+    );
 }
 
 /// Opens the sets that hold a member, one after another.

@@ -1,6 +1,5 @@
-use Rattle.std.proofs.Common.{◌≡◌, refl, ap, ◌∙◌, length, drop, replicate, rules, arith}
+use Rattle.std.proofs.Common.{◌≡◌, refl, ap, ◌∙◌, length, drop, arith}
 use Rattle.std.proofs.lemmas.List.{take_at}
-use Rattle.blossom_match.specs.declared.state.Label.TheVariants.{Free}
 use Rattle.blossom_match.proofs.Planting.{relabeled, replicate_free}
 use Rattle.blossom_match.proofs.augment.clear.Goals as goal
 

@@ -1,7 +1,6 @@
-use Rattle.std.proofs.Common.{◌≡◌, ◌≢◌, ℕ, ◌<◌, ◌+◌, ◌*◌, ◌∙◌, true, false, sym, ap, subst, arith, length, get_or, set, inl, inr}
+use Rattle.std.proofs.Common.{◌≡◌, ◌<◌, ◌+◌, ◌*◌, ◌∙◌, true, false, sym, subst, arith, length, get_or, set, inl, inr}
 use Rattle.std.proofs.lemmas.Bool.{cases_eq}
 use Rattle.std.proofs.lemmas.List.{get_or-set_same, get_or-set_other}
-use Rattle.blossom_match.specs.Views.{holds}
 use Rattle.blossom_match.proofs.Cells.{cell_in, row_of_cell, column_of_cell}
 use Rattle.blossom_match.proofs.beginning.hold_singles.Goals as goal
 

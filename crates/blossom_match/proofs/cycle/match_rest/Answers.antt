@@ -1,4 +1,4 @@
-use Rattle.std.proofs.Common.{◌≡◌, ℕ, refl, sym, ap, ◌∙◌, arith, length, slice_index, ◌+◌, ◌*◌}
+use Rattle.std.proofs.Common.{arith, length, ◌+◌, ◌*◌}
 use Rattle.blossom_match.proofs.RowsWalking.{paired_more, one_further, next_in, second_in, second_apart, shorter_trip}
 use Rattle.blossom_match.proofs.cycle.match_rest.Goals as goal
 

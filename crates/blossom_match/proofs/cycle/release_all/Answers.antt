@@ -1,5 +1,4 @@
-use Rattle.std.proofs.Common.{◌≡◌, ℕ, refl, sym, subst, ap, ◌∙◌, arith, slice_index, ◌+◌}
-use Rattle.blossom_match.specs.Between.{after}
+use Rattle.std.proofs.Common.{ap, arith, slice_index, ◌+◌}
 use Rattle.blossom_match.proofs.RowsWalking.{released_more, goes_more, one_more}
 use Rattle.blossom_match.proofs.cycle.release_all.Goals as goal
 

@@ -1,4 +1,4 @@
-use Rattle.std.proofs.Common.{◌≡◌, ◌≢◌, ℕ, ◌<◌, ◌≤◌}
+use Rattle.std.proofs.Common.{◌≡◌, ◌≢◌, ℕ, ◌≤◌}
 use Rattle.blossom_match.specs.Between.{after}
 use Rattle.blossom_match.specs.Cycles.{IsReleased}
 use Rattle.blossom_match.proofs.cycle.release_all.Given as goal

@@ -1,6 +1,5 @@
-use Rattle.std.proofs.Common.{◌≡◌, ℕ, ◌<◌, ◌+◌, ◌*◌, suc, refl, sym, ap, subst, ◌∙◌, arith, rules, length, slice_index, get_or, set}
+use Rattle.std.proofs.Common.{◌+◌, suc, refl, arith, slice_index, set}
 use Rattle.std.proofs.lemmas.List.{get_or-set_same, get_or-set_other}
-use Rattle.blossom_match.specs.declared.state.Pair.{Pair}
 use Rattle.blossom_match.specs.Views.{link_at, no_pair, turned}
 use Rattle.blossom_match.proofs.RowsWalking.{one_more}
 use Rattle.blossom_match.proofs.RowsWays.{entered_more}

@@ -1,4 +1,4 @@
-use Rattle.std.proofs.Common.{◌≡◌, ℕ}
+use Rattle.std.proofs.Common.{◌≡◌}
 use Rattle.blossom_match.specs.Between.{after}
 use Rattle.blossom_match.specs.Expanding.{AreEnteredOn}
 use Rattle.blossom_match.proofs.expand.enter_on.Given as goal

@@ -1,8 +1,6 @@
-use Rattle.std.proofs.Common.{refl, ap, sym, ◌∙◌, rules, ◌≡◌, ◌<◌, ◌*◌, ℕ, subst, length, slice_index, drop, arith}
+use Rattle.std.proofs.Common.{refl, ap, sym, ◌∙◌, ◌≡◌, ◌<◌, subst, length, drop, arith}
 use Rattle.std.proofs.lemmas.List.{take_at, get_or_read}
 use Rattle.std.specs.Vec.{with_items}
-use Rattle.blossom_match.specs.declared.state.State.{State}
-use Rattle.blossom_match.specs.declared.state.Pair.{Pair}
 use Rattle.blossom_match.specs.Turns.{top_of}
 use Rattle.blossom_match.specs.Views.{link_at, no_pair}
 use Rattle.blossom_match.specs.Expanding.{IsWayIn}
@@ -26,8 +24,6 @@ index-requires-2 c =
     let r = c.requires in
     let b = r.searching.so_far in
     let o = spent_top c.args.costs.now c.args.state.now c.args.s c.args.first c.args.mate r.asked r.searching r.spent r.child r.matched in
-    let entry_in : c.args.s < length c.args.state.now.entry.items = omega (arith, r.spent.in_slots, b.shape.entry_len) in
-    let entry_is : c.index-entry.result.now ≡ link_at c.args.state.now.entry.items c.args.s = get_or_read c.args.state.now.entry.items c.args.s c.index-entry.result.now entry_in c.index-entry.ensures no_pair in
     let a = c.put_away-len.ensures in
     omega (arith, o.can.inside_in, a.top_len, b.shape.top_len, c.put_away-len.new.state.top.ok.0)
 
@@ -36,8 +32,6 @@ label_way-requires-clause-few c =
     let r = c.requires in
     let b = r.searching.so_far in
     let o = spent_top c.args.costs.now c.args.state.now c.args.s c.args.first c.args.mate r.asked r.searching r.spent r.child r.matched in
-    let entry_in : c.args.s < length c.args.state.now.entry.items = omega (arith, r.spent.in_slots, b.shape.entry_len) in
-    let entry_is : c.index-entry.result.now ≡ link_at c.args.state.now.entry.items c.args.s = get_or_read c.args.state.now.entry.items c.args.s c.index-entry.result.now entry_in c.index-entry.ensures no_pair in
     let a = c.put_away-len.ensures in
     omega (arith, put_few c.args.costs.now c.args.state.now c.put_away-len.new.state c.args.s c.args.first c.put_away-len.result c.args.mate o r.matched a, b.shape.size_is, r.asked.table.few)
 
@@ -46,8 +40,6 @@ label_way-requires-clause-circle c =
     let r = c.requires in
     let b = r.searching.so_far in
     let o = spent_top c.args.costs.now c.args.state.now c.args.s c.args.first c.args.mate r.asked r.searching r.spent r.child r.matched in
-    let entry_in : c.args.s < length c.args.state.now.entry.items = omega (arith, r.spent.in_slots, b.shape.entry_len) in
-    let entry_is : c.index-entry.result.now ≡ link_at c.args.state.now.entry.items c.args.s = get_or_read c.args.state.now.entry.items c.args.s c.index-entry.result.now entry_in c.index-entry.ensures no_pair in
     let a = c.put_away-len.ensures in
     let base_in : c.args.mate.inside < length c.put_away-len.new.state.top.items = omega (arith, o.can.inside_in, a.top_len, b.shape.top_len) in
     let base_is : c.index-2.result.now ≡ top_of c.put_away-len.new.state c.args.mate.inside = get_or_read c.put_away-len.new.state.top.items c.args.mate.inside c.index-2.result.now base_in c.index-2.ensures 0 in
@@ -96,7 +88,7 @@ done c =
     let label_now = take_at c.label_way.new.label (drop (length c.label_way.new.label) c.put_away-len.new.state.label.items) c.put_away-len.new.state.label.len label_len in
     let entry_now = take_at c.label_way.new.entry (drop (length c.label_way.new.entry) c.put_away-len.new.state.entry.items) c.put_away-len.new.state.entry.len entry_len in
     let way : IsWayIn c.args.state.now.next.items c.args.state.now.link.items (top_of c.put_away-len.new.state c.args.mate.inside) (top_of c.put_away-len.new.state (link_at c.args.state.now.entry.items c.args.s).inside)
-        c.put_away-len.result (link_at c.args.state.now.entry.items c.args.s) c.put_away-len.new.state.label.items c.label_way.new.label c.args.state.now.entry.items c.label_way.new.entry =
+    c.put_away-len.result (link_at c.args.state.now.entry.items c.args.s) c.put_away-len.new.state.label.items c.label_way.new.label c.args.state.now.entry.items c.label_way.new.entry =
     rw (c.deref.ensures.value, c.deref-2.ensures.value, c.deref_mut.ensures.value, c.deref_mut-2.ensures.value, a.next, a.link, a.entry, base_is, from_is, entry_is) at c.label_way.ensures in
     record {
       asked = r.asked;

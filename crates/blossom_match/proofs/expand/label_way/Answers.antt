@@ -1,9 +1,8 @@
-use Rattle.std.proofs.Common.{◌≡◌, ◌≢◌, ℕ, ◌<◌, ◌+◌, ◌-◌, ◌*◌, ◌%◌, List, suc, refl, sym, ap, subst, ◌∙◌, arith, rules, length, slice_index, set}
+use Rattle.std.proofs.Common.{◌≡◌, ◌≢◌, ℕ, ◌<◌, List, arith, length, set}
 use Rattle.std.proofs.lemmas.List.{get_or-set_same, get_or-set_other}
 use Rattle.blossom_match.specs.Between.{after}
-use Rattle.blossom_match.specs.declared.state.Pair.{Pair}
 use Rattle.blossom_match.specs.Views.{link_at, no_pair}
-use Rattle.blossom_match.proofs.RowsWays.{on_trip, back_trip, way_back, way_on}
+use Rattle.blossom_match.proofs.RowsWays.{on_trip, way_back, way_on}
 use Rattle.blossom_match.proofs.expand.label_way.Goals as goal
 use Rattle.blossom_match.proofs.expand.label_way.Goals.{then-place-eq0, else-place-eq0}
 

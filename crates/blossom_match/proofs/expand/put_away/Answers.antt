@@ -1,6 +1,5 @@
-use Rattle.std.proofs.Common.{◌≡◌, sym, ◌∙◌, arith}
 use Rattle.blossom_match.proofs.RowsOpening.{first_place}
-use Rattle.blossom_match.proofs.ExpandingStart.{spent_top, spent_round, put_circle, put_few, put_place}
+use Rattle.blossom_match.proofs.ExpandingStart.{spent_top, spent_round}
 use Rattle.blossom_match.proofs.expand.put_away.Goals as goal
 
 pub open_cycle-len-requires-clause-round : goal.open_cycle-len-requires-clause-round

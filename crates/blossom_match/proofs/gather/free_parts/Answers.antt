@@ -1,7 +1,4 @@
-use Rattle.std.proofs.Common.{◌≡◌, ◌<◌, ◌∙◌, ap, cond, arith, length}
-use Rattle.std.proofs.lemmas.List.{get_or_default}
-use Rattle.blossom_match.specs.declared.state.Label.TheVariants.{Free}
-use Rattle.blossom_match.specs.Views.{label_at}
+use Rattle.std.proofs.Common.{◌<◌, arith, length}
 use Rattle.blossom_match.specs.Ways.{on_cycle}
 use Rattle.blossom_match.proofs.Gathering.{freed_more}
 use Rattle.blossom_match.proofs.gather.free_parts.Goals as goal

@@ -1,4 +1,4 @@
-use Rattle.std.proofs.Common.{◌≡◌, ◌<◌, ◌+◌, ◌*◌, ◌∙◌, ap, arith, length}
+use Rattle.std.proofs.Common.{◌<◌, ◌+◌, ◌*◌, arith, length}
 use Rattle.blossom_match.specs.Ways.{on_cycle}
 use Rattle.blossom_match.proofs.Cells.{cell_in}
 use Rattle.blossom_match.proofs.Gathering.{taken_more}

@@ -1,6 +1,6 @@
-use Rattle.std.proofs.Common.{◌≡◌, ◌<◌, refl, sym, rules, arith, length, slice_index}
+use Rattle.std.proofs.Common.{◌≡◌, ◌<◌, refl, arith, length, slice_index}
 use Rattle.std.proofs.lemmas.List.{get_or_read}
-use Rattle.blossom_match.proofs.Growing.{IsGrown, grow_growth, grow_keeps, grow_less, mate_in_range}
+use Rattle.blossom_match.proofs.Growing.{grow_growth, grow_keeps, grow_less, mate_in_range}
 use Rattle.blossom_match.proofs.grow.grow.Goals as goal
 
 pub returns-clause-searching : goal.returns-clause-searching

@@ -1,4 +1,4 @@
-use Rattle.std.proofs.Common.{◌≡◌, ℕ, ◌<◌, ◌+◌, ◌∙◌, sym, subst, arith, inl, inr}
+use Rattle.std.proofs.Common.{◌∙◌, sym, subst, arith, inl, inr}
 use Rattle.std.proofs.lemmas.Bool.{cases_eq}
 use Rattle.blossom_match.specs.Between.{HasMate}
 use Rattle.blossom_match.proofs.least.match_all.Goals as goal

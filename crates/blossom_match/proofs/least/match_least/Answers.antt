@@ -1,4 +1,4 @@
-use Rattle.std.proofs.Common.{◌≡◌, refl, arith}
+use Rattle.std.proofs.Common.{refl, arith}
 use Rattle.blossom_match.proofs.Answering.{least_by}
 use Rattle.blossom_match.proofs.least.match_least.Goals as goal
 

@@ -1,4 +1,3 @@
-use Rattle.std.proofs.Common.{◌≡◌, ℕ}
 use Rattle.blossom_match.proofs.Selecting.{begin_picked_as}
 use Rattle.blossom_match.proofs.picking.list_sets.Goals as goal
 

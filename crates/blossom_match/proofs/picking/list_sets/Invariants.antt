@@ -1,4 +1,3 @@
-use Rattle.std.proofs.Common.{◌≡◌, ℕ}
 use Rattle.blossom_match.specs.Unfolded.{ArePicked}
 use Rattle.blossom_match.proofs.picking.list_sets.Given as goal
 

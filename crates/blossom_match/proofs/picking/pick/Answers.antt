@@ -1,4 +1,4 @@
-use Rattle.std.proofs.Common.{◌≡◌, ℕ, ◌<◌, ◌+◌, ◌-◌, ◌*◌, ◌++◌, ◌∙◌, refl, sym, ap, arith, length, take, drop, slice_index}
+use Rattle.std.proofs.Common.{◌≡◌, ◌<◌, ◌+◌, ◌-◌, ◌*◌, ◌++◌, ◌∙◌, ap, arith, length, take, drop}
 use Rattle.std.proofs.lemmas.List.{get_or_read}
 use Rattle.blossom_match.specs.Views.{holds}
 use Rattle.blossom_match.specs.Unfolded.{listed}

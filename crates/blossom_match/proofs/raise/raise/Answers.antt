@@ -1,4 +1,4 @@
-use Rattle.std.proofs.Common.{refl, ap, ◌∙◌, rules, ◌≡◌, length, drop, arith}
+use Rattle.std.proofs.Common.{refl, ap, ◌∙◌, ◌≡◌, length, drop, arith}
 use Rattle.std.proofs.lemmas.List.{take_at}
 use Rattle.blossom_match.proofs.Moving.{searching_kept, to_do_kept, fits_halves, fits_sums}
 use Rattle.blossom_match.proofs.raise.raise.Goals as goal

@@ -1,8 +1,7 @@
-use Rattle.std.proofs.Common.{◌≡◌, ℕ, ◌<◌, ◌+◌, refl, sym, subst, ap, arith, inl, inr}
+use Rattle.std.proofs.Common.{sym, subst, arith, inl, inr}
 use Rattle.std.proofs.lemmas.Bool.{cases_eq}
-use Rattle.blossom_match.proofs.Limits.{pair_less, node_less, either_way}
-use Rattle.blossom_match.specs.Rooms.{IsNodeTurn, KeepsNode, KeepsPair}
-use Rattle.blossom_match.specs.Turns.{Happens}
+use Rattle.blossom_match.proofs.Limits.{node_less, either_way}
+use Rattle.blossom_match.specs.Rooms.{IsNodeTurn, KeepsNode}
 use Rattle.blossom_match.proofs.room.least_node.Goals as goal
 
 pub loop-s-preserved : goal.loop-s-preserved

@@ -1,6 +1,5 @@
-use Rattle.std.proofs.Common.{◌≡◌, ℕ, ◌<◌, IfSome}
-use Rattle.blossom_match.specs.Rooms.{IsNodeTurn, KeepsNode, KeepsPair}
-use Rattle.blossom_match.specs.Turns.{Happens}
+use Rattle.std.proofs.Common.{ℕ, ◌<◌, IfSome}
+use Rattle.blossom_match.specs.Rooms.{IsNodeTurn, KeepsNode}
 use Rattle.blossom_match.proofs.room.least_node.Given as goal
 
 abbrev pub invariant-loop-s : goal.invariant-loop-s

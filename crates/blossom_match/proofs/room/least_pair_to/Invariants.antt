@@ -1,4 +1,4 @@
-use Rattle.std.proofs.Common.{◌≡◌, ℕ, ◌<◌, IfSome}
+use Rattle.std.proofs.Common.{ℕ, ◌<◌, IfSome}
 use Rattle.blossom_match.specs.Rooms.{KeepsPair}
 use Rattle.blossom_match.specs.Turns.{Happens}
 use Rattle.blossom_match.proofs.room.least_pair_to.Given as goal

@@ -1,4 +1,4 @@
-use Rattle.std.proofs.Common.{◌≡◌, ◌≢◌, ℕ, ◌<◌, ◌+◌, ◌*◌, ◌/◌, ◌%◌, ◌∙◌, sym, arith, length, slice_index}
+use Rattle.std.proofs.Common.{◌≡◌, ◌<◌, ◌∙◌, sym, arith, length}
 use Rattle.std.proofs.lemmas.List.{get_or_read}
 use Rattle.blossom_match.specs.Turns.{top_of, label_of}
 use Rattle.blossom_match.specs.declared.state.Label.TheVariants.{Free, Outer}

@@ -1,8 +1,8 @@
-use Rattle.std.proofs.Common.{◌≡◌, ◌≢◌, ℕ, ◌<◌, ◌*◌, ◌∙◌, sym, ap, arith, length, slice_index}
+use Rattle.std.proofs.Common.{◌≡◌, ◌<◌, ◌∙◌, ap, arith, length}
 use Rattle.std.proofs.lemmas.List.{get_or_read}
 use Rattle.blossom_match.specs.Turns.{top_of, label_of}
-use Rattle.blossom_match.specs.declared.state.Label.TheVariants.{Free, Outer}
-use Rattle.blossom_match.proofs.Limits.{alike_pair, no_outer}
+use Rattle.blossom_match.specs.declared.state.Label.TheVariants.{Free}
+use Rattle.blossom_match.proofs.Limits.{no_outer}
 use Rattle.blossom_match.proofs.room.pair_turn.Goals as goal
 
 pub returns-in_default-clause-keeps : goal.returns-in_default-clause-keeps

@@ -1,4 +1,3 @@
-use Rattle.std.proofs.Common.{◌≡◌, ℕ, ◌<◌}
 use Rattle.blossom_match.proofs.Bounding.{rooms_learn}
 use Rattle.blossom_match.proofs.rooms.learn.Goals as goal
 

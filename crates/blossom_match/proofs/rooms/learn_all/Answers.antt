@@ -1,4 +1,4 @@
-use Rattle.std.proofs.Common.{◌≡◌, ℕ, ◌<◌, ◌+◌, sym, ap, ◌∙◌, arith, slice_index_or, true, false, inl, inr}
+use Rattle.std.proofs.Common.{sym, ap, ◌∙◌, arith, slice_index_or, false, inl, inr}
 use Rattle.std.proofs.lemmas.Bool.{cases_eq}
 use Rattle.blossom_match.specs.Turns.{top_of, label_of}
 use Rattle.blossom_match.proofs.rooms.learn_all.Goals as goal

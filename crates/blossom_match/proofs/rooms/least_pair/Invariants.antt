@@ -1,4 +1,4 @@
-use Rattle.std.proofs.Common.{◌≡◌, ℕ, ◌<◌, IfSome}
+use Rattle.std.proofs.Common.{ℕ, ◌<◌, IfSome}
 use Rattle.blossom_match.specs.Rooms.{AreRooms, KeepsPair}
 use Rattle.blossom_match.specs.Turns.{Happens}
 use Rattle.blossom_match.proofs.rooms.least_pair.Given as goal

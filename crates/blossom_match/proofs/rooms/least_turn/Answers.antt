@@ -1,4 +1,3 @@
-use Rattle.std.proofs.Common.{◌≡◌, ℕ}
 use Rattle.blossom_match.proofs.Limits.{turn_lawful, turn_happens, some_happens}
 use Rattle.blossom_match.specs.Turns.{Happens, IsLawful}
 use Rattle.blossom_match.proofs.rooms.least_turn.Goals as goal

@@ -1,4 +1,4 @@
-use Rattle.std.proofs.Common.{◌≡◌, ◌<◌, arith, length}
+use Rattle.std.proofs.Common.{◌<◌, arith, length}
 use Rattle.blossom_match.proofs.Bounding.{lowered_more}
 use Rattle.blossom_match.proofs.rooms.lower_to.Goals as goal
 

@@ -1,4 +1,4 @@
-use Rattle.std.proofs.Common.{ℕ, ◌<◌}
+use Rattle.std.proofs.Common.{◌<◌}
 use Rattle.blossom_match.proofs.rooms.lowest.Given as goal
 
 abbrev pub invariant-loop-v : goal.invariant-loop-v

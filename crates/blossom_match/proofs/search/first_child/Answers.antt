@@ -1,4 +1,4 @@
-use Rattle.std.proofs.Common.{◌≡◌, ◌<◌, ◌*◌, ◌∙◌, sym, arith, length, None}
+use Rattle.std.proofs.Common.{◌<◌, ◌∙◌, sym, arith, length, None}
 use Rattle.std.proofs.lemmas.List.{get_or_read}
 use Rattle.blossom_match.proofs.Limits.{spent_child}
 use Rattle.blossom_match.proofs.search.first_child.Goals as goal

@@ -1,4 +1,4 @@
-use Rattle.std.proofs.Common.{◌≡◌, ◌<◌, refl, sym, length, slice_index, rules, arith}
+use Rattle.std.proofs.Common.{◌≡◌, ◌<◌, refl, length, slice_index, arith}
 use Rattle.std.proofs.Math.ListN.{length-set}
 use Rattle.std.proofs.lemmas.List.{get_or_read}
 use Rattle.blossom_match.specs.declared.state.Label.TheVariants.{Outer}

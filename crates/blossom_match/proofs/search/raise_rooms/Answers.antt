@@ -1,6 +1,3 @@
-use Rattle.std.proofs.Common.{◌≡◌, ◌<◌, ◌∙◌, sym, ap, arith, length, slice_index}
-use Rattle.blossom_match.specs.Views.{label_at}
-use Rattle.blossom_match.specs.Rooms.{fallen}
 use Rattle.blossom_match.proofs.Bounding.{rooms_raise}
 use Rattle.blossom_match.proofs.Turning.{happens_moved, root_kept}
 use Rattle.blossom_match.proofs.search.raise_rooms.Goals as goal

@@ -1,4 +1,4 @@
-use Rattle.std.proofs.Common.{◌∙◌, refl, false, true, rules, arith}
+use Rattle.std.proofs.Common.{◌∙◌, rules, arith}
 use Rattle.blossom_match.proofs.Bounding.{rooms_none}
 use Rattle.blossom_match.proofs.Turning.{keeps_trans, keeps_same, so_far_begin, so_far_on, so_far_end}
 use Rattle.blossom_match.proofs.search.search.Goals as goal

@@ -1,4 +1,4 @@
-use Rattle.std.proofs.Common.{◌≡◌, ℕ, suc, true, false, cond, length}
+use Rattle.std.proofs.Common.{◌≡◌, suc, true, false, cond}
 use Rattle.blossom_match.specs.Rooms.{AreRooms}
 use Rattle.blossom_match.specs.Between.{IsSearching, IsBetween, HasMate}
 use Rattle.blossom_match.specs.Views.{to_do}

@@ -1,4 +1,3 @@
-use Rattle.std.proofs.Common.{◌≡◌}
 use Rattle.blossom_match.proofs.Bounding.{rooms_grow}
 use Rattle.blossom_match.proofs.Turning.{root_trans}
 use Rattle.blossom_match.proofs.search.turn.Goals as goal

@@ -1,4 +1,4 @@
-use Rattle.std.proofs.Common.{◌≡◌, ℕ, ◌<◌, ◌≤◌}
+use Rattle.std.proofs.Common.{◌≡◌, ℕ}
 use Rattle.blossom_match.specs.declared.state.Label.TheVariants.{Inner}
 use Rattle.blossom_match.specs.Views.{label_at, link_at}
 use Rattle.blossom_match.specs.Ways.{AreAimed}

@@ -1,4 +1,4 @@
-use Rattle.std.proofs.Common.{◌≡◌, subst, sym}
+use Rattle.std.proofs.Common.{subst, sym}
 use Rattle.blossom_match.specs.Turns.{top_of}
 use Rattle.blossom_match.specs.Ways.{IsWay}
 use Rattle.blossom_match.proofs.Retracing.{same_searching, same_trans, same_meet, same_aimed, same_way}

@@ -1,4 +1,4 @@
-use Rattle.std.proofs.Common.{◌≡◌, arith, length}
+use Rattle.std.proofs.Common.{length}
 use Rattle.blossom_match.specs.Turns.{top_of}
 use Rattle.blossom_match.proofs.Forking.{arms_of, fork_of}
 use Rattle.blossom_match.proofs.shrink.link_cycle.Goals as goal

@@ -1,4 +1,4 @@
-use Rattle.std.proofs.Common.{◌≡◌, ◌<◌, arith, length, slice_index}
+use Rattle.std.proofs.Common.{◌≡◌, ◌<◌, arith, length}
 use Rattle.std.proofs.lemmas.List.{get_or_read}
 use Rattle.blossom_match.specs.Turns.{top_of}
 use Rattle.blossom_match.proofs.Forking.{way_up}

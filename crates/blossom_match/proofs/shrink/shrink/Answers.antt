@@ -1,6 +1,4 @@
-use Rattle.std.proofs.Common.{◌≡◌}
 use Rattle.blossom_match.specs.Ways.{on_cycle}
-use Rattle.blossom_match.proofs.Shrinking.{Shrunk}
 use Rattle.blossom_match.proofs.Rooting.{shrunk_searching, shrunk_less, shrunk_keeps, shrunk_growth}
 use Rattle.blossom_match.proofs.Retracing.{shrunk_by, less_since, same_keeps, same_growth}
 use Rattle.blossom_match.proofs.Turning.{root_trans}

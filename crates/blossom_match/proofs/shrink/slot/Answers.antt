@@ -1,7 +1,6 @@
-use Rattle.std.proofs.Common.{◌≡◌, ◌<◌, ◌+◌, ◌*◌, ◌∙◌, ap, arith, length, slice_index}
+use Rattle.std.proofs.Common.{◌≡◌, ◌<◌, ◌∙◌, ap, arith, length, slice_index}
 use Rattle.std.proofs.lemmas.List.{get_or_read}
 use Rattle.blossom_match.specs.Turns.{top_of}
-use Rattle.blossom_match.specs.Ways.{on_cycle}
 use Rattle.blossom_match.proofs.Retracing.{foot_of}
 use Rattle.blossom_match.proofs.shrink.slot.Goals as goal
 

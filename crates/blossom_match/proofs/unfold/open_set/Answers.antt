@@ -1,4 +1,4 @@
-use Rattle.std.proofs.Common.{refl, ap, sym, ◌∙◌, rules, ◌≡◌, length, slice_index, drop, arith}
+use Rattle.std.proofs.Common.{refl, ap, ◌∙◌, ◌≡◌, length, slice_index, drop, arith}
 use Rattle.std.proofs.lemmas.List.{take_at}
 use Rattle.blossom_match.proofs.RowsOpening.{first_place}
 use Rattle.blossom_match.proofs.UnfoldingStates.{open_top, top_round, opened_top, unfolding_more}

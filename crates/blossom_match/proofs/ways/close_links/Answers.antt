@@ -1,4 +1,4 @@
-use Rattle.std.proofs.Common.{◌≡◌, refl, arith, length, slice_index}
+use Rattle.std.proofs.Common.{refl, arith, length, slice_index}
 use Rattle.blossom_match.proofs.Climbing.{closed_by}
 use Rattle.blossom_match.proofs.ways.close_links.Goals as goal
 

@@ -1,4 +1,4 @@
-use Rattle.std.proofs.Common.{◌≡◌, ℕ, ◌<◌, ◌≤◌, ◌*◌, refl, arith, length}
+use Rattle.std.proofs.Common.{arith, length}
 use Rattle.blossom_match.proofs.Climbing.{above_in, climb_on, down_more}
 use Rattle.blossom_match.proofs.ways.link_down.Goals as goal
 

@@ -1,4 +1,4 @@
-use Rattle.std.proofs.Common.{◌≡◌, ℕ}
+use Rattle.std.proofs.Common.{◌≡◌}
 use Rattle.blossom_match.specs.Ways.{climb, IsLinkedDown}
 use Rattle.blossom_match.proofs.ways.link_down.Given as goal
 

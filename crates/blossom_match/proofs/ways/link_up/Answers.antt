@@ -1,4 +1,4 @@
-use Rattle.std.proofs.Common.{◌≡◌, ℕ, ◌<◌, refl, arith, length}
+use Rattle.std.proofs.Common.{refl, arith, length}
 use Rattle.blossom_match.proofs.Climbing.{climb_on, up_more}
 use Rattle.blossom_match.proofs.ways.link_up.Goals as goal
 

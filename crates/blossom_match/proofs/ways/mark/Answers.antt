@@ -1,6 +1,6 @@
-use Rattle.std.proofs.Common.{◌≡◌, ◌≢◌, ℕ, ◌<◌, ◌*◌, ◌∙◌, sym, arith, length, set, Some, ap}
+use Rattle.std.proofs.Common.{◌≡◌, arith, length, Some}
 use Rattle.std.proofs.Math.ListN.{length-set}
-use Rattle.blossom_match.proofs.Climbing.{marked_first, marked_more, marked_last}
+use Rattle.blossom_match.proofs.Climbing.{marked_first, marked_more}
 use Rattle.blossom_match.proofs.ways.mark.Goals as goal
 
 pub loop-node-init : goal.loop-node-init

@@ -1,4 +1,4 @@
-use Rattle.std.proofs.Common.{◌≡◌, ℕ, length}
+use Rattle.std.proofs.Common.{length}
 use Rattle.blossom_match.specs.Ways.{IsMarking, unmarked}
 use Rattle.blossom_match.proofs.ways.mark.Given as goal
 

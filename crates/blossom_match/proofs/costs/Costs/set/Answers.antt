@@ -1,4 +1,4 @@
-use Rattle.std.proofs.Common.{◌≡◌, ℕ, ◌<◌, ◌+◌, ◌-◌, ◌*◌, refl, sym, ap, arith}
+use Rattle.std.proofs.Common.{◌-◌, refl, arith}
 use Rattle.blossom_match.proofs.Writing.{written, table_kept}
 use Rattle.blossom_match.proofs.costs.Costs.set.Goals as goal
 
