@@ -11,7 +11,7 @@ use Rattle.branch_rules.specs.Refusals.{NoneTooHeavy, IsTooHeavy}
 use Rattle.branch_rules.specs.Trees.{set_at}
 use Rattle.cert_lines.specs.declared.counts.Counts.{Counts}
 use Rattle.cert_lines.specs.Certificates.{Certificate}
-use Rattle.cert_format.specs.Good.{IsGood, counts_in, support_of, HasPriceEach}
+use Rattle.cert_format.specs.Good.{IsGood, IsProof, counts_in, support_of, HasPriceEach}
 use Rattle.cert_checker.specs.declared.reason.Answer.{Answer}
 use Rattle.cert_checker.specs.declared.reason.Answer.TheVariants.{Accepted, Rejected}
 use Rattle.cert_checker.specs.declared.reason.Part.TheVariants as parts
@@ -96,6 +96,11 @@ IsFirstReason p c (LeafLow n value limit) = NodesFail p c (LeafLow n value limit
 abbrev pub IsAnswer : Problem → Certificate → Answer → Type 0
 IsAnswer p c Accepted = IsGood p c
 IsAnswer p c (Rejected reason) = IsFirstReason p c reason
+
+-- what is accepted is a proof
+abbrev pub Proves : Problem → Certificate → Answer → Type 0
+Proves p c Accepted = IsProof p c
+Proves p c (Rejected reason) = Unit {0}
 
 -- no good certificate has a reason
 abbrev pub GoodHasNoReason : Type 0

@@ -3,7 +3,7 @@ ghost use Rattle.std.specs.Prelude.{◌≡◌, [], All, IfOk, OnOk};
 ghost use Rattle.cert_format.specs.Certs.{certificate_in};
 ghost use Rattle.cert_lines.specs.Spelling.{IsSpellable};
 ghost use Rattle.cert_checker.specs.Claims.{IsBacked, IsNodeRead, claimed, support_in};
-ghost use Rattle.cert_checker.specs.Reasons.{IsAnswer};
+ghost use Rattle.cert_checker.specs.Reasons.{IsAnswer, Proves};
 ghost use Rattle.cert_checker.specs.Walks.{Fills, HasWalked, IsChecker, TreeSays};
 
 use crate::checker::Checker;
@@ -12,7 +12,7 @@ use crate::head::head_reason;
 use crate::{Answer, Reason};
 use branch_rules::Tree;
 use carp_base::{Instance, Memory};
-use cert_format::Cert;
+use cert_format::{Cert, good_is_proof};
 use std::alloc::Global;
 
 /// Whether a certificate that can be spelled is good, or the first reason why it is not.
@@ -26,7 +26,8 @@ use std::alloc::Global;
 /// vertices, unless the leaf before it has the same set. What is held does not grow with the number of nodes.
 pub fn check(alloc: Global, inst: &Instance, cert: &Cert) -> Result<Answer, Memory>
     requires { IsSpellable (certificate_in cert.now) }
-    ensures { IfOk result (IsAnswer inst.now (certificate_in cert.now)) }
+    ensures answer { IfOk result (IsAnswer inst.now (certificate_in cert.now)) }
+    ensures proof { IfOk result (Proves inst.now (certificate_in cert.now)) }
 {
     let claim = Claim {
         inst,
@@ -43,8 +44,12 @@ pub fn check(alloc: Global, inst: &Instance, cert: &Cert) -> Result<Answer, Memo
 // Whether the certificate of a claim and the nodes of a tree is good.
 fn answer(alloc: Global, claim: &Claim<'_>, tree: &Tree) -> Result<Answer, Memory>
     requires { IsSpellable (claimed claim.now tree.now.nodes) }
-    ensures { IfOk result (IsAnswer claim.now.inst.now (claimed claim.now tree.now.nodes)) }
+    ensures answer { IfOk result (IsAnswer claim.now.inst.now (claimed claim.now tree.now.nodes)) }
+    ensures proof { IfOk result (Proves claim.now.inst.now (claimed claim.now tree.now.nodes)) }
 {
+    good_is_proof();
+    // What a read of the instance says of it is needed: that it is valid.
+    let _ = claim.inst.vertices();
     if let Some(reason) = head_reason(alloc, claim)? {
         return Ok(Answer::Rejected(reason));
     }

@@ -12,8 +12,8 @@ head_reason-requires c =
     let claim = c.args.claim.now in
     (spelled_is (support_in claim) (claimed claim c.args.tree.now.nodes) refl refl c.requires).weights
 
-pub returns-in-Some : goal.returns-in-Some
-returns-in-Some c = subst (LayerSays HeadIsRight c.args.claim.now) c.in-Some.is c.in_ok-reason.ensures c.args.tree.now.nodes
+pub returns-in-Some-clause-answer : goal.returns-in-Some-clause-answer
+returns-in-Some-clause-answer c = subst (LayerSays HeadIsRight c.args.claim.now) c.in-Some.is c.in_ok-reason.ensures c.args.tree.now.nodes
 
 pub tree_reason-requires-clause-backed : goal.tree_reason-requires-clause-backed
 tree_reason-requires-clause-backed c =
@@ -31,8 +31,8 @@ tree_reason-requires-clause-whole c =
     let claim = c.args.claim.now in
     (spelled_is (support_in claim) (claimed claim c.args.tree.now.nodes) refl refl c.requires).whole
 
-pub returns-in-Some-2 : goal.returns-in-Some-2
-returns-in-Some-2 c =
+pub returns-in-Some-2-clause-answer : goal.returns-in-Some-2-clause-answer
+returns-in-Some-2-clause-answer c =
     let claim = c.args.claim.now in
     let all = c.args.tree.now.nodes in
     let head = subst (LayerSays HeadIsRight claim) c.in_default.is c.in_ok-reason.ensures all in
@@ -43,5 +43,5 @@ returns-in-None c =
     let claim = c.args.claim.now in
     let all = c.args.tree.now.nodes in
     let head = subst (LayerSays HeadIsRight claim) c.in_default.is c.in_ok-reason.ensures all in
-    good_from claim.inst.now (claimed claim all) head (spelled_is (support_in claim) (claimed claim all) refl refl c.requires).whole
-    (subst (TreeSays (support_in claim) claim.bound all) c.in-None.is c.in_ok-reason-2.ensures)
+    let good = good_from claim.inst.now (claimed claim all) head (spelled_is (support_in claim) (claimed claim all) refl refl c.requires).whole (subst (TreeSays (support_in claim) claim.bound all) c.in-None.is c.in_ok-reason-2.ensures) in
+    record { answer = good; proof = c.good_is_proof.ensures claim.inst.now (claimed claim all) c.vertices.ensures.valid good }
