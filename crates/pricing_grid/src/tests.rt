@@ -108,34 +108,78 @@ pub(crate) fn expect_same(
     Ok(())
 }
 
-// A street at the depot and one behind it, with prices at which services add nothing but what their loads do.
+// Two streets of demand 1, one at the depot and one behind it.
+fn two_streets(rt: &impl Abort, alloc: Global) -> Instance {
+    let required = [street(1, 2, 4, 1), street(2, 3, 1, 1)];
+    town(rt, alloc, 3, 2, &required, &[])
+}
+
+// The cells of two streets at prices with which services add nothing but their loads.
+fn expect_cells(
+    rt: &impl Abort,
+    alloc: Global,
+    inst: &Instance,
+    allowed: &Allowed,
+    want: &[u128],
+) -> Result<(), Fail>
+    requires { allowed.now.size ≡ inst.now.required }
+{
+    let grid = grid_of(rt, alloc, inst, &[4, 1], allowed)?;
+    let cells = cells_of(rt, alloc, inst, &grid)?;
+    assert!(rt; cells[..] == want[..]);
+    Ok(())
+}
+
+const NONE: u128 = UNREACHED;
+
+// Rows of the loads 0, 1 and 2, with columns for the first street forward and backward and for the second.
 #[test]
 fn each_cell_of_two_streets(rt: HostRuntime) -> Result<(), Fail> {
     let alloc = rt.alloc();
-    let required = [street(1, 2, 4, 1), street(2, 3, 1, 1)];
-    let inst = town(&rt, alloc, 3, 2, &required, &[]);
+    let inst = two_streets(&rt, alloc);
     let allowed = Allowed::all(alloc, &inst)?;
-    let grid = grid_of(&rt, alloc, &inst, &[4, 1], &allowed)?;
-    let cells = cells_of(&rt, alloc, &inst, &grid)?;
-    assert!(&rt; cells[..4].iter().all(|cell| *cell == UNREACHED));
-    assert!(&rt; cells[4..8] == [LIFT, LIFT + 4, LIFT + 4, LIFT + 5][..]);
-    let both = 2 * LIFT;
-    assert!(&rt; cells[8..] == [both + 9, both + 5, both, both + 1][..]);
-    Ok(())
+    let one = LIFT;
+    let two = 2 * LIFT;
+    let want = [
+        NONE,
+        NONE,
+        NONE,
+        NONE,
+        one,
+        one + 4,
+        one + 4,
+        one + 5,
+        two + 9,
+        two + 5,
+        two,
+        two + 1,
+    ];
+    expect_cells(&rt, alloc, &inst, &allowed, &want)
 }
 
 #[test]
 fn no_cell_after_an_excluded_edge(rt: HostRuntime) -> Result<(), Fail> {
     let alloc = rt.alloc();
-    let required = [street(1, 2, 4, 1), street(2, 3, 1, 1)];
-    let inst = town(&rt, alloc, 3, 2, &required, &[]);
+    let inst = two_streets(&rt, alloc);
     let mut allowed = Allowed::all(alloc, &inst)?;
     assert!(&rt; inst.required() == 2);
     allowed.exclude(2, 1);
-    let grid = grid_of(&rt, alloc, &inst, &[4, 1], &allowed)?;
-    let cells = cells_of(&rt, alloc, &inst, &grid)?;
-    assert!(&rt; cells[8..].iter().all(|cell| *cell == UNREACHED));
-    Ok(())
+    let one = LIFT;
+    let want = [
+        NONE,
+        NONE,
+        NONE,
+        NONE,
+        one,
+        one + 4,
+        one + 4,
+        one + 5,
+        NONE,
+        NONE,
+        NONE,
+        NONE,
+    ];
+    expect_cells(&rt, alloc, &inst, &allowed, &want)
 }
 
 // The next number of a linear congruence, without its lowest bits.
