@@ -7,6 +7,8 @@
 mod checker;
 mod checking;
 mod claim;
+#[cfg(test)]
+mod examples;
 mod head;
 mod laws;
 mod leaves;
