@@ -14,9 +14,12 @@ fn branches_that_wait()
 {}
 
 fn a_first_difference()
-    ensures { FirstDiffers 1 (3 ∷ (2 ∷ [])) (3 ∷ (1 ∷ [])) 2 2 1 }
+    ensures second { FirstDiffers 1 (3 ∷ (2 ∷ [])) (3 ∷ (1 ∷ [])) 2 2 1 }
+    ensures no_later_one { FirstDiffers 1 (3 ∷ (2 ∷ [])) (4 ∷ (1 ∷ [])) 2 2 1 → ⊥ }
 {}
 
 fn nodes_that_fill_a_tree()
-    ensures { Fills (nodes.Pair 1 2 ∷ (nodes.Void ∷ (nodes.Fixed ∷ []))) 1 }
+    ensures whole { Fills (nodes.Pair 1 2 ∷ (nodes.Void ∷ (nodes.Fixed ∷ []))) 1 }
+    ensures too_few { Fills (nodes.Pair 1 2 ∷ (nodes.Void ∷ [])) 1 → ⊥ }
+    ensures too_many { Fills (nodes.Void ∷ (nodes.Fixed ∷ [])) 1 → ⊥ }
 {}
