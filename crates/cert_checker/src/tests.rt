@@ -228,32 +228,138 @@ fn good_certificates_are_accepted(rt: HostRuntime) -> Result<(), Fail> {
 fn leaves_of_prices_are_tested(rt: HostRuntime) -> Result<(), Fail> {
     let alloc = rt.alloc();
     let inst = row(alloc)?;
-    let low = Reason::LeafLow { node: 1, value: 20, limit: 20 };
-    expect(&rt, alloc, &inst, ROW, (3, "bound 21"), Answer::Rejected(low))?;
-    let cheap = Reason::TourTooCheap { set: 1, node: 1, value: -1 };
-    expect(&rt, alloc, &inst, ROW, (11, "prices 1 2 4 4"), Answer::Rejected(cheap))?;
-    let heavy = Reason::WeightTooLarge { set: 1, edge: 1, price: -1 };
-    expect(&rt, alloc, &inst, ROW, (12, "weights 2 1 4 2 4"), Answer::Rejected(heavy))?;
-    let missing = Reason::MissingUpper { set: 1, node: 1, shore: 2 };
-    expect(&rt, alloc, &inst, ROW, (12, "weights 2 1 3 2 -4"), Answer::Rejected(missing))?;
-    let twice = Reason::TourTooCheap { set: 1, node: 1, value: -100 };
-    expect(&rt, alloc, &fork(alloc)?, FORK, AS_IT_IS, Answer::Rejected(twice))
+    let low = Reason::LeafLow {
+        node: 1,
+        value: 20,
+        limit: 20,
+    };
+    expect(
+        &rt,
+        alloc,
+        &inst,
+        ROW,
+        (3, "bound 21"),
+        Answer::Rejected(low),
+    )?;
+    let cheap = Reason::TourTooCheap {
+        set: 1,
+        node: 1,
+        value: -1,
+    };
+    expect(
+        &rt,
+        alloc,
+        &inst,
+        ROW,
+        (11, "prices 1 2 4 4"),
+        Answer::Rejected(cheap),
+    )?;
+    let heavy = Reason::WeightTooLarge {
+        set: 1,
+        edge: 1,
+        price: -1,
+    };
+    expect(
+        &rt,
+        alloc,
+        &inst,
+        ROW,
+        (12, "weights 2 1 4 2 4"),
+        Answer::Rejected(heavy),
+    )?;
+    let missing = Reason::MissingUpper {
+        set: 1,
+        node: 1,
+        shore: 2,
+    };
+    expect(
+        &rt,
+        alloc,
+        &inst,
+        ROW,
+        (12, "weights 2 1 3 2 -4"),
+        Answer::Rejected(missing),
+    )?;
+    let twice = Reason::TourTooCheap {
+        set: 1,
+        node: 1,
+        value: -100,
+    };
+    expect(
+        &rt,
+        alloc,
+        &fork(alloc)?,
+        FORK,
+        AS_IT_IS,
+        Answer::Rejected(twice),
+    )
 }
 
 #[test]
 fn nodes_are_tested_in_preorder(rt: HostRuntime) -> Result<(), Fail> {
     let alloc = rt.alloc();
     let inst = star(alloc)?;
-    let low = Reason::LeafLow { node: 2, value: 410, limit: 609 };
-    expect(&rt, alloc, &inst, STAR, (22, "price 2"), Answer::Rejected(low))?;
-    let missing = Reason::MissingUpper { set: 1, node: 3, shore: 1 };
-    expect(&rt, alloc, &inst, STAR, (23, "price 1"), Answer::Rejected(missing))?;
+    let low = Reason::LeafLow {
+        node: 2,
+        value: 410,
+        limit: 609,
+    };
+    expect(
+        &rt,
+        alloc,
+        &inst,
+        STAR,
+        (22, "price 2"),
+        Answer::Rejected(low),
+    )?;
+    let missing = Reason::MissingUpper {
+        set: 1,
+        node: 3,
+        shore: 1,
+    };
+    expect(
+        &rt,
+        alloc,
+        &inst,
+        STAR,
+        (23, "price 1"),
+        Answer::Rejected(missing),
+    )?;
     let fat = Reason::NotLean { node: 1 };
-    expect(&rt, alloc, &inst, STAR, (21, "cut 1 3"), Answer::Rejected(fat))?;
-    let low = Reason::LeafLow { node: 2, value: 510, limit: 609 };
-    expect(&rt, alloc, &inst, STAR, (21, "cut 1 5"), Answer::Rejected(low))?;
-    let cheap = Reason::TourTooCheap { set: 1, node: 2, value: -1 };
-    expect(&rt, alloc, &inst, STAR, (16, "prices 1 5 202 201 201 201 201"), Answer::Rejected(cheap))
+    expect(
+        &rt,
+        alloc,
+        &inst,
+        STAR,
+        (21, "cut 1 3"),
+        Answer::Rejected(fat),
+    )?;
+    let low = Reason::LeafLow {
+        node: 2,
+        value: 510,
+        limit: 609,
+    };
+    expect(
+        &rt,
+        alloc,
+        &inst,
+        STAR,
+        (21, "cut 1 5"),
+        Answer::Rejected(low),
+    )?;
+    let cheap = Reason::TourTooCheap {
+        set: 1,
+        node: 2,
+        value: -1,
+    };
+    expect(
+        &rt,
+        alloc,
+        &inst,
+        STAR,
+        (16, "prices 1 5 202 201 201 201 201"),
+        Answer::Rejected(cheap),
+    )
 }
 
 #[test]
@@ -267,29 +373,75 @@ fn void_and_fixed_leaves_are_tested(rt: HostRuntime) -> Result<(), Fail> {
     let not_void = Answer::Rejected(Reason::NotVoid { node: 5 });
     expect(&rt, alloc, &street(alloc)?, STREET, (16, "void"), not_void)?;
     let inst = ring(alloc, 3)?;
-    let low = Reason::LeafLow { node: 1, value: 67, limit: 67 };
-    expect(&rt, alloc, &inst, RING, (3, "bound 68"), Answer::Rejected(low))?;
+    let low = Reason::LeafLow {
+        node: 1,
+        value: 67,
+        limit: 67,
+    };
+    expect(
+        &rt,
+        alloc,
+        &inst,
+        RING,
+        (3, "bound 68"),
+        Answer::Rejected(low),
+    )?;
     let fat = Answer::Rejected(Reason::NotLean { node: 1 });
-    expect(&rt, alloc, &inst, RING, (10, "nodes 3\npair 1 2\nvoid"), fat)
+    expect(
+        &rt,
+        alloc,
+        &inst,
+        RING,
+        (10, "nodes 3\npair 1 2\nvoid"),
+        fat,
+    )
 }
 
 #[test]
 fn what_stands_before_the_nodes_is_tested_first(rt: HostRuntime) -> Result<(), Fail> {
     let alloc = rt.alloc();
     let inst = row(alloc)?;
-    let cost = Reason::CostDiffers { stated: 19, found: 20 };
-    expect(&rt, alloc, &inst, ROW, (2, "cost 19"), Answer::Rejected(cost))?;
+    let cost = Reason::CostDiffers {
+        stated: 19,
+        found: 20,
+    };
+    expect(
+        &rt,
+        alloc,
+        &inst,
+        ROW,
+        (2, "cost 19"),
+        Answer::Rejected(cost),
+    )?;
     let away = Reason::PlanUnlawful(Verdict::NotAtDepot { tour: 1 });
-    expect(&rt, alloc, &inst, ROW, (5, "tour 1 +1"), Answer::Rejected(away))?;
+    expect(
+        &rt,
+        alloc,
+        &inst,
+        ROW,
+        (5, "tour 1 +1"),
+        Answer::Rejected(away),
+    )?;
     let shore = Answer::Rejected(Reason::Misfit(Part::Shore(1)));
     expect(&rt, alloc, &inst, ROW, (8, "shore 2 2 4"), shore)?;
     expect(&rt, alloc, &inst, ROW, (8, "shore 2 1 2"), shore)?;
     let prices = Answer::Rejected(Reason::Misfit(Part::Prices(1)));
     expect(&rt, alloc, &inst, ROW, (11, "prices 1 1 3"), prices)?;
     let pair = Answer::Rejected(Reason::Misfit(Part::Node(1)));
-    expect(&rt, alloc, &inst, ROW, (13, "nodes 3\npair 1 3\nprice 1"), pair)?;
+    expect(
+        &rt,
+        alloc,
+        &inst,
+        ROW,
+        (13, "nodes 3\npair 1 3\nprice 1"),
+        pair,
+    )?;
     let head = (1, "carp-certificate 2\ninstance 3 2 2 3 4");
-    let counts = Reason::CountsDiffer { place: 4, stated: 3, found: 2 };
+    let counts = Reason::CountsDiffer {
+        place: 4,
+        stated: 3,
+        found: 2,
+    };
     expect(&rt, alloc, &inst, ROW, head, Answer::Rejected(counts))?;
     let head = (1, "carp-certificate 2\ninstance 3 2 2 2 4");
     expect(&rt, alloc, &inst, ROW, head, Answer::Accepted)

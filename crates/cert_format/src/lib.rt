@@ -16,6 +16,8 @@ mod laws;
 mod line;
 mod reader;
 mod reading;
+#[cfg(test)]
+mod reading_tests;
 mod spelling;
 mod writing;
 #[cfg(test)]

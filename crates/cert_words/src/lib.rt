@@ -4,7 +4,11 @@
 //! every limit is told by a number at the end of the range.
 #![tactic(auto)]
 
+#[cfg(test)]
+mod examples;
 mod number;
+#[cfg(test)]
+mod tests;
 mod word;
 
 pub use word::Word;
