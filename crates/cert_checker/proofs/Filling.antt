@@ -11,6 +11,7 @@ use Rattle.cert_checker.specs.declared.checker.Checker.{Checker}
 use Rattle.cert_checker.specs.declared.path.Path.{Path}
 use Rattle.cert_checker.specs.Nodes.{waiting_after}
 use Rattle.cert_checker.specs.Paths.{waits}
+use Rattle.cert_checker.specs.Streams.{Fits}
 use Rattle.cert_checker.specs.Walks.{Fills, HasWalked, Walked, waiting_for}
 
 waiting_long : (branch : List Decision) (node : Node) (waiting : List (List Decision)) → length (waiting_after branch node waiting) ≡ open_after (suc (length waiting)) node
@@ -90,3 +91,16 @@ one_of (t ∷ (u ∷ rest)) all one is = absurd (omega (arith, one))
 -- the nodes are those of a tree
 pub tree_of : (all : List Node) → Fills all 1 → (tree : Tree) × (preorder tree ≡ all)
 tree_of all fills = let forest = grow all 1 fills in one_of forest.0 all forest.1 forest.2
+
+-- Nodes so far.
+
+one_waits : (taken : List Node) (x : Node) (waiting : List (List Decision)) → Fits (taken ++ x ∷ []) (length waiting) → 1 ≤ length (waiting_for taken waiting)
+one_waits [] x waiting fits = fits.0
+one_waits (y ∷ taken) x [] fits = absurd (omega (arith, fits.0))
+one_waits (y ∷ taken) x (b ∷ waiting) fits = one_waits taken x (waiting_after b y waiting) (subst (Fits (taken ++ x ∷ [])) (sym (waiting_long b y waiting)) fits.1)
+
+-- where a node comes after those so far, the path goes on
+pub goes_so_far : (s : Support) (bound : ℕ) (taken : List Node) (x : Node) (checker : Checker) → Fits (taken ++ x ∷ []) 1 → HasWalked s bound checker taken → checker.reason ≡ None → checker.path.whole ≡ false
+goes_so_far s bound taken x checker fits walked none =
+    let was : Walked s bound taken None checker.taken (waits checker.path) = subst (λ r. Walked s bound taken r checker.taken (waits checker.path)) none walked in
+    not_whole checker.path checker.path.whole refl (omega (arith, one_waits taken x ([] ∷ []) fits, ap length was.2))

@@ -1,4 +1,7 @@
 pub mod Accepting
+pub mod Extending
+pub mod Sound
+pub mod Taking
 pub mod Backing
 pub mod Entering
 pub mod Filling

@@ -126,7 +126,7 @@ weights_read pool s (set ∷ all) said is long good =
 
 -- The nodes.
 
-node_read : (s : Support) (borders units : ℕ) (x : Node) → borders ≡ length s.pool → units ≡ length s.sets → IsNodeInRange borders units x → IsNodeRead s x
+pub node_read : (s : Support) (borders units : ℕ) (x : Node) → borders ≡ length s.pool → units ≡ length s.sets → IsNodeInRange borders units x → IsNodeRead s x
 node_read s borders units (tree.Pair a b) pool_long sets_long fine = tt
 node_read s borders units (tree.Cut border k) pool_long sets_long fine = (record { from_one = fine.0.from_first; in_range = omega (arith, fine.0.to_last, pool_long) }, fine.1)
 node_read s borders units (tree.Price set) pool_long sets_long fine = record { from_one = fine.from_first; in_range = omega (arith, fine.to_last, sets_long) }

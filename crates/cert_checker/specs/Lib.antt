@@ -5,3 +5,4 @@ pub mod Nodes
 pub mod Paths
 pub mod Reasons
 pub mod Walks
+pub mod Streams

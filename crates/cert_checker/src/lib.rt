@@ -14,9 +14,12 @@ mod laws;
 mod leaves;
 mod path;
 mod reason;
+mod stream;
+mod streaming;
 #[cfg(test)]
 mod tests;
 
 pub use checking::check;
 pub use laws::{good_has_no_reason, reason_is_unique};
 pub use reason::{Answer, Part, Reason};
+pub use streaming::{Checked, StreamFault, check_stream};

@@ -1,0 +1,14 @@
+use Rattle.std.proofs.Common.{◌≡◌, List, refl, subst}
+use Rattle.cert_lines.specs.declared.item.Item.{Item}
+use Rattle.cert_checker.specs.Streams.{ItemComes}
+use Rattle.cert_checker.proofs.Taking.{quiet_on, whole_on}
+use Rattle.cert_checker.proofs.stream.Stream.take_item.Goals as goal
+
+pub returns-in-Quiet-clause-stage : goal.returns-in-Quiet-clause-stage
+returns-in-Quiet-clause-stage c = let is = c.in-Quiet.is in ?
+
+pub returns-in-Head-clause-stage : goal.returns-in-Head-clause-stage
+returns-in-Head-clause-stage c = λ before said x. c.take_head.ensures.stage before said (subst (λ (i : Item). ItemComes c.args.inst.now c.args.self.now i before said) c.in-Head.is x)
+
+pub returns-in-Node-clause-stage : goal.returns-in-Node-clause-stage
+returns-in-Node-clause-stage c = λ before said x. c.take_node.ensures.stage before said (subst (λ (i : Item). ItemComes c.args.inst.now c.args.self.now i before said) c.in-Node.is x)
