@@ -2,6 +2,7 @@ pub mod Accepting
 pub mod Extending
 pub mod Sound
 pub mod Taking
+pub mod Reading
 pub mod Backing
 pub mod Entering
 pub mod Filling

@@ -5,8 +5,8 @@ use Rattle.carp_outside.specs.Pieces.{limit_of, taken_of}
 use Rattle.cert_checker.specs.Streams.{HasRead}
 use Rattle.cert_checker.proofs.streaming.take_file.Given as goal
 
-abbrev pub invariant-loop : goal.invariant-loop
-invariant-loop g l =
+abbrev pub invariant-loop-pieces : goal.invariant-loop-pieces
+invariant-loop-pieces g l =
     let shelf = g.H.Shelf in record {
       limit : limit_of l.pieces ≡ l.limit;
       within : taken_of l.pieces ≤ l.limit;
@@ -18,5 +18,5 @@ invariant-loop g l =
       looks : (other : List ℕ) → shelf.failed_looks l.fn.shelf other ≤ shelf.failed_looks l.shelf other;
     }
 
-abbrev pub decreases-loop : goal.decreases-loop
-decreases-loop g l = l.limit + 1 - taken_of l.pieces
+abbrev pub decreases-loop-pieces : goal.decreases-loop-pieces
+decreases-loop-pieces g l = l.limit + 1 - taken_of l.pieces

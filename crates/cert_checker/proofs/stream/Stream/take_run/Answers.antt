@@ -1,4 +1,4 @@
-use Rattle.std.proofs.Common.{◌≡◌, ℕ, List, ◌++◌, length, take, refl, sym, ap, subst}
+use Rattle.std.proofs.Common.{◌≡◌, ℕ, List, ◌++◌, length, take, refl, sym, ap, subst, rules}
 use Rattle.std.proofs.Math.Seq.{take-length}
 use Rattle.carp_base.specs.declared.fail.Fail.TheVariants.{Refused}
 use Rattle.cert_checker.specs.declared.stream.Stream.{Stream}
@@ -21,4 +21,8 @@ returns-in_ok-take_item-in-Ok-clause-streamed c = λ bytes streamed.
     c.in_ok-take_item-in-Ok.ensures.reader gives.1 gives.0.read (c.in_ok-take_item-in-Ok.ensures.stage gives.0.before gives.0.said comes)
 
 pub returns-in-Err-Refused-clause-streamed : goal.returns-in-Err-Refused-clause-streamed
-returns-in-Err-Refused-clause-streamed c = ?
+returns-in-Err-Refused-clause-streamed c = λ bytes streamed.
+    let fault = c.in-Err-Refused.field-0-0 in
+    let bad = c.in-Err-Refused.ensures.bad bytes streamed.taken fault (search rules) in
+    let new = streamed_bad c.stream_laws.ensures c.args.inst.now (record { reader = c.feed.new.self; stage = c.args.self.now.stage }) (bytes ++ c.args.piece.now) bad.0.0 fault bad.1 bad.0.1 in
+    subst (λ (xs : List ℕ). HasStreamed c.args.inst.now (record { reader = c.feed.new.self; stage = c.args.self.now.stage }) (bytes ++ xs)) (sym (take-length c.args.piece.now)) new
