@@ -3,6 +3,7 @@ pub mod Extending
 pub mod Sound
 pub mod Taking
 pub mod Reading
+pub mod FileAnswers
 pub mod Backing
 pub mod Entering
 pub mod Filling

@@ -1,9 +1,13 @@
 -- What is known while the text of a certificate is taken in pieces.
-use Rattle.std.specs.Prelude.{◌≡◌, ℕ, ◌+◌, ◌-◌, ◌<◌, ◌≤◌, IsTrue, Bool, List, [], ◌∷◌, ◌++◌, length, take, Option, IfSome, IsSome, MatchOption}
+use Rattle.std.specs.Prelude.{◌≡◌, ℕ, ◌+◌, ◌-◌, ◌<◌, ◌≤◌, IsTrue, Bool, List, [], ◌∷◌, ◌++◌, length, take, Option, Some, IfSome, IsSome, IsSomeAnd, MatchOption, Result, IfOk, IsOk, IsErrOf, ◌⊎◌}
 use Rattle.std.specs.List.{All}
 use Rattle.carp_base.specs.Problem.{Problem}
+use Rattle.carp_base.specs.declared.fail.Fail.{Fail}
+use Rattle.carp_base.specs.declared.fail.Fail.TheVariants.{Memory, Refused}
+use Rattle.carp_outside.specs.Causes.{Rose}
 use Rattle.branch_rules.specs.Trees.{Support}
 use Rattle.branch_rules.specs.declared.node.Node.{Node}
+use Rattle.cert_lines.specs.declared.fault.CertFault.{CertFault}
 use Rattle.cert_lines.specs.declared.item.Item.{Item}
 use Rattle.cert_lines.specs.declared.item.Item.TheVariants as items
 use Rattle.cert_lines.specs.declared.next.Next.{Next}
@@ -11,7 +15,7 @@ use Rattle.cert_lines.specs.declared.next.Next.TheVariants as stands
 use Rattle.cert_lines.specs.Order.{LatestFirst, next_of, open_after}
 use Rattle.cert_lines.specs.Certificates.{Certificate, certificate_of, nodes_of, sets_of, shores_of}
 use Rattle.cert_lines.specs.Laws.{ReadIsNotBad, ReadIsSpellable, ReadingIsUnique}
-use Rattle.cert_lines.specs.Texts.{IsTextOf, ReadsAs, items_of}
+use Rattle.cert_lines.specs.Texts.{IsFaultOf, IsTextOf, ReadsAs, items_of}
 use Rattle.cert_format.specs.declared.cert.CertHead.{CertHead}
 use Rattle.cert_format.specs.Certs.{IsHeadOf, stated_nodes}
 use Rattle.cert_format.specs.Good.{support_of}
@@ -24,6 +28,8 @@ use Rattle.cert_checker.specs.declared.stream.Stage.{Stage}
 use Rattle.cert_checker.specs.declared.stream.Stage.TheVariants.{Before, Rejected, Walking}
 use Rattle.cert_checker.specs.declared.stream.Stream.{Stream}
 use Rattle.cert_checker.specs.declared.streaming.Checked.{Checked}
+use Rattle.cert_checker.specs.declared.streaming.StreamFault.{StreamFault}
+use Rattle.cert_checker.specs.declared.streaming.StreamFault.TheVariants as faults
 use Rattle.cert_checker.specs.Claims.{HasItsShores, IsNodeRead}
 use Rattle.cert_checker.specs.Reasons.{HeadIsRight, IsAnswer, IsFirstReason}
 use Rattle.cert_checker.specs.Walks.{HasWalked, IsChecker}
@@ -171,3 +177,16 @@ pub record TextLaws : Type 0 where
   pub reading : ReadingIsUnique
   pub apart : ReadIsNotBad
   pub spellable : ReadIsSpellable
+
+-- What is answered of a name that holds this or nothing; the looks at it that failed were so many before, and are so many now. Each
+-- refusal has its cause, and where no look failed, the bytes decide, and memory.
+pub record FileSays (p : Problem) (limit : ℕ) (tells : Bool) (held : Option (List ℕ)) (before now : ℕ) (result : Result Checked (Fail StreamFault)) : Type 0 where
+  pub checked : IsTrue tells → IfOk result (λ checked. IsSomeAnd held (λ file. (length file ≤ limit) × IsChecked p file checked))
+  pub some_text : IfOk result (IsCheckedSome p)
+  pub read : IsErrOf result (Refused faults.Read) → Rose before now
+  pub longer : IsTrue tells → IsErrOf result (Refused faults.TooLong) → IsSomeAnd held (λ file. limit < length file)
+  pub bad : IsTrue tells → (fault : CertFault) → IsErrOf result (Refused (faults.Bad fault)) → IsSomeAnd held (λ file. (length file ≤ limit) × IsFaultOf file fault)
+  pub not_longer : IsTrue tells → IfSome held (λ file. limit < length file) → (Rose before now → ⊥) → IsErrOf result (Refused faults.TooLong) ⊎ IsErrOf result Memory
+  pub text : IsTrue tells → (file : List ℕ) (c : Certificate) → held ≡ Some file → length file ≤ limit → IsTextOf file c → (Rose before now → ⊥) → IsOk result ⊎ IsErrOf result Memory
+  pub no_text : IsTrue tells → (file : List ℕ) (fault : CertFault) → held ≡ Some file → length file ≤ limit → IsFaultOf file fault → (Rose before now → ⊥)
+      → IsErrOf result (Refused (faults.Bad fault)) ⊎ IsErrOf result Memory

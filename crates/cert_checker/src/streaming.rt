@@ -8,7 +8,7 @@ ghost use Rattle.cert_lines.specs.Certificates.{Certificate};
 ghost use Rattle.cert_lines.specs.declared.fault.CertFault.{CertFault as Fault};
 ghost use Rattle.cert_lines.specs.Texts.{IsFaultOf, IsTextOf};
 ghost use Rattle.cert_checker.specs.declared.streaming.StreamFault.TheVariants as stream_faults;
-ghost use Rattle.cert_checker.specs.Streams.{HasStreamed, HasStreamedSome, IsChecked, IsCheckedSome};
+ghost use Rattle.cert_checker.specs.Streams.{FileSays, HasStreamed, HasStreamedSome, IsChecked, IsCheckedSome};
 
 use crate::Answer;
 use crate::stream::Stream;
@@ -89,9 +89,30 @@ pub fn check_stream<H: Shelf>(
     ensures given { H.given shelf.old ≤ H.given shelf.new }
     ensures looks { (other : List ℕ) → H.failed_looks shelf.old other ≤ H.failed_looks shelf.new other }
 {
-    texts_are_unique();
     let mut stream = Stream::new(alloc, inst)?;
-    match take_file(alloc, inst, shelf, name, limit, &mut stream) {
+    check_file(alloc, inst, shelf, name, limit, &mut stream)
+}
+
+// Checks the certificate of a name by a stream that has taken no bytes.
+fn check_file<H: Shelf>(
+    alloc: Global,
+    inst: &Instance,
+    shelf: &mut H,
+    name: &str,
+    limit: u64,
+    stream: &mut Stream,
+) -> Result<Checked, Fail<StreamFault>>
+    requires few { limit < 2 ^ 40 }
+    requires none { HasStreamed inst.now stream.old [] }
+    ensures says { FileSays inst.now limit H.tells (H.contents shelf.old name.now) (H.failed_looks shelf.old name.now) (H.failed_looks shelf.new name.now) result }
+    ensures too_long { IsErrOf result (Refused stream_faults.TooLong) → RoseBy (limit + 1) (H.given shelf.old) (H.given shelf.new) }
+    ensures contents { IsTrue H.tells → SameContents (H.contents shelf.old) (H.contents shelf.new) }
+    ensures keeps { H.failed_keeps shelf.new ≡ H.failed_keeps shelf.old }
+    ensures given { H.given shelf.old ≤ H.given shelf.new }
+    ensures looks { (other : List ℕ) → H.failed_looks shelf.old other ≤ H.failed_looks shelf.new other }
+{
+    texts_are_unique();
+    match take_file(alloc, inst, shelf, name, limit, stream) {
         Ok(()) => {}
         Err(Fail::Memory) => return Err(Fail::Memory),
         Err(Fail::Refused(ReadFault::Fault)) => return Err(Fail::Refused(StreamFault::Read)),
