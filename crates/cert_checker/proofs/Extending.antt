@@ -71,16 +71,16 @@ alike test (x ∷ xs) ys =
         long_is = slice_split-cons_yes test x (xs ++ ys) cut ∙ ap (λ (ps : List (List ℕ)). [] ∷ ps) a.long_is;
       }
       | inr on ↦ (
-        let b = alike_onto x a.front a.last a.next a.more in
-        record {
-          front = b.front;
-          last = b.last;
-          next = b.next;
-          more = b.more;
-          short_is = slice_split-cons_no test x xs on ∙ ap (onto_first x) a.short_is ∙ b.short_is;
-          long_is = slice_split-cons_no test x (xs ++ ys) on ∙ ap (onto_first x) a.long_is ∙ b.long_is;
-        }
-      )
+          let b = alike_onto x a.front a.last a.next a.more in
+          record {
+            front = b.front;
+            last = b.last;
+            next = b.next;
+            more = b.more;
+            short_is = slice_split-cons_no test x xs on ∙ ap (onto_first x) a.short_is ∙ b.short_is;
+            long_is = slice_split-cons_no test x (xs ++ ys) on ∙ ap (onto_first x) a.long_is ∙ b.long_is;
+          }
+          )
     ]
 
 -- what the first parts say, and that the others go on from there
