@@ -15,6 +15,8 @@ mod leaves;
 mod path;
 mod reason;
 mod stream;
+#[cfg(test)]
+mod stream_tests;
 mod streaming;
 #[cfg(test)]
 mod tests;

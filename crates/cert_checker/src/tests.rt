@@ -1,6 +1,7 @@
-// `check` on small certificates.
-use crate::{Answer, Part, Reason, check};
+// `check` and `check_stream` on small certificates.
+use crate::{Answer, Part, Reason, check, check_stream};
 use carp_base::{Instance, RawEdge};
+use carp_outside::MemShelf;
 use cert_format::read_cert;
 use cert_lines::read_is_spelled;
 use plan_model::Verdict;
@@ -20,12 +21,12 @@ fn edge(u: u64, v: u64, cost: u64, demand: u64) -> RawEdge {
 }
 
 // Three streets around, for one vehicle of capacity 3.
-fn triangle(alloc: Global) -> Result<Instance, Fail> {
+pub(crate) fn triangle(alloc: Global) -> Result<Instance, Fail> {
     let required = [edge(1, 2, 5, 1), edge(2, 3, 7, 1), edge(1, 3, 4, 1)];
     Ok(Instance::build(alloc, 3, 1, 3, &required, &[])?)
 }
 
-const TRIANGLE: &str = "carp-certificate 1
+pub(crate) const TRIANGLE: &str = "carp-certificate 1
 cost 16
 bound 16
 tours 1
@@ -40,12 +41,12 @@ end
 ";
 
 // Two streets in a row, each a load for a vehicle.
-fn row(alloc: Global) -> Result<Instance, Fail> {
+pub(crate) fn row(alloc: Global) -> Result<Instance, Fail> {
     let required = [edge(1, 2, 3, 2), edge(2, 3, 4, 2)];
     Ok(Instance::build(alloc, 3, 1, 2, &required, &[])?)
 }
 
-const ROW: &str = "carp-certificate 1
+pub(crate) const ROW: &str = "carp-certificate 1
 cost 20
 bound 20
 tours 2
@@ -182,7 +183,12 @@ end
 ";
 
 // The text with one line changed; lines are counted from 1, and none has the number 0.
-fn with_line(alloc: Global, text: &str, number: usize, line: &str) -> Result<String, Fail> {
+pub(crate) fn with_line(
+    alloc: Global,
+    text: &str,
+    number: usize,
+    line: &str,
+) -> Result<String, Fail> {
     let mut changed = String::new(alloc);
     for (place, old) in text.lines().enumerate() {
         changed.push_str(if place + 1 == number { line } else { old })?;
@@ -191,7 +197,24 @@ fn with_line(alloc: Global, text: &str, number: usize, line: &str) -> Result<Str
     Ok(changed)
 }
 
-// With one line changed, the certificate gets this answer.
+// In a file that gives so many bytes at a look, the certificate gets this answer.
+fn expect_in_file(
+    rt: &impl Abort,
+    alloc: Global,
+    inst: &Instance,
+    bytes: &[u8],
+    piece: usize,
+    expected: Answer,
+) -> Result<(), Fail> {
+    assert!(rt; piece > 0);
+    let mut shelf = MemShelf::new(alloc, piece, Vec::new(alloc), Vec::new(alloc));
+    shelf.place("CERT", bytes)?;
+    let checked = check_stream(alloc, inst, &mut shelf, "CERT", 1_000)?;
+    assert_eq!(rt; checked.answer, expected);
+    Ok(())
+}
+
+// With one line changed, the certificate gets this answer, whole and in pieces of any size.
 fn expect(
     rt: &impl Abort,
     alloc: Global,
@@ -205,7 +228,9 @@ fn expect(
     let cert = read_cert(alloc, text.as_bytes())?;
     let answer = check(alloc, inst, &cert)?;
     assert_eq!(rt; answer, expected);
-    Ok(())
+    expect_in_file(rt, alloc, inst, text.as_bytes(), 1, expected)?;
+    expect_in_file(rt, alloc, inst, text.as_bytes(), 7, expected)?;
+    expect_in_file(rt, alloc, inst, text.as_bytes(), 65_536, expected)
 }
 
 const AS_IT_IS: (usize, &str) = (0, "");
