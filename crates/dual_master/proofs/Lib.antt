@@ -1,0 +1,5 @@
+pub mod Growing
+pub mod Values
+pub mod Placing
+pub mod Chosen
+pub mod Small

@@ -1,0 +1,30 @@
+-- The shores of one vertex that are placed behind the shores of a floor.
+use Rattle.std.specs.Prelude.{◌≡◌, ◌≢◌, ℕ, zero, suc, ◌<◌, ◌++◌, List, [], ◌∷◌, length}
+use Rattle.carp_base.specs.Problem.{Problem}
+use Rattle.cut_pool.specs.Shores.{is_in, need}
+use Rattle.cut_pool.specs.Pools.{Holds}
+use Rattle.dual_master.specs.Candidates.{IsFloorBase}
+
+-- the shore of just this vertex is placed: it is not the depot, some deadhead over it is needed, and the pool has room and does not
+-- hold the shore
+pub record IsWanted (p : Problem) (pool : List (List ℕ)) (v : ℕ) : Type 0 where
+  pub no_depot : v ≢ p.depot
+  pub needed : 0 < need p (is_in (v ∷ []))
+  pub room : length pool < 2000
+  pub new : ¬ (Holds pool (v ∷ []))
+
+-- the pool after one vertex was tried
+pub data IsTried (p : Problem) (pool : List (List ℕ)) (v : ℕ) (after : List (List ℕ)) : Type 0 where
+  one_more : IsWanted p pool v → after ≡ pool ++ (v ∷ []) ∷ [] → IsTried p pool v after
+  as_before : ¬ (IsWanted p pool v) → after ≡ pool → IsTried p pool v after
+
+-- the pool after the vertices from 1 to a number were tried in order
+abbrev pub HasSingles : Problem → List (List ℕ) → ℕ → List (List ℕ) → Type 0
+HasSingles p base zero pool = pool ≡ base
+HasSingles p base (suc v) pool = (before : List (List ℕ)) × HasSingles p base v before × IsTried p before (suc v) pool
+
+-- the shores of a floor, and behind them the shores of one vertex
+pub record IsFloorPool (p : Problem) (pool : List (List ℕ)) : Type 0 where
+  pub base : List (List ℕ)
+  pub of_floor : IsFloorBase p base
+  pub singles : HasSingles p base p.vertices pool

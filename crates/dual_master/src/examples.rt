@@ -1,0 +1,18 @@
+// Small data on which a fact that no call decides holds, and on which it does not.
+ghost use Rattle.std.specs.Prelude.{[]};
+ghost use Rattle.deadhead_paths.specs.Examples.{town};
+ghost use Rattle.branch_rules.specs.Examples.{town_pool};
+ghost use Rattle.dual_master.specs.Singles.{HasSingles, IsFloorPool, IsWanted};
+
+fn a_wanted_shore()
+    ensures wanted { IsWanted town [] 2 }
+    ensures held { ¬ (IsWanted town town_pool 2) }
+    ensures depot { ¬ (IsWanted town [] 1) }
+{}
+
+fn shores_of_single_vertices()
+    ensures placed { HasSingles town [] 2 town_pool }
+    ensures left_out { ¬ (HasSingles town [] 2 []) }
+    ensures not_first { ¬ (HasSingles town [] 1 town_pool) }
+    ensures pool { IsFloorPool town town_pool }
+{}

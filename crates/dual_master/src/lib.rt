@@ -1,0 +1,18 @@
+//! The best of the floors: the price set that the search for better prices begins with.
+//!
+//! `floor_prices` gives a price set for each simple floor of the bound. [`floors`] takes the one of the greatest value, so that
+//! the set reaches all three floors, and places the shores of one vertex behind those of the floor. That a pool may grow without
+//! any change of the sets whose shores it held is the law [`growth_keeps_sets`].
+#![tactic(auto)]
+
+mod best;
+mod candidate;
+#[cfg(test)]
+mod examples;
+mod laws;
+mod singles;
+#[cfg(test)]
+mod tests;
+
+pub use best::floors;
+pub use laws::growth_keeps_sets;

@@ -1,0 +1,12 @@
+pub mod Sums
+pub mod Numbers
+pub mod Packed
+pub mod Nested
+pub mod Taking
+pub mod Ratios
+pub mod Tabled
+pub mod Placed
+pub mod Shelled
+pub mod Joined
+pub mod Better
+pub mod Small

@@ -1,0 +1,11 @@
+use Rattle.floor_prices.proofs.Small.{town_join, join_reached, join_missed}
+use Rattle.floor_prices.proofs.examples.a_least_join.Goals as goal
+
+pub returns-clause-least : goal.returns-clause-least
+returns-clause-least c = town_join
+
+pub returns-clause-reached : goal.returns-clause-reached
+returns-clause-reached c = join_reached
+
+pub returns-clause-missed : goal.returns-clause-missed
+returns-clause-missed c = join_missed

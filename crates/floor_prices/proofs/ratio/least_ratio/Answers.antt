@@ -1,0 +1,16 @@
+use Rattle.std.proofs.Common.{All, sym, subst, ◌∙◌, arith}
+use Rattle.pricing_grid.specs.Pricing.{IsServicePrice}
+use Rattle.floor_prices.proofs.Packed.{costs_small}
+use Rattle.floor_prices.proofs.Tabled.{costs_servable, ratio_from_filled}
+use Rattle.floor_prices.proofs.ratio.least_ratio.Goals as goal
+
+pub service_prices-requires : goal.service_prices-requires
+service_prices-requires c = costs_small c.args.inst.now 1 c.vertices.ensures.valid (omega arith)
+
+pub fill-requires-clause-prices : goal.fill-requires-clause-prices
+fill-requires-clause-prices c = subst (All IsServicePrice) (sym (c.deref.ensures.value ∙ c.in_ok-services.ensures)) (costs_servable c.args.inst.now c.vertices.ensures.valid)
+
+pub returns-clause-value : goal.returns-clause-value
+returns-clause-value c =
+    ratio_from_filled c.args.inst.now c.in_ok-allowed.allowed c.in_ok-allowed.ensures c.vertices.ensures.valid c.args.dist.now.prices c.deref.result.now c.requires.costs
+    (c.deref.ensures.value ∙ c.in_ok-services.ensures) c.fill.new.self c.fill.ensures.filled c.least_ratio.result c.least_ratio.ensures

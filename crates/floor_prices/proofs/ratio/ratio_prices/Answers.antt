@@ -1,0 +1,43 @@
+use Rattle.std.proofs.Common.{◌≡◌, ℕ, List, sym, subst}
+use Rattle.std.proofs.lemmas.Option.{MatchOption-at_some}
+use Rattle.std.proofs.lemmas.Result.{IfOk-weaker}
+use Rattle.route_pricing.specs.declared.table.Ratio.{Ratio}
+use Rattle.floor_prices.specs.Floors.{FitsAlways, IsLeastCostRatio, ReachesRatio}
+use Rattle.floor_prices.specs.Pieces.{ratio_set}
+use Rattle.floor_prices.proofs.Ratios.{nothing_in, plain_fits, ratio_in, ratio_fits, ratio_reaches}
+use Rattle.floor_prices.proofs.ratio.ratio_prices.Goals as goal
+
+pub prices_by-requires : goal.prices_by-requires
+prices_by-requires c = nothing_in c.args.inst.now c.vertices.ensures.valid
+
+pub prices_by-requires-in-Some : goal.prices_by-requires-in-Some
+prices_by-requires-in-Some c =
+    let p = c.args.inst.now in
+    let least = MatchOption-at_some (p.required ≡ 0) (λ (r : Ratio). IsLeastCostRatio p r.deadhead r.load) c.in-Some.ratio c.in-Some.is c.in_ok-least_ratio.ensures.value in
+    ratio_in c.least_prices_are_there.ensures.few_steps c.least_prices_are_there.ensures.tasks p c.vertices.ensures.valid c.in-Some.ratio.deadhead c.in-Some.ratio.load least
+
+pub returns-in-None-clause-fits : goal.returns-in-None-clause-fits
+returns-in-None-clause-fits c =
+    let p = c.args.inst.now in
+    IfOk-weaker c.prices_by.result (λ set. set ≡ ratio_set p 0 1) (λ set. (pool : List (List ℕ)) → FitsAlways p pool set)
+    (λ set is pool. subst (FitsAlways p pool) (sym is) (plain_fits p pool c.vertices.ensures.valid)) c.prices_by.ensures
+
+pub returns-in-Some-clause-fits : goal.returns-in-Some-clause-fits
+returns-in-Some-clause-fits c =
+    let p = c.args.inst.now in
+    let a = c.in-Some.ratio.deadhead in
+    let b = c.in-Some.ratio.load in
+    let least = MatchOption-at_some (p.required ≡ 0) (λ (r : Ratio). IsLeastCostRatio p r.deadhead r.load) c.in-Some.ratio c.in-Some.is c.in_ok-least_ratio.ensures.value in
+    IfOk-weaker c.prices_by-in-Some.result (λ set. set ≡ ratio_set p a b) (λ set. (pool : List (List ℕ)) → FitsAlways p pool set)
+    (λ set is pool. subst (FitsAlways p pool) (sym is) (ratio_fits c.least_prices_are_there.ensures.few_steps c.least_prices_are_there.ensures.tasks p c.vertices.ensures.valid a b least pool))
+    c.prices_by-in-Some.ensures
+
+pub returns-in-Some-clause-reaches : goal.returns-in-Some-clause-reaches
+returns-in-Some-clause-reaches c =
+    let p = c.args.inst.now in
+    let a = c.in-Some.ratio.deadhead in
+    let b = c.in-Some.ratio.load in
+    let least = MatchOption-at_some (p.required ≡ 0) (λ (r : Ratio). IsLeastCostRatio p r.deadhead r.load) c.in-Some.ratio c.in-Some.is c.in_ok-least_ratio.ensures.value in
+    IfOk-weaker c.prices_by-in-Some.result (λ set. set ≡ ratio_set p a b) (λ set. (pool : List (List ℕ)) → ReachesRatio p pool set)
+    (λ set is pool. subst (ReachesRatio p pool) (sym is) (ratio_reaches c.least_prices_are_there.ensures.few_steps c.least_prices_are_there.ensures.tasks p c.vertices.ensures.valid a b least pool))
+    c.prices_by-in-Some.ensures
