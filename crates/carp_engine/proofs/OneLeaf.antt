@@ -25,7 +25,7 @@ use Rattle.branch_rules.specs.declared.node.Node.TheVariants.{Price}
 use Rattle.cut_pool.specs.Pools.{IsShoreNumber}
 use Rattle.cut_pool.specs.Shores.{Belongs}
 use Rattle.cert_lines.specs.Spelling.{IsFine, IsFineSet, IsFineNode}
-use Rattle.cert_format.specs.Good.{HasPriceEach, IsGood, counts_in, support_of}
+use Rattle.cert_format.specs.Good.{CountsAreInRange, HasPriceEach, IsGood, counts_in, support_of}
 use Rattle.carp_engine.specs.Helpers.{IsShortPlan}
 use Rattle.carp_engine.specs.Leaves.{by_services, services_alone}
 use Rattle.carp_engine.proofs.Services.{service_small, services_count, services_alone_fine}
@@ -68,29 +68,12 @@ cost_is_small p valid plan short =
     let each : All (λ s. step_cost p s ≤ 1000000) (steps_of plan) = λ i d within. (small_steps p valid plan short.lawful.walks i d within).cost in
     omega (arith, sum_by-le (step_cost p) 1000000 (steps_of plan) each, short.few_steps)
 
--- The demand of an instance is small.
-
-demand_is_small : (p : Problem) → IsValid p → total_demand p ≤ 18000000
-demand_is_small p valid =
-    let count : length (required_edges p) ≡ p.required = rw length-take (omega (arith, valid.required_in)) in
-    let each : All (λ x. x.demand ≤ 30000) (required_edges p) = All-from_get_or (λ x. x.demand ≤ 30000) (required_edges p) no_edge (λ i within.
-    let inside : i < p.required = subst (λ n. i < n) count within in
-    let task = valid.tasks (suc i) (record { from_one = omega arith; in_range = omega arith }) in
-    rw (get_or-take p.required p.edges i no_edge inside) (omega (arith, task.demand_fits, valid.capacity_in))) in
-    omega (arith, sum_by-le (λ x. x.demand) 30000 (required_edges p) each, count, valid.few_required)
-
 -- It can be spelled.
 
-pub services_are_fine : (p : Problem) → IsValid p → (plan : List (List Step)) → IsShortPlan p plan → required_cost p ≤ plan_cost p plan → IsFine (by_services p plan)
-services_are_fine p valid plan short below =
+pub services_are_fine : CountsAreInRange → (p : Problem) → IsValid p → (plan : List (List Step)) → IsShortPlan p plan → required_cost p ≤ plan_cost p plan → IsFine (by_services p plan)
+services_are_fine ranges p valid plan short below =
     let small = cost_is_small p valid plan short in record {
-      counts_in = record {
-        vertices = record { from_first = omega (arith, valid.depot_in.from_one, valid.depot_in.in_range); to_last = valid.few_vertices };
-        edges = valid.few_edges;
-        required = valid.few_required;
-        capacity = record { from_first = valid.some_capacity; to_last = valid.capacity_in };
-        demand = demand_is_small p valid;
-      };
+      counts_in = ranges p valid;
       cost_in = omega (arith, small);
       bound_in = omega (arith, small, below);
       few_tours = omega (arith, short.few_tours, valid.few_required);

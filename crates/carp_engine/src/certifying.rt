@@ -2,14 +2,13 @@
 ghost use Rattle.std.specs.Prelude.{◌≡◌, ◌≤◌, IfOk, map, pos};
 ghost use Rattle.carp_base.specs.Problem.{IsValid, required_edges};
 ghost use Rattle.cert_format.specs.Certs.{certificate_in};
-ghost use Rattle.cert_format.specs.Good.{counts_in};
 ghost use Rattle.carp_engine.specs.Helpers.{IsShortPlan};
 ghost use Rattle.carp_engine.specs.Leaves.{IsOfServices, services_alone};
 
 use crate::Solved;
 use branch_rules::{Node, PriceSet, Tree};
 use carp_base::{Edge, Instance, Memory};
-use cert_format::{Cert, Counts};
+use cert_format::{Cert, counts_of};
 use cut_pool::ShorePool;
 use plan_model::Plan;
 use std::alloc::Global;
@@ -40,20 +39,6 @@ pub(crate) fn certify(alloc: Global, inst: &Instance, plan: Plan) -> Result<Solv
         },
         turns: u64::from(bound == cost),
     })
-}
-
-// The numbers of an instance.
-fn counts_of(inst: &Instance) -> Counts
-    ensures counts { result ≡ counts_in inst.now }
-    ensures valid { IsValid inst.now }
-{
-    Counts {
-        vertices: u64::from(inst.vertices()),
-        edges: u64::from(inst.edge_count()),
-        required: u64::from(inst.required()),
-        capacity: inst.capacity(),
-        demand: inst.total_demand(),
-    }
 }
 
 // The price set of the costs of the services.

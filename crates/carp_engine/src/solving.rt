@@ -8,7 +8,7 @@ ghost use Rattle.carp_engine.specs.Solutions.{IsSound};
 use crate::certifying::certify;
 use crate::rounds::ask_all;
 use carp_base::{Instance, Memory};
-use cert_format::Cert;
+use cert_format::{Cert, counts_are_in_range};
 use cert_lines::fine_is_spellable;
 use deadhead_paths::{single_tours, tidy};
 use plan_model::{Proposer, required_cost_is_least};
@@ -47,6 +47,7 @@ pub fn solve<P: Proposer>(
     ensures sound { IfOk result (λ solved. IsSound inst.now (certificate_in solved.cert) solved.turns) }
 {
     required_cost_is_least();
+    counts_are_in_range();
     fine_is_spellable();
     let dist = cost_distances(alloc, inst)?;
     let mut plan = tidy(alloc, inst, &dist, &single_tours(alloc, inst, &dist)?)?;

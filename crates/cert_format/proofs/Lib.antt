@@ -1,4 +1,5 @@
 pub mod Bounds
+mod Counted
 pub mod FirstWords
 pub mod LineParts
 pub mod Hopeless

@@ -1,6 +1,6 @@
 -- When a certificate is good for an instance: then its plan is lawful and costs what is stated, and no lawful plan costs less than
 -- its bound.
-use Rattle.std.specs.Prelude.{◌≡◌, ℕ, List, [], length, IfSome}
+use Rattle.std.specs.Prelude.{◌≡◌, ℕ, List, [], length, Some, IfSome}
 use Rattle.std.specs.List.{All}
 use Rattle.carp_base.specs.Problem.{Problem, IsValid, total_demand}
 use Rattle.plan_model.specs.Plans.{IsLawful, plan_cost}
@@ -11,10 +11,24 @@ use Rattle.branch_rules.specs.Refusals.{NoneTooHeavy}
 use Rattle.branch_rules.specs.Trees.{Tree, preorder, Support, IsLean, Shows, PairsIn}
 use Rattle.cert_lines.specs.declared.counts.Counts.{Counts}
 use Rattle.cert_lines.specs.Certificates.{Certificate}
+use Rattle.cert_lines.specs.Ranges.{AreCountsInRange}
+use Rattle.cert_lines.specs.Spelling.{IsSpellable}
 
 -- the numbers of an instance
 abbrev pub counts_in : Problem → Counts
 counts_in p = record { vertices = p.vertices; edges = length p.edges; required = p.required; capacity = p.capacity; demand = total_demand p }
+
+-- the certificate with the numbers of the instance
+abbrev pub with_counts : Problem → Certificate → Certificate
+with_counts p c = record {
+  counts = Some (counts_in p);
+  cost = c.cost;
+  bound = c.bound;
+  plan = c.plan;
+  shores = c.shores;
+  sets = c.sets;
+  nodes = c.nodes;
+}
 
 -- what a certificate has beside its tree, for an instance
 abbrev pub support_of : Problem → Certificate → Support
@@ -45,6 +59,14 @@ pub record IsProof (p : Problem) (c : Certificate) : Type 0 where
   pub lawful : IsLawful p c.plan
   pub cost : c.cost ≡ plan_cost p c.plan
   pub bounds : IsLowerBound p c.bound
+
+-- the numbers of an instance are in their ranges
+abbrev pub CountsAreInRange : Type 0
+CountsAreInRange = (p : Problem) → IsValid p → AreCountsInRange (counts_in p)
+
+-- a good certificate that can be spelled stays so with the numbers of the instance
+abbrev pub CountsKeepGood : Type 0
+CountsKeepGood = (p : Problem) (c : Certificate) → IsValid p → IsGood p c → IsSpellable c → IsGood p (with_counts p c) × IsSpellable (with_counts p c)
 
 -- a good certificate is a proof
 abbrev pub GoodIsProof : Type 0

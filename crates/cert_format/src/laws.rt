@@ -1,7 +1,8 @@
-// A law over certificates, as a function whose contract is the law.
-ghost use Rattle.cert_format.specs.Good.{GoodIsProof};
+// Laws over certificates, as functions whose contracts are the laws.
+ghost use Rattle.cert_format.specs.Good.{GoodIsProof, CountsAreInRange, CountsKeepGood};
 
 use branch_rules::tree_bounds;
+use cert_lines::{fine_is_spellable, spellable_is_fine};
 
 /// A certificate that is good for a valid instance is a proof, whoever made it: its plan is lawful and costs what is stated, and no
 /// lawful plan costs less than its bound.
@@ -9,4 +10,17 @@ pub fn good_is_proof()
     ensures { GoodIsProof }
 {
     tree_bounds();
+}
+
+/// The numbers of a valid instance are in the ranges of a certificate's text.
+pub fn counts_are_in_range()
+    ensures { CountsAreInRange }
+{}
+
+/// A good certificate that can be spelled stays good, and can be spelled, with the numbers of its instance in place of those that it has.
+pub fn counts_keep_good()
+    ensures { CountsKeepGood }
+{
+    fine_is_spellable();
+    spellable_is_fine();
 }

@@ -8,6 +8,7 @@
 
 mod cert;
 mod cert_reader;
+mod counting;
 mod draft;
 mod items;
 mod judging;
@@ -26,6 +27,7 @@ mod writing_tests;
 pub use cert::{Cert, CertHead};
 pub use cert_lines::{CertFault, Counts, Item};
 pub use cert_reader::CertReader;
-pub use laws::good_is_proof;
+pub use counting::counts_of;
+pub use laws::{counts_are_in_range, counts_keep_good, good_is_proof};
 pub use reading::read_cert;
 pub use writing::write_cert;

@@ -15,5 +15,5 @@ returns-clause-sound g c =
       lawful = c.in_ok-single_tours.ensures.lawful;
       at_most = omega (arith, c.ask_all.ensures.no_dearer, c.in_ok-plan.ensures.cost);
     } in
-    IfOk-weaker c.certify.result _ _ (λ solved of. sound p c.certify.ensures.valid bounds c.fine_is_spellable.ensures c.ask_all.new.best _ _ c.ask_all.ensures.short no_dearer of)
+    IfOk-weaker c.certify.result _ _ (λ solved of. sound p c.certify.ensures.valid bounds c.counts_are_in_range.ensures c.fine_is_spellable.ensures c.ask_all.new.best _ _ c.ask_all.ensures.short no_dearer of)
     c.certify.ensures.certified
