@@ -1,1 +1,4 @@
-mod Cuts
+pub mod FileReads
+pub mod Certificates
+pub mod Performed
+pub mod Delivered

@@ -1,8 +1,8 @@
 -- Small data for the examples beside the tests.
-use Rattle.std.specs.Prelude.{ℕ, [], ◌∷◌, None, codes}
+use Rattle.std.specs.Prelude.{ℕ, [], ◌∷◌, None, List, Option, codes}
 use Rattle.carp_base.specs.Problem.{Problem}
 use Rattle.cert_lines.specs.Certificates.{Certificate}
-use Rattle.carp_cli.specs.Words.{FileNames}
+use Rattle.carp_cli.specs.Commands.{Command, Solve, Check}
 use Rattle.carp_cli.specs.Outside.{Outside}
 
 -- an instance with nothing to serve
@@ -13,16 +13,12 @@ idle = record { vertices = 1; depot = 1; capacity = 1; required = 0; edges = [] 
 abbrev pub stating : ℕ → ℕ → Certificate
 stating cost bound = record { counts = None; cost = cost; bound = bound; plan = []; shores = []; sets = []; nodes = [] }
 
-abbrev pub two_names : FileNames
-two_names = record { file = codes "f"; cert = codes "c" }
+abbrev pub solving : Command
+solving = Solve (codes "f") (codes "c")
 
--- no name holds anything, nothing was written, and no call failed
-abbrev pub empty : Outside
-empty = record { contents = λ _. None; failed_looks = λ _. 0; failed_keeps = 0; written = []; failed_puts = 0; offered = [] }
+abbrev pub checking : Command
+checking = Check (codes "f") (codes "c")
 
--- a byte was written before, and a put failed since
-abbrev pub with_output : Outside
-with_output = record { contents = λ _. None; failed_looks = λ _. 0; failed_keeps = 0; written = 1 ∷ []; failed_puts = 0; offered = [] }
-
-abbrev pub with_failed_keep : Outside
-with_failed_keep = record { contents = λ _. None; failed_looks = λ _. 0; failed_keeps = 1; written = []; failed_puts = 0; offered = [] }
+-- this is written and so many keeps failed; no name holds anything, and no other call failed
+abbrev pub outside : List ℕ → ℕ → Outside
+outside written keeps = record { contents = λ _. None; failed_looks = λ _. 0; failed_keeps = keeps; given = 0; written = written; failed_puts = 0; offered = [] }

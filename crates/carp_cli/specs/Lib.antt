@@ -1,8 +1,12 @@
+pub mod Commands
 pub mod Words
 pub mod Outside
 pub mod Files
 pub mod Refusals
 pub mod Codes
-pub mod Stops
-pub mod Outcome
+pub mod Solving
+pub mod Checking
+pub mod Answers
+pub mod Runs
+pub mod Steps
 pub mod Examples

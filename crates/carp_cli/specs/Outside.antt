@@ -1,25 +1,51 @@
--- What the outside of a run holds and counts at one moment.
-use Rattle.std.specs.Prelude.{◌≡◌, ◌≢◌, ℕ, List, Option, None, Some}
-use Rattle.carp_outside.specs.Causes.{Rose}
-use Rattle.carp_outside.specs.Told.{SameContents}
-use Rattle.carp_cli.specs.Words.{FileNames}
+-- What the outside of a run holds and counts at one moment, and what of it a command finds.
+use Rattle.std.specs.Prelude.{◌≡◌, ◌≢◌, ℕ, List, [], ◌∷◌, ◌++◌, Option, ◌⊎◌}
+use Rattle.carp_outside.specs.Told.{HoldsExactly, HoldsFront, SameContents}
 
--- what each name holds and what was written, as they are told, how many looks at each name, keeps and puts failed, and the least
--- cost of the lawful plans that each helper offered
+-- what each name holds and what was written, as they are told, how many looks at each name, keeps and puts failed, how many bytes were
+-- given, and the least cost of the lawful plans that each helper offered
 pub record Outside : Type 0 where
   pub contents : List ℕ → Option (List ℕ)
   pub failed_looks : List ℕ → ℕ
   pub failed_keeps : ℕ
+  pub given : ℕ
   pub written : List ℕ
   pub failed_puts : ℕ
   pub offered : List (Option ℕ)
 
--- names other than the one that is kept hold what they held
-abbrev pub SameElsewhere : Option FileNames → (List ℕ → Option (List ℕ)) → (List ℕ → Option (List ℕ)) → Type 0
-SameElsewhere None before now = SameContents before now
-SameElsewhere (Some names) before now = (other : List ℕ) → other ≢ names.cert → now other ≡ before other
+-- what a command finds: the contents at its beginning, the failed looks at its beginning and at its end, and what helpers offered
+pub record Finding : Type 0 where
+  pub contents : List ℕ → Option (List ℕ)
+  pub looks_before : List ℕ → ℕ
+  pub looks_now : List ℕ → ℕ
+  pub offered : List (Option ℕ)
 
--- the count of failed looks rose at the name that the command reads
-abbrev pub RoseAtFile : Option FileNames → (List ℕ → ℕ) → (List ℕ → ℕ) → Type 0
-RoseAtFile None before now = ⊥
-RoseAtFile (Some names) before now = Rose (before names.file) (now names.file)
+abbrev pub found : Outside → Outside → Finding
+found before now = record {
+  contents = before.contents;
+  looks_before = before.failed_looks;
+  looks_now = now.failed_looks;
+  offered = now.offered;
+}
+
+-- a name, and the bytes that are kept there
+pub record Kept : Type 0 where
+  pub name : List ℕ
+  pub bytes : List ℕ
+
+-- what an answer keeps, in order, and writes
+pub record Work : Type 0 where
+  pub kept : List Kept
+  pub text : List ℕ
+
+-- these names hold these bytes, kept one after another, and all others what they held
+abbrev pub AreKept : List Kept → (List ℕ → Option (List ℕ)) → (List ℕ → Option (List ℕ)) → Type 0
+AreKept [] before now = SameContents before now
+AreKept (k ∷ ks) before now = (next : List ℕ → Option (List ℕ)) × HoldsExactly k.name k.bytes before next × AreKept ks next now
+
+-- one of the keeps failed: its name holds what it held or a front of its bytes, the keeps before it are whole, and those after it
+-- were not made
+abbrev pub AreKeptInPart : List Kept → (List ℕ → Option (List ℕ)) → (List ℕ → Option (List ℕ)) → Type 0
+AreKeptInPart [] before now = ⊥
+AreKeptInPart (k ∷ ks) before now =
+    HoldsFront k.name k.bytes before now ⊎ ((next : List ℕ → Option (List ℕ)) × HoldsExactly k.name k.bytes before next × AreKeptInPart ks next now)

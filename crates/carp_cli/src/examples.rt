@@ -1,17 +1,22 @@
 // Small data at which the facts of a run hold, and small data at which they do not.
-ghost use Rattle.std.specs.Prelude.{◌≢◌, [], ◌∷◌, None, Some};
+ghost use Rattle.std.specs.Prelude.{ℕ, ◌≢◌, [], ◌∷◌, None, Some, true, codes};
 ghost use Rattle.carp_engine.specs.Solutions.{IsSound};
-ghost use Rattle.carp_cli.specs.Outside.{SameElsewhere, RoseAtFile};
-ghost use Rattle.carp_cli.specs.Outcome.{IsEnding, IsSolved, IsCutShort};
-ghost use Rattle.carp_cli.specs.Examples.{idle, stating, two_names, empty, with_output, with_failed_keep};
+ghost use Rattle.carp_cli.specs.Commands.{RoseAtSome, HasLimit, reads};
+ghost use Rattle.carp_cli.specs.Outside.{AreKept, AreKeptInPart};
+ghost use Rattle.carp_cli.specs.Answers.{IsDoneStatus};
+ghost use Rattle.carp_cli.specs.Solving.{IsEnding};
+ghost use Rattle.carp_cli.specs.Runs.{Leaves};
+ghost use Rattle.carp_cli.specs.Examples.{idle, stating, solving, checking, outside};
 
 use crate::Status;
 
 fn facts_of_a_run_hold()
     ensures proven { IsEnding (stating 5 5) Status.Proven }
     ensures gap { IsEnding (stating 5 4) Status.Gap }
-    ensures elsewhere { SameElsewhere (Some two_names) (λ _. None) (λ _. None) }
-    ensures rose { RoseAtFile (Some two_names) (λ _. 0) (λ _. 1) }
+    ensures kept_none { AreKept [] (λ _. None) (λ _. None) }
+    ensures rose { RoseAtSome (reads checking) (λ _. 0) (λ _. 1) }
+    ensures limit { HasLimit 268435456 (reads checking) }
+    ensures accepted { IsDoneStatus checking Status.Accepted }
 {}
 
 fn facts_of_a_run_fail()
@@ -19,9 +24,12 @@ fn facts_of_a_run_fail()
     ensures bound { IsSound idle (stating 0 1) 0 → ⊥ }
     ensures proven { IsEnding (stating 5 4) Status.Proven → ⊥ }
     ensures gap { IsEnding (stating 5 5) Status.Gap → ⊥ }
-    ensures solved { IsSolved two_names Status.Gap empty empty → ⊥ }
-    ensures cut { IsCutShort None with_output empty → ⊥ }
-    ensures no_fault { IsCutShort None empty with_failed_keep → ⊥ }
-    ensures elsewhere { SameElsewhere None (λ _. None) (λ _. Some []) → ⊥ }
-    ensures rose { RoseAtFile (Some two_names) (λ _. 1) (λ _. 1) → ⊥ }
+    ensures kept_none { AreKept [] (λ _. None) (λ _. Some []) → ⊥ }
+    ensures no_part { AreKeptInPart [] (λ _. None) (λ _. None) → ⊥ }
+    ensures rose { RoseAtSome (reads checking) (λ _. 1) (λ _. 1) → ⊥ }
+    ensures limit { HasLimit 268435456 (reads solving) → ⊥ }
+    ensures accepted { IsDoneStatus checking Status.Proven → ⊥ }
+    ensures usage { Leaves true true (Some solving) (outside [] 0) (outside [] 0) Status.BadUsage → ⊥ }
+    ensures write { Leaves true true (Some solving) (outside [] 0) (outside [] 0) Status.WriteFault → ⊥ }
+    ensures memory { Leaves true true (Some solving) (outside [] 0) (outside (7 ∷ []) 0) Status.Memory → ⊥ }
 {}

@@ -4,16 +4,21 @@
 //! keeps files there, writes texts to a [`carp_outside::Sink`] and answers a [`Status`]. [`DirShelf`] and [`StdSink`] make
 //! the files of the system and a writer, such as the standard output, into these.
 //!
-//! Inside, `gathering` reads an instance and builds the texts of the certificate that [`carp_engine::solve`] finds, and `refusals` spells
-//! the answers that have no report.
+//! Inside, `words` reads a command, `reading` the files that it names, `performing` makes what it asks for, `refusals` spells the answers
+//! that have no report, and `delivering` keeps and writes what was made. So all that is kept or written goes through one function, and a
+//! command is a variant of `Command`, its rows in `specs/Commands.antt` and `specs/Answers.antt`, and a function of `performing`.
 #![tactic(auto)]
 
+#[cfg(test)]
+mod check_tests;
+mod delivering;
 mod dir_shelf;
 #[cfg(test)]
 mod examples;
 #[cfg(test)]
 mod file_tests;
-mod gathering;
+mod performing;
+mod reading;
 mod refusals;
 mod running;
 mod status;

@@ -3,6 +3,8 @@ ghost use Rattle.std.specs.Prelude.{◌<◌};
 
 use crate::{Status, run};
 use carp_outside::{MemShelf, MemSink, Shelf};
+use cert_checker::Reason;
+use cert_format::CertFault;
 use dat_text::DatFault;
 use plan_model::Proposer;
 use std::alloc::Global;
@@ -49,6 +51,7 @@ tour 1 load 1 cost 10 route 1=2-1
 
 const USAGE: &str = "usage: carp solve FILE CERT
        carp check FILE CERT
+       carp upgrade FILE CERT NEWCERT
 ";
 
 // Room for any certificate and any report of these tests.
@@ -233,7 +236,14 @@ const CALLS: &str = "\
     solve file cert --turns 1048577 | | | | 3 | no | usage\n\
     solve file cert --turns=9 | | | | 3 | no | usage\n\
     Solve file cert | | | | 3 | no | usage\n\
-    check file cert | | | | 3 | no | usage";
+    check file cert | | | | 6 | no | read fault~\n\
+    check file file | | | | 3 | no | usage\n\
+    check file cert other | | | | 3 | no | usage\n\
+    check -file cert | | | | 3 | no | usage\n\
+    upgrade file cert | | | | 3 | no | usage\n\
+    upgrade file cert file | | | | 3 | no | usage\n\
+    upgrade file cert cert | | | | 3 | no | usage\n\
+    upgrade file other cert | | | | 5 | no | bad certificate: ends before line 1 is complete~";
 
 // The words of a text.
 fn words_in(alloc: Global, text: &str) -> Result<Vec<&str>, Fail> {
@@ -299,6 +309,9 @@ fn bad_usage_calls_for_no_file(rt: HostRuntime) -> Result<(), Fail> {
 #[test]
 fn each_status_has_its_code(rt: HostRuntime) {
     assert!(rt; Status::Proven.code() == 0 && Status::Gap.code() == 1);
+    assert!(rt; Status::Accepted.code() == 0 && Status::Done.code() == 0);
+    assert!(rt; Status::Rejected(Reason::NotLean { node: 1 }).code() == 2);
+    assert!(rt; Status::BadCertificate(CertFault::Syntax(1)).code() == 5);
     assert!(rt;
         Status::BadUsage.code() == 3 && Status::BadInstance(DatFault::Syntax(1)).code() == 4
     );

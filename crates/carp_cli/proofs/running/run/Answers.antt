@@ -1,6 +1,19 @@
-use Rattle.std.proofs.Common.{rules, refl}
-use Rattle.carp_cli.proofs.Cuts.{usage_cut}
+use Rattle.std.proofs.Common.{inl, inr, subst}
+use Rattle.carp_cli.specs.Runs.{IsHelped}
+use Rattle.carp_cli.specs.Steps.{work_in}
+use Rattle.carp_cli.specs.Words.{command_of}
+use Rattle.carp_cli.proofs.Delivered.{cut_is_not_helped, delivered}
 use Rattle.carp_cli.proofs.running.run.Goals as goal
 
-pub returns-in-None-clause-cut : goal.returns-in-None-clause-cut
-returns-in-None-clause-cut g c = λ held told is. usage_cut _ _ _ c.in-None.ensures (λ name. refl) (c.refuse.ensures.front told is) (search rules)
+pub returns-in-Ok-clause-leaves : goal.returns-in-Ok-clause-leaves
+returns-in-Ok-clause-leaves g c =
+    delivered c.in-Ok.delivery.status (work_in c.in-Ok.delivery) c.deliver.result c.in-Ok.ensures.prepared c.deliver.ensures.looks c.deliver.ensures.given c.in-Ok.ensures.keeps c.in-Ok.ensures.contents
+    c.deliver.ensures.answer c.deliver.ensures.kept c.deliver.ensures.wrote c.deliver.ensures.cut
+
+pub returns-in-Ok-clause-seeds : goal.returns-in-Ok-clause-seeds
+returns-in-Ok-clause-seeds g c =
+    let command = command_of c.args.words.now in
+    λ asked. elim c.deliver.ensures.answer [
+      | inl same ↦ c.in-Ok.ensures.seeds (subst (IsHelped command) same asked)
+      | inr cut ↦ absurd (cut_is_not_helped command (subst (IsHelped command) cut asked))
+    ]

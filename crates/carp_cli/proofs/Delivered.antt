@@ -1,0 +1,129 @@
+-- What is left of an answer that was given whole or in part.
+use Rattle.std.proofs.Common.{◌≡◌, ◌≢◌, ℕ, ◌+◌, ◌++◌, List, [], ◌∷◌, refl, sym, ◌∙◌, subst, inl, inr, IsTrue, Bool, Option, None, Some}
+use Rattle.std.proofs.Math.Path.{fun_ext}
+use Rattle.std.specs.List.{AllByRecursion}
+use Rattle.std.specs.Prelude.{◌⊎◌}
+use Rattle.carp_outside.specs.Causes.{Rose, RoseBy}
+use Rattle.carp_outside.specs.Told.{HoldsExactly, HoldsFront, SameContents, WroteFront}
+use Rattle.carp_cli.specs.Commands.{Command, Solve, Check, Upgrade, kept_by}
+use Rattle.carp_cli.specs.Outside.{Outside, Kept, Work, found, AreKept, AreKeptInPart}
+use Rattle.carp_cli.specs.Answers.{IsDoneStatus}
+use Rattle.carp_cli.specs.Runs.{IsHelped, Leaves}
+use Rattle.carp_cli.specs.Steps.{IsPrepared}
+use Rattle.carp_cli.specs.declared.status.Status.{Status}
+use Rattle.carp_cli.specs.declared.status.Status.TheVariants.{BadUsage, ReadFault, WriteFault, Memory, TooLong}
+
+kept_elsewhere : (kept : List Kept) (before now : List ℕ → Option (List ℕ)) → AreKept kept before now → (other : List ℕ) → AllByRecursion (λ k. other ≢ k.name) kept → now other ≡ before other
+kept_elsewhere [] before now same other apart = same other
+kept_elsewhere (k ∷ ks) before now (next, first, others) other apart = kept_elsewhere ks next now others other apart.1 ∙ first.others other apart.0
+
+part_elsewhere : (kept : List Kept) (before now : List ℕ → Option (List ℕ)) → AreKeptInPart kept before now → (other : List ℕ) → AllByRecursion (λ k. other ≢ k.name) kept → now other ≡ before other
+part_elsewhere [] before now none other apart = absurd none
+part_elsewhere (k ∷ ks) before now (inl front) other apart = front.others other apart.0
+part_elsewhere (k ∷ ks) before now (inr (next, first, others)) other apart = part_elsewhere ks next now others other apart.1 ∙ first.others other apart.0
+
+-- what a delivery that was cut short leaves
+pub IsLeftShort : Bool → Bool → Outside → Outside → Work → Type 0
+IsLeftShort held told before now work =
+    (Rose before.failed_keeps now.failed_keeps × (IsTrue held → AreKeptInPart work.kept before.contents now.contents) × (IsTrue told → now.written ≡ before.written))
+    ⊎ (Rose before.failed_puts now.failed_puts × (IsTrue held → AreKept work.kept before.contents now.contents) × (IsTrue told → WroteFront work.text before.written now.written))
+
+pub whole_leaves : {held told : Bool} {command : Option Command} {before now : Outside} (status : Status) (work : Work)
+    → IsPrepared held command (found before now) before.given now.given status work
+    → (IsTrue held → AreKept work.kept before.contents now.contents) → (IsTrue told → now.written ≡ before.written ++ work.text) → Leaves held told command before now status
+whole_leaves {held} {told} {command} {before} {now} status work prepared kept wrote = record {
+  whole = λ written remembered. record {
+    work = work;
+    answer = record { right = prepared.right; refusal = prepared.refusal };
+    kept = kept;
+    wrote = wrote;
+  };
+  cut = λ is. absurd (prepared.written is);
+  untouched = λ is. absurd (prepared.remembered is);
+  elsewhere = λ tells other apart. kept_elsewhere work.kept before.contents now.contents (kept tells) other (prepared.names other apart);
+  usage = prepared.usage;
+  read = prepared.read;
+  write = λ is. absurd (prepared.written is);
+  too_long = prepared.too_long;
+  no_command = λ none. inl (prepared.no_command none);
+  refused = λ tells c wanted is bad no. inl (prepared.refused tells c wanted is bad no);
+  done = λ tells c is good no. inl (prepared.done tells c is good no);
+}
+
+pub part_leaves : {held told : Bool} {command : Option Command} {before now : Outside} (status : Status) (work : Work)
+    → IsPrepared held command (found before now) before.given now.given status work → IsLeftShort held told before now work → Leaves held told command before now WriteFault
+unfolding IsLeftShort
+part_leaves {held} {told} {command} {before} {now} status work prepared left = record {
+  whole = λ written remembered. absurd (written refl);
+  cut = λ is. record {
+    status = status;
+    work = work;
+    answer = record { right = prepared.right; refusal = prepared.refusal };
+    left = left;
+  };
+  untouched = λ is. cc;
+  elsewhere = λ tells other apart. elim left [
+    | inl front ↦ part_elsewhere work.kept before.contents now.contents (front.1 tells) other (prepared.names other apart)
+    | inr whole ↦ kept_elsewhere work.kept before.contents now.contents (whole.1 tells) other (prepared.names other apart)
+  ];
+  usage = λ is. cc;
+  read = λ is. cc;
+  write = λ is. elim left [ inl front ↦ inl front.0 | inr whole ↦ inr whole.0 ];
+  too_long = λ limit is. cc;
+  no_command = λ none. inr (inl refl);
+  refused = λ tells c wanted is bad no. inr (inl refl);
+  done = λ tells c is good no. inr (inl refl);
+}
+
+pub nothing_leaves : {held told : Bool} {command : Option Command} {before now : Outside} → (IsTrue held → SameContents before.contents now.contents) → (IsTrue told → now.written ≡ before.written)
+    → Leaves held told command before now Memory
+nothing_leaves kept wrote = record {
+  whole = λ written remembered. absurd (remembered refl);
+  cut = λ is. cc;
+  untouched = λ is. record { kept = kept; wrote = wrote };
+  elsewhere = λ tells other apart. kept tells other;
+  usage = λ is. cc;
+  read = λ is. cc;
+  write = λ is. cc;
+  too_long = λ limit is. cc;
+  no_command = λ none. inr (inr refl);
+  refused = λ tells c wanted is bad no. inr (inr refl);
+  done = λ tells c is good no. inr (inr refl);
+}
+
+-- what was prepared is delivered, whole or in part
+pub delivered : {held told : Bool} {command : Option Command} {before now : Outside} {looks : List ℕ → ℕ} {given keeps : ℕ} {contents : List ℕ → Option (List ℕ)} (status : Status) (work : Work) (answer : Status)
+    → IsPrepared held command (record { contents = before.contents; looks_before = before.failed_looks; looks_now = looks; offered = now.offered }) before.given given status work
+    → ((name : List ℕ) → now.failed_looks name ≡ looks name) → now.given ≡ given → keeps ≡ before.failed_keeps → (IsTrue held → SameContents before.contents contents)
+    → (answer ≡ status) ⊎ (answer ≡ WriteFault) → (IsTrue held → answer ≢ WriteFault → AreKept work.kept contents now.contents)
+    → (IsTrue told → answer ≢ WriteFault → now.written ≡ before.written ++ work.text)
+    → (answer ≡ WriteFault → (status ≡ WriteFault)
+    ⊎ ((Rose keeps now.failed_keeps × (IsTrue held → AreKeptInPart work.kept contents now.contents) × (IsTrue told → now.written ≡ before.written))
+    ⊎ (Rose before.failed_puts now.failed_puts × (IsTrue held → AreKept work.kept contents now.contents) × (IsTrue told → WroteFront work.text before.written now.written))))
+    → Leaves held told command before now answer
+unfolding IsLeftShort
+delivered {held} {told} {command} {before} {now} {looks} {given} {keeps} {contents} status work answer prepared same_looks same_given same_keeps same ends kept wrote cut =
+    let prepared1 = subst (λ l. IsPrepared held command (record { contents = before.contents; looks_before = before.failed_looks; looks_now = l; offered = now.offered }) before.given given status work)
+    (sym (fun_ext same_looks)) prepared in
+    let prepared2 : IsPrepared held command (found before now) before.given now.given status work =
+    subst (λ n. IsPrepared held command (found before now) before.given n status work) (sym same_given) prepared1 in
+    elim ends [
+      | inl is ↦ subst (Leaves held told command before now) (sym is) (whole_leaves status work prepared2
+          (λ tells. subst (λ x. AreKept work.kept x now.contents) (fun_ext (same tells)) (kept tells (λ e. prepared.written (sym is ∙ e))))
+          (λ tells. wrote tells (λ e. prepared.written (sym is ∙ e))))
+      | inr is ↦ subst (Leaves held told command before now) (sym is) (part_leaves status work prepared2 (short (cut is)))
+    ] where
+      short : (status ≡ WriteFault) ⊎ ((Rose keeps now.failed_keeps × (IsTrue held → AreKeptInPart work.kept contents now.contents) × (IsTrue told → now.written ≡ before.written))
+          ⊎ (Rose before.failed_puts now.failed_puts × (IsTrue held → AreKept work.kept contents now.contents) × (IsTrue told → WroteFront work.text before.written now.written)))
+          → IsLeftShort held told before now work
+      short (inl is) = absurd (prepared.written is)
+      short (inr (inl (rose, front, none))) = inl (subst (λ n. Rose n now.failed_keeps) same_keeps rose, (λ tells. subst (λ x. AreKeptInPart work.kept x now.contents) (fun_ext (same tells)) (front tells)), none)
+      short (inr (inr (rose, whole, front))) = inr (rose, (λ tells. subst (λ x. AreKept work.kept x now.contents) (fun_ext (same tells)) (whole tells)), front)
+
+-- helpers are asked by a command that is done
+pub cut_is_not_helped : (command : Option Command) → IsHelped command WriteFault → ⊥
+cut_is_not_helped None none = none
+cut_is_not_helped (Some (Solve file cert)) (is, inl e) = cc
+cut_is_not_helped (Some (Solve file cert)) (is, inr e) = cc
+cut_is_not_helped (Some (Check file cert)) (is, e) = cc
+cut_is_not_helped (Some (Upgrade file cert renewed)) (is, e) = cc

@@ -1,0 +1,65 @@
+-- What a run leaves, by its answer: each clause is said once for all commands.
+use Rattle.std.specs.Prelude.{◌≡◌, ◌≢◌, ℕ, ◌+◌, ◌++◌, List, [], ◌∷◌, Bool, IsTrue, Option, None, Some, ◌⊎◌}
+use Rattle.std.specs.List.{AllByRecursion}
+use Rattle.carp_outside.specs.Causes.{Rose, RoseBy}
+use Rattle.carp_outside.specs.Told.{SameContents, WroteFront}
+use Rattle.carp_cli.specs.Commands.{Command, asks_helpers, sources_of, kept_by, RoseAtSome, HasLimit}
+use Rattle.carp_cli.specs.Outside.{Outside, Work, found, AreKept, AreKeptInPart}
+use Rattle.carp_cli.specs.Answers.{IsRefused, CanBeDone, IsDoneStatus, IsRightOf, refusal_work}
+use Rattle.carp_cli.specs.Refusals.{HasReport}
+use Rattle.carp_cli.specs.declared.status.Status.{Status}
+use Rattle.carp_cli.specs.declared.status.Status.TheVariants.{BadUsage, ReadFault, WriteFault, Memory, TooLong}
+
+-- an answer with its work; where contents are told, it is right for what was found
+pub record IsAnswer (held : Bool) (command : Option Command) (before now : Outside) (status : Status) (work : Work) : Type 0 where
+  pub right : IsTrue held → IsRightOf command (found before now) status work
+  pub refusal : ¬ (HasReport status) → work ≡ refusal_work status
+
+-- an answer was given whole: what it keeps is kept, and its text is written
+pub record IsWhole (held told : Bool) (command : Option Command) (before now : Outside) (status : Status) : Type 0 where
+  pub work : Work
+  pub answer : IsAnswer held command before now status work
+  pub kept : IsTrue held → AreKept work.kept before.contents now.contents
+  pub wrote : IsTrue told → now.written ≡ before.written ++ work.text
+
+-- an answer was cut short by a call that failed: at a keep, with nothing written, or at the text, with all kept
+pub record IsCutShort (held told : Bool) (command : Option Command) (before now : Outside) : Type 0 where
+  pub status : Status
+  pub work : Work
+  pub answer : IsAnswer held command before now status work
+  pub left : (Rose before.failed_keeps now.failed_keeps × (IsTrue held → AreKeptInPart work.kept before.contents now.contents) × (IsTrue told → now.written ≡ before.written))
+      ⊎ (Rose before.failed_puts now.failed_puts × (IsTrue held → AreKept work.kept before.contents now.contents) × (IsTrue told → WroteFront work.text before.written now.written))
+
+-- nothing is kept or written
+pub record IsUntouched (held told : Bool) (before now : Outside) : Type 0 where
+  pub kept : IsTrue held → SameContents before.contents now.contents
+  pub wrote : IsTrue told → now.written ≡ before.written
+
+-- the helpers were asked: a command that asks them is done
+abbrev pub IsHelped : Option Command → Status → Type 0
+IsHelped None status = ⊥
+IsHelped (Some c) status = IsTrue (asks_helpers c) × IsDoneStatus c status
+
+-- an answer that could not be written, or for which there was no memory
+abbrev pub IsNoAnswer : Status → Type 0
+IsNoAnswer status = (status ≡ WriteFault) ⊎ (status ≡ Memory)
+
+-- What a run leaves. `held` and `told` say whether contents and what was written are told.
+pub record Leaves (held told : Bool) (command : Option Command) (before now : Outside) (status : Status) : Type 0 where
+  -- each answer is given whole, or cut short, or there was no memory and nothing was done
+  pub whole : status ≢ WriteFault → status ≢ Memory → IsWhole held told command before now status
+  pub cut : status ≡ WriteFault → IsCutShort held told command before now
+  pub untouched : status ≡ Memory → IsUntouched held told before now
+  -- names that the command does not keep hold what they held
+  pub elsewhere : IsTrue held → (other : List ℕ) → AllByRecursion (λ name. other ≢ name) (kept_by command) → now.contents other ≡ before.contents other
+  -- each refusal has its cause
+  pub usage : status ≡ BadUsage → command ≡ None
+  pub read : status ≡ ReadFault → RoseAtSome (sources_of command) before.failed_looks now.failed_looks
+  pub write : status ≡ WriteFault → Rose before.failed_keeps now.failed_keeps ⊎ Rose before.failed_puts now.failed_puts
+  pub too_long : (limit : ℕ) → status ≡ TooLong limit → HasLimit limit (sources_of command) × RoseBy (limit + 1) before.given now.given
+  -- and where no look failed at a file that the command reads, what the names hold decides
+  pub no_command : command ≡ None → (status ≡ BadUsage) ⊎ IsNoAnswer status
+  pub refused : IsTrue held → (c : Command) (wanted : Status) → command ≡ Some c → IsRefused c before.contents wanted
+      → ¬ (RoseAtSome (sources_of command) before.failed_looks now.failed_looks) → (status ≡ wanted) ⊎ IsNoAnswer status
+  pub done : IsTrue held → (c : Command) → command ≡ Some c → CanBeDone c before.contents
+      → ¬ (RoseAtSome (sources_of command) before.failed_looks now.failed_looks) → IsDoneStatus c status ⊎ IsNoAnswer status

@@ -1,0 +1,65 @@
+// Keeps and writes what a command has made.
+ghost use Rattle.std.specs.Prelude.{◌≡◌, ◌≢◌, ℕ, ◌++◌, ◌≤◌, List, map, IsTrue, OnOk, OnErr, ◌⊎◌};
+ghost use Rattle.carp_outside.specs.Causes.{Rose, HasCause};
+ghost use Rattle.carp_outside.specs.Told.{WroteFront};
+ghost use Rattle.carp_cli.specs.Outside.{AreKept, AreKeptInPart};
+ghost use Rattle.carp_cli.specs.Steps.{kept_in, work_in};
+
+use crate::status::Status;
+use carp_outside::{Shelf, ShelfFault, Sink, put_all};
+
+/// A name, and the bytes that are to be kept there.
+#[derive(Drop)]
+pub(crate) struct Kept<'a> {
+    pub(crate) name: &'a str,
+    pub(crate) bytes: Vec<u8>,
+}
+
+/// What an answer keeps, in order, and writes.
+#[derive(Drop)]
+pub(crate) struct Delivery<'a> {
+    pub(crate) kept: Vec<Kept<'a>>,
+    pub(crate) text: Vec<u8>,
+    pub(crate) status: Status,
+}
+
+/// Keeps what is to be kept, and then writes the text: the answer, or the first failure.
+pub(crate) fn deliver<H: Shelf, O: Sink>(
+    shelf: &mut H,
+    out: &mut O,
+    delivery: &Delivery<'_>,
+) -> Status
+    ensures answer { result ≡ delivery.now.status ⊎ (result ≡ Status.WriteFault) }
+    ensures kept { IsTrue H.tells → result ≢ Status.WriteFault → AreKept (work_in delivery.now).kept (H.contents shelf.old) (H.contents shelf.new) }
+    ensures wrote { IsTrue O.tells → result ≢ Status.WriteFault → O.written out.new ≡ O.written out.old ++ delivery.now.text.items }
+    ensures cut { result ≡ Status.WriteFault → (delivery.now.status ≡ Status.WriteFault)
+        ⊎ ((Rose (H.failed_keeps shelf.old) (H.failed_keeps shelf.new) × (IsTrue H.tells → AreKeptInPart (work_in delivery.now).kept (H.contents shelf.old) (H.contents shelf.new)) × (IsTrue O.tells → O.written out.new ≡ O.written out.old))
+        ⊎ (Rose (O.faults out.old) (O.faults out.new) × (IsTrue H.tells → AreKept (work_in delivery.now).kept (H.contents shelf.old) (H.contents shelf.new)) × (IsTrue O.tells → WroteFront delivery.now.text.items (O.written out.old) (O.written out.new)))) }
+    ensures looks { (name : List ℕ) → H.failed_looks shelf.new name ≡ H.failed_looks shelf.old name }
+    ensures given { H.given shelf.new ≡ H.given shelf.old }
+{
+    if keep_all(shelf, &delivery.kept).is_err() {
+        return Status::WriteFault;
+    }
+    if put_all(out, &delivery.text).is_err() {
+        return Status::WriteFault;
+    }
+    delivery.status
+}
+
+// Keeps each of these, in order, up to the first failure.
+fn keep_all<H: Shelf>(shelf: &mut H, kept: &[Kept<'_>]) -> Result<(), ShelfFault>
+    ensures kept { IsTrue H.tells → OnOk result (AreKept (map kept_in kept.now) (H.contents shelf.old) (H.contents shelf.new)) }
+    ensures cut { IsTrue H.tells → OnErr result (AreKeptInPart (map kept_in kept.now) (H.contents shelf.old) (H.contents shelf.new)) }
+    ensures cause { HasCause (H.failed_keeps shelf.old) (H.failed_keeps shelf.new) result }
+    ensures looks { (name : List ℕ) → H.failed_looks shelf.new name ≡ H.failed_looks shelf.old name }
+    ensures given { H.given shelf.new ≡ H.given shelf.old }
+{
+    match kept {
+        [] => Ok(()),
+        [first, others @ ..] => {
+            shelf.keep(first.name, &first.bytes)?;
+            keep_all(shelf, others)
+        }
+    }
+}
