@@ -7,6 +7,7 @@ pub mod Spelled
 pub mod Followed
 pub mod InOrder
 pub mod FineNodes
+pub mod FineShores
 pub mod FineLists
 pub mod Fine
 pub mod Shapeless

@@ -2,13 +2,15 @@
 use Rattle.std.specs.Prelude.{◌≡◌, ℕ, ◌==◌, ◌+◌, ◌*◌, ◌^◌, ◌≤◌, ◌<◌, ℤ, nat_abs, List, [], ◌∷◌, ◌++◌}
 use Rattle.std.specs.Fmt.{decimal, signed_decimal}
 use Rattle.std.specs.List.{AllByRecursion, slice_split}
+use Rattle.carp_base.specs.Problem.{Problem, IsValid}
+use Rattle.cut_pool.specs.Shores.{IsShore, Belongs}
 use Rattle.cert_lines.specs.declared.fault.CertFault.{CertFault}
 use Rattle.cert_lines.specs.Numerals.{numeral, signed_numeral}
 use Rattle.cert_lines.specs.Lines.{Line, words_of, line_text}
 use Rattle.cert_lines.specs.Order.{LatestFirst}
 use Rattle.cert_lines.specs.Certificates.{Certificate}
 use Rattle.cert_lines.specs.Texts.{ReadsAs, BreaksAt, IsTextOf, IsFaultOf}
-use Rattle.cert_lines.specs.Spelling.{text_of, IsSpellable, IsFine}
+use Rattle.cert_lines.specs.Spelling.{text_of, IsSpellable, IsFine, IsFineShore}
 
 -- a number of 64 bits is spelled as std writes it
 abbrev pub NumeralIsDecimal : Type 0
@@ -90,3 +92,7 @@ FineIsSpellable = (c : Certificate) → IsFine c → IsSpellable c
 -- and the other way: so its nodes are one tree, and its shores are different
 abbrev pub SpellableIsFine : Type 0
 SpellableIsFine = (c : Certificate) → IsSpellable c → IsFine c
+
+-- a shore of a valid instance can be spelled
+abbrev pub ShoreIsFine : Type 0
+ShoreIsFine = (p : Problem) (shore : List ℕ) → IsValid p → IsShore shore → Belongs p shore → IsFineShore shore

@@ -21,6 +21,7 @@ ghost use Rattle.cert_lines.specs.Laws.{
   ReadIsSpelled,
   FineIsSpellable,
   SpellableIsFine,
+  ShoreIsFine,
 };
 
 /// A number of 64 bits is spelled as std writes it.
@@ -82,4 +83,9 @@ pub fn fine_is_spellable()
 /// A certificate that can be spelled has its numbers in range, different shores, and the nodes of one tree in preorder.
 pub fn spellable_is_fine()
     ensures { SpellableIsFine }
+{}
+
+/// A shore that belongs to a valid instance can be spelled: it has at most 999 vertices.
+pub fn shores_are_fine()
+    ensures { ShoreIsFine }
 {}
