@@ -1,5 +1,6 @@
 pub mod Sound
+pub mod Floors
 pub mod OneLeaf
-pub mod Services
+pub mod PlanCosts
 pub mod Writing
 pub mod Fit

@@ -1,30 +1,41 @@
-// The certificate of a plan, with the bound that the services show.
-ghost use Rattle.std.specs.Prelude.{◌≡◌, ◌≤◌, IfOk, map, pos};
-ghost use Rattle.carp_base.specs.Problem.{IsValid, required_edges};
+// The certificate of a plan, with the bound that one price set shows.
+ghost use Rattle.std.specs.Prelude.{◌≡◌, ◌≤◌, All, IfOk, length, pos, ◌≤ℤ◌};
+ghost use Rattle.carp_base.specs.Problem.{IsValid};
+ghost use Rattle.cut_pool.specs.Pools.{AreDifferent};
+ghost use Rattle.cut_pool.specs.Shores.{IsShore};
+ghost use Rattle.floor_prices.specs.Floors.{plain_value};
 ghost use Rattle.cert_format.specs.Certs.{certificate_in};
 ghost use Rattle.carp_engine.specs.Helpers.{IsShortPlan};
-ghost use Rattle.carp_engine.specs.Leaves.{IsOfServices, services_alone};
+ghost use Rattle.carp_engine.specs.Leaves.{IsGreatestShown, IsOfSet, IsRootSet};
 
 use crate::Solved;
-use branch_rules::{Node, PriceSet, Tree};
-use carp_base::{Edge, Instance, Memory};
+use branch_rules::{Branch, Node, PriceSet, Tree};
+use carp_base::{Instance, Memory};
 use cert_format::{Cert, counts_of};
 use cut_pool::ShorePool;
 use plan_model::Plan;
 use std::alloc::Global;
 use task_tours::lawful_cost;
 
-// The certificate of a tree of one leaf, whose prices are the costs of the services. It shows what these cost in all, and nothing more.
-pub(crate) fn certify(alloc: Global, inst: &Instance, plan: Plan) -> Result<Solved, Memory>
-    requires { IsShortPlan inst.now plan }
-    ensures certified { IfOk result (λ solved. IsOfServices inst.now plan (certificate_in solved.cert) solved.turns) }
+// The certificate of a tree of one leaf with this price set. Its bound is the greatest up to the plan's cost that the set shows.
+pub(crate) fn certify(
+    alloc: Global,
+    inst: &Instance,
+    plan: Plan,
+    pool: ShorePool,
+    set: PriceSet,
+) -> Result<Solved, Memory>
+    requires short { IsShortPlan inst.now plan }
+    requires root { IsRootSet inst.now pool set }
+    ensures certified { IfOk result (λ solved. IsOfSet inst.now plan pool set (certificate_in solved.cert) solved.turns) }
     ensures valid { IsValid inst.now }
 {
     let counts = Some(counts_of(inst));
-    let mut sets = Vec::with_capacity(alloc, 1)?;
-    sets.push(service_set(alloc, inst)?)?;
     let cost = lawful_cost(alloc, inst, &plan)? as u64;
-    let bound = inst.required_cost();
+    let bound = shown_bound(alloc, inst, &pool, &set, cost);
+    look_at_shores(&pool);
+    let mut sets = Vec::with_capacity(alloc, 1)?;
+    sets.push(set)?;
     let mut tree = Tree::new(alloc, 1)?;
     tree.put_node(Node::Price { set: 1 });
     Ok(Solved {
@@ -32,7 +43,7 @@ pub(crate) fn certify(alloc: Global, inst: &Instance, plan: Plan) -> Result<Solv
             cost,
             bound,
             plan,
-            shores: ShorePool::new(alloc),
+            shores: pool,
             sets,
             tree,
             counts,
@@ -41,31 +52,35 @@ pub(crate) fn certify(alloc: Global, inst: &Instance, plan: Plan) -> Result<Solv
     })
 }
 
-// The price set of the costs of the services.
-fn service_set(alloc: Global, inst: &Instance) -> Result<PriceSet, Memory>
-    ensures set { IfOk result (λ set. set ≡ services_alone inst.now) }
-    ensures valid { IsValid inst.now }
+// The greatest bound up to a cost that a price set shows without decisions.
+fn shown_bound(alloc: Global, inst: &Instance, pool: &ShorePool, set: &PriceSet, cost: u64) -> u64
+    requires root { IsRootSet inst.now pool.now set.now }
+    requires some { pos 0 ≤ℤ plain_value inst.now pool.now set.now }
+    ensures { IsGreatestShown set.now.unit (plain_value inst.now pool.now set.now) cost result }
 {
-    let prices = service_prices(alloc, inst)?;
-    PriceSet::new(alloc, 1, &prices, &[])
-}
-
-// The cost of each service.
-fn service_prices(alloc: Global, inst: &Instance) -> Result<Vec<i64>, Memory>
-    ensures prices { IfOk result (λ prices. prices.items ≡ map (λ x. pos x.service) (required_edges inst.now)) }
-    ensures valid { IsValid inst.now }
-{
-    let required = &inst.edges()[..inst.required() as usize];
-    let mut prices = Vec::with_capacity(alloc, required.len())?;
-    for edge in required {
-        prices.push(service_price(edge))?;
+    match Branch::new(alloc).value_at(inst, pool, set) {
+        Ok(value) => greatest_shown(value, set.unit(), cost),
+        Err(_) => unreachable!(),
     }
-    Ok(prices)
 }
 
-fn service_price(edge: &Edge) -> i64
-    requires { edge.now.service ≤ 1000000 }
-    ensures { result ≡ pos edge.now.service }
+// The value divided by the unit and rounded up, and the cost where that is less.
+fn greatest_shown(value: i128, unit: u64, cost: u64) -> u64
+    requires some { pos 0 ≤ℤ value }
+    requires unit { 1 ≤ unit }
+    ensures { IsGreatestShown unit value cost result }
 {
-    edge.service as i64
+    let shown = value.unsigned_abs().div_ceil(u128::from(unit));
+    shown.min(u128::from(cost)) as u64
+}
+
+// What is said of a pool and of each of its shores where they are read.
+fn look_at_shores(pool: &ShorePool)
+    ensures few { length pool.now ≤ 2000 }
+    ensures different { AreDifferent pool.now }
+    ensures shores { All IsShore pool.now }
+{
+    for number in 1..pool.len() + 1 {
+        pool.shore(number).len();
+    }
 }

@@ -5,13 +5,16 @@ ghost use Rattle.carp_engine.specs.Helpers.{IsAtMost};
 ghost use Rattle.cert_format.specs.Certs.{certificate_in};
 ghost use Rattle.carp_engine.specs.Solutions.{IsSound};
 
+use crate::bounding::root_set;
 use crate::certifying::certify;
 use crate::rounds::ask_all;
 use carp_base::{Instance, Memory};
 use cert_format::{Cert, counts_are_in_range};
-use cert_lines::fine_is_spellable;
+use branch_rules::prices_bound;
+use cert_lines::{fine_is_spellable, shores_are_fine};
+use cut_pool::ShorePool;
 use deadhead_paths::{single_tours, tidy};
-use plan_model::{Proposer, required_cost_is_least};
+use plan_model::Proposer;
 use std::alloc::Global;
 use task_tours::cost_distances;
 
@@ -24,7 +27,8 @@ pub struct Solved {
     pub turns: u64,
 }
 
-/// The best plan that the helpers find from one tour for each required edge on, and the bound that the services show.
+/// The best plan that the helpers find from one tour for each required edge on, and a bound of all plans that is at least each of the
+/// floors Shell, Ratio and Join (`dual_master::floors`).
 ///
 /// Each helper is seeded with `seed` plus its place in the list, from 0, wrapping. Then the helpers are asked in order, in up to
 /// four rounds; a round in which no offer is better is the last, and after an unlawful offer a helper is not asked again.
@@ -46,11 +50,14 @@ pub fn solve<P: Proposer>(
     ensures least { IfOk result (λ solved. All (λ helper. IsAtMost solved.cert.cost (P.tally helper).least) helpers.new.items) }
     ensures sound { IfOk result (λ solved. IsSound inst.now (certificate_in solved.cert) solved.turns) }
 {
-    required_cost_is_least();
+    prices_bound();
     counts_are_in_range();
     fine_is_spellable();
+    shores_are_fine();
     let dist = cost_distances(alloc, inst)?;
     let mut plan = tidy(alloc, inst, &dist, &single_tours(alloc, inst, &dist)?)?;
     ask_all(alloc, inst, &dist, &mut plan, helpers, seed)?;
-    certify(alloc, inst, plan)
+    let mut pool = ShorePool::new(alloc);
+    let set = root_set(alloc, inst, &dist, &mut pool)?;
+    certify(alloc, inst, plan, pool, set)
 }

@@ -140,7 +140,8 @@ fn triangle(alloc: Global) -> Result<Instance, Fail> {
     Ok(Instance::build(alloc, 3, 1, 3, &required, &[])?)
 }
 
-// The streets 1-2 and 2-3 of costs 3 and 4, each of which fills a vehicle: single tours cost 6 and 14.
+// The streets 1-2 and 2-3 of costs 3 and 4, each of which fills a vehicle: single tours cost 6 and 14, and each vehicle goes out
+// and comes back, so that no plan costs less.
 fn full_streets(alloc: Global) -> Result<Instance, Fail> {
     let required = [street(1, 2, 3, 2), street(2, 3, 4, 2)];
     Ok(Instance::build(alloc, 3, 1, 2, &required, &[])?)
@@ -203,7 +204,7 @@ fn an_unlawful_walk_is_a_foul(rt: HostRuntime) -> Result<(), Fail> {
     let solved = solve(alloc, &inst, 64, u64::MAX, &mut helpers)?;
     assert_eq!(rt;
         (solved.cert.cost, solved.cert.bound, solved.turns),
-        (20, 7, 0)
+        (20, 20, 1)
     );
     assert_eq!(rt; (solved.cert.sets.len(), solved.cert.tree.len()), (1, 1));
     assert_eq!(rt; solved.cert.tree.node(0), Node::Price { set: 1 });
