@@ -28,13 +28,14 @@ DEPOSITO : 1
 const CERTIFICATE: &str = "carp-certificate 2
 instance 2 1 1 1 1
 cost 10
-bound 5
+bound 10
 tours 1
 tour 2 +1 <1
-shores 0
+shores 1
+shore 1 2
 sets 1
 prices 1 1 5
-weights 0
+weights 1 1 5
 nodes 1
 price 1
 end
@@ -42,9 +43,9 @@ end
 
 const REPORT: &str = "instance vertices 2 edges 1 required 1 capacity 1 demand 1
 cost 10
-bound 5
-turns 0
-open gap 5
+bound 10
+turns 1
+proven
 tours 1
 tour 1 load 1 cost 10 route 1=2-1
 ";
@@ -113,13 +114,14 @@ fn is_solved(
 #[test]
 fn a_street_is_solved(rt: HostRuntime) -> Result<(), Fail> {
     let alloc = rt.alloc();
-    assert!(rt; is_solved(alloc, 1, STREET, 1, REPORT, CERTIFICATE)?);
-    assert!(rt; is_solved(alloc, 7, STREET, 1, REPORT, CERTIFICATE)?);
-    assert!(rt; is_solved(alloc, 65_536, STREET, 1, REPORT, CERTIFICATE)?);
+    assert!(rt; is_solved(alloc, 1, STREET, 0, REPORT, CERTIFICATE)?);
+    assert!(rt; is_solved(alloc, 7, STREET, 0, REPORT, CERTIFICATE)?);
+    assert!(rt; is_solved(alloc, 65_536, STREET, 0, REPORT, CERTIFICATE)?);
     Ok(())
 }
 
-// Serving this street costs 3 and driving it nothing, so that the bound is the cost. It is served from its first end.
+// Serving this street costs 3 and driving it nothing, so that the bound is the cost. It is served from its first end, over which some
+// deadhead is needed, at no cost.
 const FREE_STREET: &str = "NOMBRE : carp
 COMENTARIO : none
 VERTICES : 3
@@ -150,7 +152,8 @@ cost 3
 bound 3
 tours 1
 tour 2 <1 +1
-shores 0
+shores 1
+shore 1 1
 sets 1
 prices 1 1 3
 weights 0
@@ -220,7 +223,7 @@ const CALLS: &str = "\
     solve file cert | 2 | | | 6 | no | read fault~\n\
     solve file cert | 2 | | 1 | 7 | no |\n\
     solve file cert | | 1 | | 7 | no |\n\
-    solve file cert | | 2 | | 1 | yes | report\n\
+    solve file cert | | 2 | | 0 | yes | report\n\
     solve file cert | | | 1 | 7 | yes |\n\
     solve file cert | | | 2 | 7 | yes | instance vertice\n\
     solve none cert | | | | 6 | no | read fault~\n\
