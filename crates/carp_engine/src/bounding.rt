@@ -4,15 +4,19 @@ ghost use Rattle.deadhead_paths.specs.Prices.{costs_of};
 ghost use Rattle.carp_engine.specs.Leaves.{IsRootSet};
 
 use carp_base::{Instance, Memory};
-use branch_rules::PriceSet;
+use branch_rules::{Branch, PriceSet};
 use cut_pool::ShorePool;
 use deadhead_paths::{Distances, least_prices_are_there};
-use dual_master::floors;
+use dual_master::{floors, raise};
+use floor_prices::better_sets_reach_as_much;
 use road_network::Network;
 use route_pricing::Table;
 use std::alloc::Global;
 
-// The best set of the floors, with its shores in an empty pool.
+// How many rounds of search for shores there are at the root at most.
+const ROUNDS: u32 = 400;
+
+// The best set of the floors, raised, with its shores in an empty pool.
 pub(crate) fn root_set(
     alloc: Global,
     inst: &Instance,
@@ -29,6 +33,9 @@ pub(crate) fn root_set(
     let mut table = Table::new(alloc, inst)?;
     // What a read of the instance says is needed: that it is valid.
     let _ = inst.vertices();
-    let set = floors(alloc, inst, &net, dist, &mut table, pool)?;
+    better_sets_reach_as_much();
+    let start = floors(alloc, inst, &net, dist, &mut table, pool)?;
+    let root = Branch::new(alloc);
+    let set = raise(alloc, inst, &net, &mut table, pool, &root, &start, ROUNDS)?;
     Ok(set)
 }

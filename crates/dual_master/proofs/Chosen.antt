@@ -34,7 +34,7 @@ either_candidate p one other best is_one is_other (inr is) = subst (IsCandidate 
 numbers : (p : Problem) (pool : List (List ℕ)) (set : Prices) → All (λ w. IsShoreOf p pool w.shore) set.weights → All (λ w. IsShoreNumber pool w.shore) set.weights
 numbers p pool set all = All-weaker (λ (w : Weight). IsShoreOf p pool w.shore) (λ (w : Weight). IsShoreNumber pool w.shore) (λ w is. is.number) set.weights all
 
-shore_of_grown : (p : Problem) (pool more : List (List ℕ)) (i : ℕ) → IsShoreOf p pool i → IsShoreOf p (pool ++ more) i
+pub shore_of_grown : (p : Problem) (pool more : List (List ℕ)) (i : ℕ) → IsShoreOf p pool i → IsShoreOf p (pool ++ more) i
 shore_of_grown p pool more i is = record {
   number = record { from_one = is.number.from_one; in_range = omega (arith, is.number.in_range, length-append pool more) };
   belongs = subst (Belongs p) (sym (grown_at pool more i is.number)) is.belongs;

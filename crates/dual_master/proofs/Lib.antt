@@ -1,5 +1,6 @@
 pub mod Growing
-pub mod Values
+pub mod Sizes
 pub mod Placing
 pub mod Chosen
+pub mod Raised
 pub mod Small

@@ -1,3 +1,4 @@
 pub mod Candidates
 pub mod Growth
+pub mod Raising
 pub mod Singles

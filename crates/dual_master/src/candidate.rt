@@ -5,6 +5,7 @@ ghost use Rattle.route_pricing.specs.Tables.{IsRoom};
 ghost use Rattle.floor_prices.specs.Floors.{ReachesJoin, ReachesRatio, ReachesShell, plain_value};
 ghost use Rattle.dual_master.specs.Candidates.{IsCandidate, IsFloorSet, IsNoMore, IsValueWithin};
 
+use crate::values::{is_no_more, value_under};
 use branch_rules::{Branch, PriceSet};
 use carp_base::{Instance, Memory};
 use cut_pool::ShorePool;
@@ -81,13 +82,8 @@ fn with_value(alloc: Global, inst: &Instance, pool: ShorePool, set: PriceSet) ->
     ensures set { result.set ≡ set }
     ensures candidate { IsCandidate inst.now result }
 {
-    // What reads of the instance and of the set say is needed: that both are within their limits.
-    let _ = inst.vertices();
-    let _ = set.unit();
-    match Branch::new(alloc).value_at(inst, &pool, &set) {
-        Ok(value) => Candidate { pool, set, value },
-        Err(_) => unreachable!(),
-    }
+    let value = value_under(inst, &pool, &Branch::new(alloc), &set);
+    Candidate { pool, set, value }
 }
 
 // The one of the greater value divided by its denominator; the first one where they are the same.
@@ -98,7 +94,9 @@ pub(crate) fn better(one: Candidate, other: Candidate) -> Candidate
     ensures over_one { IsNoMore one result }
     ensures over_other { IsNoMore other result }
 {
-    let one_value = i128::from(other.set.unit()) * one.value;
-    let other_value = i128::from(one.set.unit()) * other.value;
-    if other_value <= one_value { one } else { other }
+    if is_no_more(other.value, other.set.unit(), one.value, one.set.unit()) {
+        one
+    } else {
+        other
+    }
 }

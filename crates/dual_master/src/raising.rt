@@ -1,0 +1,122 @@
+// Price sets that are raised.
+ghost use Rattle.std.specs.Prelude.{◌≡◌, ◌*ℤ◌, ◌≤ℤ◌, pos, All, IfOk, IfSome, IsTrue, length};
+ghost use Rattle.cut_pool.specs.Shores.{Belongs};
+ghost use Rattle.branch_rules.specs.Decisions.{rules_of};
+ghost use Rattle.branch_rules.specs.Laws.{FitsBranch};
+ghost use Rattle.branch_rules.specs.Limits.{IsShoreOf};
+ghost use Rattle.branch_rules.specs.Prices.{value_of};
+ghost use Rattle.decision_chains.specs.Pairs.{ArePairsIn};
+ghost use Rattle.route_pricing.specs.Tables.{IsRoom};
+ghost use Rattle.shore_prices.specs.Proposals.{IsGrown};
+ghost use Rattle.tight_prices.specs.Tight.{IsTight};
+ghost use Rattle.dual_master.specs.Raising.{IsNoLower, IsRaised};
+
+use crate::laws::growth_keeps_sets;
+use crate::values::{is_no_more, value_under};
+use branch_rules::{Branch, PriceSet};
+use carp_base::{Instance, Memory};
+use cut_pool::ShorePool;
+use road_network::Network;
+use route_pricing::Table;
+use shore_prices::shore_prices;
+use std::alloc::Global;
+use tight_prices::{fits, tighten};
+
+/// A price set that fits under a branch and whose value, divided by its denominator, is no less than that of a start that fits there.
+/// No single number of it can be raised: neither a price, nor the weight of a shore of one vertex that the pool held before and over
+/// which some deadhead is needed (`tight_prices`).
+///
+/// Where `rounds` is above 0, the linear program over shores is solved in up to so many rounds of search for shores that it leaves short
+/// (`shore_prices`), and its set is taken if it fits and is better. Shores with a weight are placed in the pool behind those that it
+/// held, while it holds fewer than 2,000.
+///
+/// It asks for the network, for a table that was made for the instance, which it fills, for a branch whose pairs are of required edges,
+/// and for a pool whose shores belong to the instance; so do the shores that it adds. The one error is want of memory. It takes the
+/// time of the rounds and of `tight_prices::tighten`.
+pub fn raise(
+    alloc: Global,
+    inst: &Instance,
+    net: &Network,
+    table: &mut Table,
+    pool: &mut ShorePool,
+    branch: &Branch,
+    start: &PriceSet,
+    rounds: u32,
+) -> Result<PriceSet, Memory>
+    requires net { net.now ≡ inst.now }
+    requires room { IsRoom inst.now table.old }
+    requires pairs { ArePairsIn inst.now branch.now }
+    requires belong { All (Belongs inst.now) pool.old }
+    requires shores { All (λ w. IsShoreOf inst.now pool.old w.shore) start.now.weights }
+    requires fits { FitsBranch inst.now pool.old branch.now start.now }
+    ensures tight { IfOk result (IsTight inst.now pool.new (length pool.old) branch.now) }
+    ensures no_lower { IfOk result (IsNoLower inst.now branch.now pool.old start.now pool.new) }
+    ensures shores { IfOk result (λ set. All (λ w. IsShoreOf inst.now pool.new w.shore) set.weights) }
+    ensures grown { IsGrown pool.old pool.new }
+    ensures belong { All (Belongs inst.now) pool.new }
+    ensures room { IsRoom inst.now table.new }
+{
+    growth_keeps_sets();
+    let held = pool.len();
+    let better = better_set(alloc, inst, net, table, pool, branch, start, rounds)?;
+    match better {
+        Some(set) => tighten(alloc, inst, net, table, pool, branch, &set, held),
+        None => tighten(alloc, inst, net, table, pool, branch, start, held),
+    }
+}
+
+// The set that the program over shores proposes, where it fits and is better than the start.
+fn better_set(
+    alloc: Global,
+    inst: &Instance,
+    net: &Network,
+    table: &mut Table,
+    pool: &mut ShorePool,
+    branch: &Branch,
+    start: &PriceSet,
+    rounds: u32,
+) -> Result<Option<PriceSet>, Memory>
+    requires net { net.now ≡ inst.now }
+    requires room { IsRoom inst.now table.old }
+    requires pairs { ArePairsIn inst.now branch.now }
+    requires belong { All (Belongs inst.now) pool.old }
+    requires shores { All (λ w. IsShoreOf inst.now pool.old w.shore) start.now.weights }
+    requires fits { FitsBranch inst.now pool.old branch.now start.now }
+    ensures raised { IfOk result (λ better. IfSome better (IsRaised inst.now branch.now pool.old start.now pool.new)) }
+    ensures grown { IsGrown pool.old pool.new }
+    ensures belong { All (Belongs inst.now) pool.new }
+    ensures room { IsRoom inst.now table.new }
+{
+    growth_keeps_sets();
+    if rounds == 0 {
+        return Ok(None);
+    }
+    let offered = shore_prices(alloc, inst, net, pool, branch, rounds)?;
+    let pays = fits(alloc, inst, net, table, pool, branch, &offered)?;
+    if !pays {
+        return Ok(None);
+    }
+    if !is_better(inst, pool, branch, &offered, start) {
+        return Ok(None);
+    }
+    Ok(Some(offered))
+}
+
+// Whether the value of the first set divided by its denominator is above that of the second.
+fn is_better(
+    inst: &Instance,
+    pool: &ShorePool,
+    branch: &Branch,
+    set: &PriceSet,
+    other: &PriceSet,
+) -> bool
+    requires shores { All (λ w. IsShoreOf inst.now pool.now w.shore) set.now.weights }
+    requires other_shores { All (λ w. IsShoreOf inst.now pool.now w.shore) other.now.weights }
+    requires fits { FitsBranch inst.now pool.now branch.now set.now }
+    requires other_fits { FitsBranch inst.now pool.now branch.now other.now }
+    ensures { IsTrue result → IsNoLower inst.now branch.now pool.now other.now pool.now set.now }
+{
+    let value = value_under(inst, pool, branch, set);
+    let least = value_under(inst, pool, branch, other);
+    !is_no_more(value, set.unit(), least, other.unit())
+}

@@ -1,0 +1,4 @@
+pub mod Placed
+pub mod Listed
+pub mod Levels
+pub mod Proposed

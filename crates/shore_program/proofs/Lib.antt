@@ -1,0 +1,4 @@
+pub mod Holding
+pub mod Laying
+pub mod Shrinking
+pub mod Products

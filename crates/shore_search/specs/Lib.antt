@@ -1,0 +1,3 @@
+pub mod Shortfall
+pub mod Tables
+pub mod Examples

@@ -1,0 +1,9 @@
+pub mod Adding
+pub mod Weighed
+pub mod Fine
+pub mod Falling
+pub mod Rising
+pub mod Tabled
+pub mod Climbing
+pub mod Passing
+pub mod Small
