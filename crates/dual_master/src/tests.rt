@@ -2,7 +2,7 @@
 ghost use Rattle.std.specs.Prelude.{◌≡◌, IfOk};
 ghost use Rattle.deadhead_paths.specs.Prices.{costs_of};
 
-use crate::floors;
+use crate::{floors, raise};
 use branch_rules::Branch;
 use carp_base::{Instance, RawEdge};
 use cut_pool::{Shore, ShorePool};
@@ -137,4 +137,44 @@ fn nothing_to_serve(rt: HostRuntime) -> Result<(), Fail> {
     let pool = expect_floor(&rt, alloc, &inst, 0)?;
     assert_eq!(rt; pool.len(), 1);
     Ok(())
+}
+
+// The best set of the floors, raised, without decisions has this value divided by its denominator.
+fn expect_raised(
+    rt: &impl Abort,
+    alloc: Global,
+    inst: &Instance,
+    rounds: u32,
+    expected: i128,
+) -> Result<(), Fail> {
+    let net = Network::new(alloc, inst)?;
+    let dist = ways(alloc, inst, &net)?;
+    let mut table = Table::new(alloc, inst)?;
+    let mut pool = ShorePool::new(alloc);
+    let start = floors(alloc, inst, &net, &dist, &mut table, &mut pool)?;
+    let root = Branch::new(alloc);
+    let set = raise(alloc, inst, &net, &mut table, &mut pool, &root, &start, rounds)?;
+    let value = root.value_at(inst, &pool, &set);
+    let whole = expected.saturating_mul(i128::from(set.unit()));
+    assert_eq!(rt; value, Ok(whole));
+    Ok(())
+}
+
+// Ratio is 66, since a vehicle that serves the street between the corners 3 and 4 drives one more than it says; its price can rise.
+#[test]
+fn a_ring_far_away_is_raised(rt: HostRuntime) -> Result<(), Fail> {
+    let alloc = rt.alloc();
+    let ring = [street(2, 3, 1, 2), street(3, 4, 1, 2), street(4, 2, 1, 2)];
+    let inst = Instance::build(alloc, 4, 1, 3, &ring, &[street(1, 2, 10, 0)])?;
+    expect_raised(&rt, alloc, &inst, 0, 67)?;
+    expect_raised(&rt, alloc, &inst, 400, 67)
+}
+
+// No plan costs less than the start says.
+#[test]
+fn two_streets_in_a_row_stay(rt: HostRuntime) -> Result<(), Fail> {
+    let alloc = rt.alloc();
+    let streets = [street(1, 2, 3, 2), street(2, 3, 4, 2)];
+    let inst = Instance::build(alloc, 3, 1, 2, &streets, &[])?;
+    expect_raised(&rt, alloc, &inst, 400, 20)
 }
