@@ -159,3 +159,16 @@ still_most g set table place e most n value is edge says less (inr bounded) fill
       blocked = inr (through_blocks g.problem g.pool g.branch set filled.relation filled.permits e n value required.from_one (omega (arith, required.in_range, long)) through bounded);
     } in
     subst (λ q. IsMost g set q n) (sym is) bound
+
+-- the table is filled for a set by its parts
+pub filled_for : (p : Problem) (pool : List (List ℕ)) (branch : List Decision) (set : Prices) (relation : Relation) (table : Table) (prices : List ℕ) (unit : ℕ) (services : List ℤ) →
+    PermitsUnexcluded p branch relation → prices ≡ crossing_prices p pool set → unit ≡ set.unit → services ≡ set.services →
+    IsFilled (record { problem = p; prices = prices; unit = unit; services = services; relation = relation }) table → IsFilledFor p pool branch set table
+filled_for p pool branch set relation table prices unit services permits prices_are unit_is services_are filled =
+    let first = subst (λ xs. IsFilled (record { problem = p; prices = xs; unit = unit; services = services; relation = relation }) table) prices_are filled in
+    let second = subst (λ n. IsFilled (record { problem = p; prices = crossing_prices p pool set; unit = n; services = services; relation = relation }) table) unit_is first in
+    record {
+      relation = relation;
+      permits = permits;
+      filled = subst (λ zs. IsFilled (record { problem = p; prices = crossing_prices p pool set; unit = set.unit; services = zs; relation = relation }) table) services_are second;
+    }

@@ -43,9 +43,9 @@ pub(crate) struct PricedSet {
 /// shores belong to the instance. The one error is want of memory. Afterwards the table is filled for the set that is given.
 ///
 /// A number that cannot be raised costs no fill of the table. One that can be raised costs a fill for each try, mostly one to three and
-/// some 60 at most, and one more where the last try does not fit; one fill more stands between weights and prices. Besides, with n
-/// vertices, E edges, m required edges, k weights and a capacity of Q, a weight takes time in proportion to E and to k, and E k more
-/// where it is raised, and a price takes Q steps.
+/// some 60 at most; a price whose last try does not fit costs one more, and one fill stands between weights and prices. With E edges,
+/// m required edges, d decisions, k weights and a capacity of Q, the relation of pairs takes time in proportion to m * m + d, each
+/// shore that is looked at to E, each price to Q, and each try, besides its fill, to E * k and to the distances by its deadhead prices.
 pub fn tighten(
     alloc: Global,
     inst: &Instance,

@@ -1,6 +1,7 @@
 // Sets over a row of two streets, from the depot 1 over 2 to 3, worked out by hand. Serving a street costs as much as crossing it: 3 and
 // 4. Each asks for 2, and the shores are those of the vertices 2 and 3.
 ghost use Rattle.std.specs.Prelude.{◌≡◌, ◌≢◌, ◌≤◌, ◌∷◌, [], All, IfOk, IsTrue, pos};
+ghost use Rattle.carp_base.specs.Problem.{Problem};
 ghost use Rattle.branch_rules.specs.Limits.{IsPriceNumber, IsShoreOf};
 ghost use Rattle.cut_pool.specs.Shores.{Belongs};
 ghost use Rattle.decision_chains.specs.Pairs.{ArePairsIn};
@@ -165,6 +166,47 @@ fn expect_tight(
     Ok(())
 }
 
+// The same from a set without weights, under no decisions, with vehicles of a capacity.
+fn expect_rise(
+    rt: &impl Abort,
+    alloc: Global,
+    capacity: u64,
+    first: i64,
+    second: i64,
+    held: u32,
+    expected: [i64; 4],
+) -> Result<(), Fail>
+    requires first { IsPriceNumber first }
+    requires second { IsPriceNumber second }
+    requires held { held ≤ 2 }
+{
+    let inst = row(alloc, capacity)?;
+    let branch = Branch::new(alloc);
+    let start = plain(alloc, first, second)?;
+    expect_tight(rt, alloc, &inst, &branch, &start, held, expected)
+}
+
+// Alone, the tours there and back have 3 and 10 left. Both streets in one tour have 4 more than the first one alone. A tour that serves
+// the first street both ways has 4 left, which is 2 for each of its services.
+#[test]
+fn prices_rise_to_their_tours(rt: HostRuntime) -> Result<(), Fail> {
+    let alloc = rt.alloc();
+    expect_rise(&rt, alloc, 2, 3, 4, 0, [6, 14, 0, 0])?;
+    expect_rise(&rt, alloc, 2, 6, 14, 2, [6, 14, 0, 0])?;
+    expect_rise(&rt, alloc, 4, 3, 4, 0, [6, 8, 0, 0])?;
+    expect_rise(&rt, alloc, 6, 3, 4, 0, [5, 4, 0, 0])
+}
+
+// Both streets cross the shore of 2, and 3 is all that the first one costs; the second one has 1 left, for the shore of 3 or for its
+// price. Where the tour of the first street has 1 left, the weight takes it.
+#[test]
+fn weights_rise_first(rt: HostRuntime) -> Result<(), Fail> {
+    let alloc = rt.alloc();
+    expect_rise(&rt, alloc, 2, 3, 4, 2, [3, 4, 3, 1])?;
+    expect_rise(&rt, alloc, 2, 3, 4, 1, [3, 5, 3, 0])?;
+    expect_rise(&rt, alloc, 2, 5, 4, 1, [5, 11, 1, 0])
+}
+
 // The branch that keeps the two streets apart.
 fn apart(alloc: Global) -> Result<Branch, Fail>
     ensures { IfOk result (λ branch. branch ≡ No 1 2 ∷ []) }
@@ -174,78 +216,68 @@ fn apart(alloc: Global) -> Result<Branch, Fail>
     Ok(branch)
 }
 
-// The tours there and back cost 3 and 10 more than the services, and nothing else bounds the prices.
-#[test]
-fn prices_rise_to_their_tours(rt: HostRuntime) -> Result<(), Fail> {
-    let alloc = rt.alloc();
-    let inst = row(alloc, 2)?;
-    let branch = Branch::new(alloc);
-    let start = plain(alloc, 3, 4)?;
-    expect_tight(&rt, alloc, &inst, &branch, &start, 0, [6, 14, 0, 0])?;
-    let tight = plain(alloc, 6, 14)?;
-    expect_tight(&rt, alloc, &inst, &branch, &tight, 2, [6, 14, 0, 0])
-}
-
-// Both streets cross the shore of 2, and 3 is all that the first one costs. The second one has 1 left, for the shore of 3 or for its price.
-#[test]
-fn weights_rise_first(rt: HostRuntime) -> Result<(), Fail> {
-    let alloc = rt.alloc();
-    let inst = row(alloc, 2)?;
-    let branch = Branch::new(alloc);
-    let start = plain(alloc, 3, 4)?;
-    expect_tight(&rt, alloc, &inst, &branch, &start, 2, [3, 4, 3, 1])?;
-    expect_tight(&rt, alloc, &inst, &branch, &start, 1, [3, 5, 3, 0])
-}
-
-// The tour of the first street has 1 left, for one of its crossings of the shore of 2.
-#[test]
-fn tours_bound_a_weight(rt: HostRuntime) -> Result<(), Fail> {
-    let alloc = rt.alloc();
-    let inst = row(alloc, 2)?;
-    let branch = Branch::new(alloc);
-    let start = plain(alloc, 5, 4)?;
-    expect_tight(&rt, alloc, &inst, &branch, &start, 1, [5, 11, 1, 0])
-}
-
-// Both streets in one tour cost 4 more than that of the first one alone; kept apart, the second one is served alone.
+// In one tour the second street could rise to 8 alone.
 #[test]
 fn a_decision_lets_a_price_rise(rt: HostRuntime) -> Result<(), Fail> {
     let alloc = rt.alloc();
     let inst = row(alloc, 4)?;
-    let start = plain(alloc, 3, 4)?;
-    let branch = Branch::new(alloc);
-    expect_tight(&rt, alloc, &inst, &branch, &start, 0, [6, 8, 0, 0])?;
     let branch = apart(alloc)?;
+    let start = plain(alloc, 3, 4)?;
     expect_tight(&rt, alloc, &inst, &branch, &start, 0, [6, 14, 0, 0])
 }
 
-// A tour along the row and back that serves the first street both ways has 4 left, which is 2 for each service.
-#[test]
-fn a_street_that_is_served_twice(rt: HostRuntime) -> Result<(), Fail> {
-    let alloc = rt.alloc();
-    let inst = row(alloc, 6)?;
+// Whether the set of these prices fits.
+fn fit_plain(rt: &impl Abort, alloc: Global, first: i64, second: i64) -> Result<bool, Fail>
+    requires first { IsPriceNumber first }
+    requires second { IsPriceNumber second }
+{
+    let inst = row(alloc, 2)?;
     let branch = Branch::new(alloc);
-    let start = plain(alloc, 3, 4)?;
-    expect_tight(&rt, alloc, &inst, &branch, &start, 0, [5, 4, 0, 0])
+    let set = plain(alloc, first, second)?;
+    fit(rt, alloc, &inst, &branch, &set)
+}
+
+// Whether the set of these prices and a weight fits, where there may be at most one deadhead over the shore.
+fn fit_weighted(
+    rt: &impl Abort,
+    alloc: Global,
+    bounded: bool,
+    first: i64,
+    shore: u32,
+    weight: i64,
+) -> Result<bool, Fail>
+    requires first { IsPriceNumber first }
+    requires shore { 1 ≤ shore }
+    requires some { weight ≢ pos 0 }
+    requires weight { IsPriceNumber weight }
+{
+    let inst = row(alloc, 2)?;
+    let branch = bound(alloc, bounded, shore)?;
+    let set = weighted(alloc, first, 4, shore, weight)?;
+    fit(rt, alloc, &inst, &branch, &set)
+}
+
+// No decision, or at most one deadhead over the shore.
+fn bound(alloc: Global, bounded: bool, shore: u32) -> Result<Branch, Fail>
+    ensures { IfOk result (λ branch. (p : Problem) → ArePairsIn p branch) }
+{
+    let mut branch = Branch::new(alloc);
+    if !bounded {
+        return Ok(branch);
+    }
+    branch.push(Decision::Low { shore, k: 1 })?;
+    Ok(branch)
 }
 
 // What fits, and what does not: a tour that is too cheap, a negative deadhead price, a negative weight without an upper number.
 #[test]
 fn sets_that_fit(rt: HostRuntime) -> Result<(), Fail> {
     let alloc = rt.alloc();
-    let inst = row(alloc, 2)?;
-    let mut branch = Branch::new(alloc);
-    let light = weighted(alloc, 6, 4, 2, -1)?;
-    let answers = [
-        fit(&rt, alloc, &inst, &branch, &plain(alloc, 6, 14)?)?,
-        fit(&rt, alloc, &inst, &branch, &plain(alloc, 7, 4)?)?,
-        fit(&rt, alloc, &inst, &branch, &weighted(alloc, 0, 0, 1, 4)?)?,
-        fit(&rt, alloc, &inst, &branch, &light)?,
-    ];
-    assert_eq!(&rt; answers, [true, false, false, false]);
-    branch.push(Decision::Low { shore: 2, k: 1 })?;
-    let answer = fit(&rt, alloc, &inst, &branch, &light)?;
-    assert!(&rt; answer);
+    assert_eq!(&rt; fit_plain(&rt, alloc, 6, 14)?, true);
+    assert_eq!(&rt; fit_plain(&rt, alloc, 7, 4)?, false);
+    assert_eq!(&rt; fit_weighted(&rt, alloc, false, 0, 1, 4)?, false);
+    assert_eq!(&rt; fit_weighted(&rt, alloc, false, 6, 2, -1)?, false);
+    assert_eq!(&rt; fit_weighted(&rt, alloc, true, 6, 2, -1)?, true);
     Ok(())
 }
 

@@ -1,0 +1,61 @@
+"""Solves instances, and prints their bounds beside the linear program over all shores and relaxed tours.
+
+usage: bounds.py PROGRAM FOLDER WORK [NAME ..]
+"""
+import csv
+import os
+import re
+import subprocess
+import sys
+import time
+
+
+def solve(program, path, work):
+    """The cost, the bound, the seconds and the greatest memory of one run, in megabytes."""
+    begun = time.perf_counter()
+    run = subprocess.Popen([program, "solve", path, os.path.join(work, "cert")], stdout=subprocess.PIPE, text=True)
+    written = run.stdout.read()
+    _, status, usage = os.wait4(run.pid, 0)
+    seconds = time.perf_counter() - begun
+    run.returncode = os.waitstatus_to_exitcode(status)
+    if run.returncode not in (0, 1):
+        sys.exit(f"{path}: ended with {run.returncode}: {written}")
+    lines = dict(line.split(" ", 1) for line in written.splitlines()[1:4] if " " in line)
+    return int(lines["cost"]), int(lines["bound"]), seconds, usage.ru_maxrss / 1024
+
+
+def services(path):
+    """What serving all required edges costs: those of the first list, each at its cost, or at its service cost where it has one."""
+    total = 0
+    required = False
+    with open(path) as file:
+        for line in file:
+            key = line.strip().upper()
+            if key.startswith("LISTA_ARISTAS"):
+                required = key.startswith("LISTA_ARISTAS_REQ")
+            edge = re.match(r"\s*\(.*\)\s*coste\s+(\d+)(?:\s+demanda\s+\d+)?(?:\s+servicio\s+(\d+))?", line, re.IGNORECASE)
+            if edge and required:
+                total += int(edge[2] or edge[1])
+    return total
+
+
+def main(program, folder, work, names):
+    with open(os.path.join(folder, "lp.csv")) as file:
+        programs = {row["name"]: float(row["lp"]) for row in csv.DictReader(file)}
+    reached = []
+    for name in names or programs:
+        path = os.path.join(folder, name + ".dat")
+        cost, bound, seconds, memory = solve(program, path, work)
+        base, lp = services(path), programs[name]
+        percent = 100 * (bound - base) / (lp - base) if lp > base else 100
+        reached.append(percent)
+        print(f"| {name} | {base} | {bound} | {lp:.2f} | {percent:.1f} % | {cost} | {100 * (cost - bound) / cost:.2f} % | {seconds:.2f} s | {memory:.0f} MB |", flush=True)
+    print(f"| mean of {len(reached)} | | | | {sum(reached) / len(reached):.1f} % | | | | |")
+    print(f"| least | | | | {min(reached):.1f} % | | | | |")
+    limits = os.path.join(work, "limits.dat")
+    if os.path.exists(limits):
+        cost, bound, seconds, memory = solve(program, limits, work)
+        print(f"| at the limits | {services(limits)} | {bound} | | | {cost} | {100 * (cost - bound) / cost:.2f} % | {seconds:.2f} s | {memory:.0f} MB |")
+
+
+main(sys.argv[1], sys.argv[2], sys.argv[3], sys.argv[4:])
