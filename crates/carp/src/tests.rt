@@ -31,6 +31,63 @@ LISTA_ARISTAS_REQ :
 DEPOSITO : 1
 ";
 
+// Three streets round a far corner, of which a vehicle of capacity 3 serves one.
+const RING: &str = "VERTICES : 4
+ARISTAS_REQ : 3
+ARISTAS_NOREQ : 1
+CAPACIDAD : 3
+LISTA_ARISTAS_REQ :
+( 2, 3) coste 1 demanda 2
+( 3, 4) coste 1 demanda 2
+( 4, 2) coste 1 demanda 2
+LISTA_ARISTAS_NOREQ :
+( 1, 2) coste 10
+DEPOSITO : 1
+";
+
+// The same for vehicles of capacity 5, which serve two.
+const WIDE_RING: &str = "VERTICES : 4
+ARISTAS_REQ : 3
+ARISTAS_NOREQ : 1
+CAPACIDAD : 5
+LISTA_ARISTAS_REQ :
+( 2, 3) coste 1 demanda 2
+( 3, 4) coste 1 demanda 2
+( 4, 2) coste 1 demanda 2
+LISTA_ARISTAS_NOREQ :
+( 1, 2) coste 10
+DEPOSITO : 1
+";
+
+// Five streets at the end of a long way, of which a vehicle serves two.
+const STAR: &str = "VERTICES : 7
+ARISTAS_REQ : 5
+ARISTAS_NOREQ : 1
+CAPACIDAD : 5
+LISTA_ARISTAS_REQ :
+( 2, 3) coste 1 demanda 2
+( 2, 4) coste 1 demanda 2
+( 2, 5) coste 1 demanda 2
+( 2, 6) coste 1 demanda 2
+( 2, 7) coste 1 demanda 2
+LISTA_ARISTAS_NOREQ :
+( 1, 2) coste 100
+DEPOSITO : 1
+";
+
+// A ring with two dead ends, for one vehicle, which drives each dead end back.
+const DEAD_ENDS: &str = "VERTICES : 5
+ARISTAS_REQ : 5
+CAPACIDAD : 5
+LISTA_ARISTAS_REQ :
+( 1, 2) coste 1 demanda 1
+( 2, 3) coste 1 demanda 1
+( 1, 3) coste 1 demanda 1
+( 2, 4) coste 6 demanda 1
+( 3, 5) coste 6 demanda 1
+DEPOSITO : 1
+";
+
 // What is answered to a file, with helpers of ids 1 to 4, and the front of what is written.
 fn expect(
     rt: &impl Abort,
@@ -83,4 +140,51 @@ tour 1 load 2 cost 7 route 1=2=1
 ";
     expect(&rt, alloc, TWO_STREETS, Status::Proven, front)?;
     Ok(())
+}
+
+// Serving the street between the corners 3 and 4 alone drives one more than the two others do.
+#[test]
+fn a_far_ring_is_proven(rt: HostRuntime) -> Result<(), Fail> {
+    let alloc = rt.alloc();
+    let front = "instance vertices 4 edges 4 required 3 capacity 3 demand 6
+cost 67
+bound 67
+turns 1
+proven
+tours 3
+";
+    expect(&rt, alloc, RING, Status::Proven, front)?;
+    let front = "instance vertices 4 edges 4 required 3 capacity 5 demand 6
+cost 45
+bound 45
+turns 1
+proven
+tours 2
+";
+    expect(&rt, alloc, WIDE_RING, Status::Proven, front)
+}
+
+// Three vehicles drive there and back, which no price set shows without decisions.
+#[test]
+fn a_star_has_a_gap(rt: HostRuntime) -> Result<(), Fail> {
+    let front = "instance vertices 7 edges 6 required 5 capacity 5 demand 10
+cost 610
+bound 510
+turns 0
+open gap 100
+tours 3
+";
+    expect(&rt, rt.alloc(), STAR, Status::Gap, front)
+}
+
+#[test]
+fn dead_ends_are_driven_back(rt: HostRuntime) -> Result<(), Fail> {
+    let front = "instance vertices 5 edges 5 required 5 capacity 5 demand 5
+cost 27
+bound 27
+turns 1
+proven
+tours 1
+";
+    expect(&rt, rt.alloc(), DEAD_ENDS, Status::Proven, front)
 }

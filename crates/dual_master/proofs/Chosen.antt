@@ -1,5 +1,5 @@
 -- The best set over a pool that grew.
-use Rattle.std.proofs.Common.{◌≡◌, ℕ, ◌≤◌, List, [], ◌++◌, sym, subst, arith, pos, ◌*ℤ◌, ◌≤ℤ◌, inl, inr, ◌⊎◌}
+use Rattle.std.proofs.Common.{◌≡◌, ℕ, ◌≤◌, List, [], ◌++◌, length, ap, ◌∙◌, sym, subst, arith, pos, ◌*ℤ◌, ◌≤ℤ◌, inl, inr, ◌⊎◌}
 use Rattle.std.specs.List.{All}
 use Rattle.std.proofs.lemmas.Int.{ints}
 use Rattle.std.proofs.lemmas.List.{length-append}
@@ -10,7 +10,7 @@ use Rattle.cut_pool.specs.Shores.{Belongs}
 use Rattle.branch_rules.specs.declared.weight.Weight.{Weight}
 use Rattle.branch_rules.specs.Limits.{IsShoreOf}
 use Rattle.branch_rules.specs.Prices.{Prices}
-use Rattle.floor_prices.specs.Floors.{FitsAlways, ReachesJoin, ReachesRatio, ReachesShell, plain_value}
+use Rattle.floor_prices.specs.Floors.{FitsAlways, ReachesJoin, ReachesRatio, ReachesShell, WeighsEach, plain_value}
 use Rattle.floor_prices.specs.Laws.{BetterReachesAsMuch, ReachesAsMuch}
 use Rattle.dual_master.specs.Candidates.{IsCandidate, IsFloorSet, IsNoMore}
 use Rattle.dual_master.specs.Growth.{GrowthKeepsSets}
@@ -63,6 +63,15 @@ module _ (law : GrowthKeepsSets) (p : Problem) (base pool : List (List ℕ)) (n 
   pub reaches_then : BetterReachesAsMuch → 1 ≤ set.unit → ReachesAsMuch p base set pool set
   reaches_then better some = better p base set pool set some (subst (λ v. (pos set.unit *ℤ plain_value p base set) ≤ℤ (pos set.unit *ℤ v)) (sym same_value) (omega (arith, ints)))
 
+-- no weights stand on no shores
+pub none_weighed : (pool : List (List ℕ)) (set : Prices) → pool ≡ [] → set.weights ≡ [] → WeighsEach pool set
+none_weighed pool set none no_weights =
+    let long : length set.weights ≡ 0 = ap length no_weights in
+    let few : length pool ≡ 0 = ap length none in record {
+      one_each = long ∙ sym few;
+      numbers = λ i below. absurd (omega (arith, few, below));
+    }
+
 -- all that is said of the best set
 pub record IsBest (p : Problem) (pool : List (List ℕ)) (set : Prices) : Type 0 where
   pub fits : FitsAlways p pool set
@@ -70,7 +79,7 @@ pub record IsBest (p : Problem) (pool : List (List ℕ)) (set : Prices) : Type 0
   pub ratio : ReachesRatio p pool set
   pub join : ReachesJoin p pool set
   pub shores : All (λ w. IsShoreOf p pool w.shore) set.weights
-  pub held : IsFloorPool p pool
+  pub held : IsFloorPool p pool set
 
 module _ (p : Problem) (shell ratio join first best : Candidate) (is_shell : IsCandidate p shell) (is_ratio : IsCandidate p ratio) (is_join : IsCandidate p join)
     (either_first : (first ≡ shell) ⊎ (first ≡ ratio)) (either_best : (best ≡ first) ⊎ (best ≡ join)) where
@@ -92,5 +101,5 @@ module _ (p : Problem) (shell ratio join first best : Candidate) (is_shell : IsC
         ratio = then'.ratio (from_first.ratio ((candidate_reaches better p ratio first is_ratio is_first over_ratio).ratio ratio_reached));
         join = then'.join ((candidate_reaches better p join best is_join is_best over_join).join join_reached);
         shores = shores_then growth p best.pool pool p.vertices best.set singles is_best.floor;
-        held = record { base = best.pool; of_floor = is_best.floor.base; singles = singles };
+        held = record { base = best.pool; of_floor = is_best.floor.base; weighed = is_best.floor.weighed; singles = singles };
       }

@@ -4,6 +4,8 @@ use Rattle.std.proofs.lemmas.List.{length-append}
 use Rattle.cut_pool.specs.Pools.{Holds}
 use Rattle.deadhead_paths.specs.Examples.{town}
 use Rattle.branch_rules.specs.Examples.{town_pool}
+use Rattle.branch_rules.specs.Trees.{no_prices}
+use Rattle.dual_master.proofs.Chosen.{none_weighed}
 use Rattle.dual_master.specs.Singles.{HasSingles, IsFloorPool, IsTried, IsWanted, one_more, as_before}
 
 none_held : Holds [] (2 ∷ []) → ⊥
@@ -40,5 +42,5 @@ left_out (before, (none, start, tried), then') = second before (first before (su
 pub not_first : HasSingles town [] 1 town_pool → ⊥
 not_first (none, start, tried) = omega (arith, ap length (first town_pool (subst (λ pool. IsTried town pool 1 town_pool) start tried)))
 
-pub pool : IsFloorPool town town_pool
-pool = record { base = []; of_floor = inr (inr refl); singles = placed }
+pub pool : IsFloorPool town town_pool no_prices
+pool = record { base = []; of_floor = inr (inr refl); weighed = none_weighed [] no_prices refl refl; singles = placed }

@@ -3,6 +3,8 @@ use Rattle.std.specs.Prelude.{◌≡◌, ◌≢◌, ℕ, zero, suc, ◌<◌, ◌
 use Rattle.carp_base.specs.Problem.{Problem}
 use Rattle.cut_pool.specs.Shores.{is_in, need}
 use Rattle.cut_pool.specs.Pools.{Holds}
+use Rattle.branch_rules.specs.Prices.{Prices}
+use Rattle.floor_prices.specs.Floors.{WeighsEach}
 use Rattle.dual_master.specs.Candidates.{IsFloorBase}
 
 -- the shore of just this vertex is placed: it is not the depot, some deadhead over it is needed, and the pool has room and does not
@@ -23,8 +25,9 @@ abbrev pub HasSingles : Problem → List (List ℕ) → ℕ → List (List ℕ) 
 HasSingles p base zero pool = pool ≡ base
 HasSingles p base (suc v) pool = (before : List (List ℕ)) × HasSingles p base v before × IsTried p before (suc v) pool
 
--- the shores of a floor, and behind them the shores of one vertex
-pub record IsFloorPool (p : Problem) (pool : List (List ℕ)) : Type 0 where
+-- the shores of the floor that the set shows, each with a weight of it, and behind them the shores of one vertex
+pub record IsFloorPool (p : Problem) (pool : List (List ℕ)) (set : Prices) : Type 0 where
   pub base : List (List ℕ)
   pub of_floor : IsFloorBase p base
+  pub weighed : WeighsEach base set
   pub singles : HasSingles p base p.vertices pool

@@ -1,5 +1,5 @@
 // The best of the floors.
-ghost use Rattle.std.specs.Prelude.{◌≡◌, [], All, IfOk, OnOk};
+ghost use Rattle.std.specs.Prelude.{◌≡◌, [], All, IfOk};
 ghost use Rattle.cut_pool.specs.Shores.{Belongs};
 ghost use Rattle.deadhead_paths.specs.Prices.{costs_of};
 ghost use Rattle.route_pricing.specs.Tables.{IsRoom};
@@ -22,7 +22,7 @@ use std::alloc::Global;
 /// The best of the sets of the floors Shell, Ratio and Join: the one of the greatest value without decisions, divided by its
 /// denominator. So the set fits under every branch, and its value is at least each of the three floors, as fractions.
 ///
-/// The pool holds afterwards the shores of that floor (none where it is Ratio), and behind them, in rising order of the vertex
+/// The pool holds afterwards the shores of that floor, each with a weight of the set (none where it is Ratio), and behind them, in rising order of the vertex
 /// and while fewer than 2,000 are held, the shore of each single vertex but the depot that is not held already and over which
 /// some deadhead is needed (`cut_pool::need`, Belenguer and Benavent 1998).
 ///
@@ -48,7 +48,7 @@ pub fn floors(
     ensures ratio { IfOk result (ReachesRatio inst.now pool.new) }
     ensures join { IfOk result (ReachesJoin inst.now pool.new) }
     ensures shores { IfOk result (λ set. All (λ w. IsShoreOf inst.now pool.new w.shore) set.weights) }
-    ensures held { OnOk result (IsFloorPool inst.now pool.new) }
+    ensures held { IfOk result (IsFloorPool inst.now pool.new) }
     ensures belong { All (Belongs inst.now) pool.new }
     ensures room { IsRoom inst.now table.new }
 {

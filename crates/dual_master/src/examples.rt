@@ -2,6 +2,7 @@
 ghost use Rattle.std.specs.Prelude.{[]};
 ghost use Rattle.deadhead_paths.specs.Examples.{town};
 ghost use Rattle.branch_rules.specs.Examples.{town_pool};
+ghost use Rattle.branch_rules.specs.Trees.{no_prices};
 ghost use Rattle.dual_master.specs.Singles.{HasSingles, IsFloorPool, IsWanted};
 
 fn a_wanted_shore()
@@ -14,5 +15,5 @@ fn shores_of_single_vertices()
     ensures placed { HasSingles town [] 2 town_pool }
     ensures left_out { ¬ (HasSingles town [] 2 []) }
     ensures not_first { ¬ (HasSingles town [] 1 town_pool) }
-    ensures pool { IsFloorPool town town_pool }
+    ensures pool { IsFloorPool town town_pool no_prices }
 {}

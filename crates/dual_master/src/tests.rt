@@ -3,7 +3,7 @@ ghost use Rattle.std.specs.Prelude.{◌≡◌, IfOk};
 ghost use Rattle.deadhead_paths.specs.Prices.{costs_of};
 
 use crate::{floors, raise};
-use branch_rules::Branch;
+use branch_rules::{Branch, PriceSet};
 use carp_base::{Instance, RawEdge};
 use cut_pool::{Shore, ShorePool};
 use deadhead_paths::{Distances, cost_prices, distances};
@@ -12,6 +12,7 @@ use route_pricing::Table;
 use std::alloc::Global;
 use std::process::Abort;
 use std::test::Fail;
+use tight_prices::fits;
 
 fn street(u: u64, v: u64, cost: u64, demand: u64) -> RawEdge {
     RawEdge {
@@ -168,6 +169,38 @@ fn a_ring_far_away_is_raised(rt: HostRuntime) -> Result<(), Fail> {
     let inst = Instance::build(alloc, 4, 1, 3, &ring, &[street(1, 2, 10, 0)])?;
     expect_raised(&rt, alloc, &inst, 0, 67)?;
     expect_raised(&rt, alloc, &inst, 400, 67)
+}
+
+// Ratio is 510, and no set shows more without decisions.
+#[test]
+fn a_star_stays(rt: HostRuntime) -> Result<(), Fail> {
+    let alloc = rt.alloc();
+    let star = [
+        street(2, 3, 1, 2),
+        street(2, 4, 1, 2),
+        street(2, 5, 1, 2),
+        street(2, 6, 1, 2),
+        street(2, 7, 1, 2),
+    ];
+    let inst = Instance::build(alloc, 7, 1, 5, &star, &[street(1, 2, 100, 0)])?;
+    expect_raised(&rt, alloc, &inst, 400, 510)
+}
+
+// The tour of the one street has room of 10 less 5 for its price; no shore is there whose weight could rise.
+#[test]
+fn a_low_price_is_raised(rt: HostRuntime) -> Result<(), Fail> {
+    let alloc = rt.alloc();
+    let inst = Instance::build(alloc, 2, 1, 1, &[street(1, 2, 5, 1)], &[])?;
+    let net = Network::new(alloc, &inst)?;
+    let mut table = Table::new(alloc, &inst)?;
+    let mut pool = ShorePool::new(alloc);
+    let root = Branch::new(alloc);
+    let start = PriceSet::new(alloc, 1, &[5], &[])?;
+    assert!(rt; fits(alloc, &inst, &net, &mut table, &pool, &root, &start)?);
+    let set = raise(alloc, &inst, &net, &mut table, &mut pool, &root, &start, 0)?;
+    assert_eq!(rt; (set.unit(), set.service(1)), (1, 10));
+    assert_eq!(rt; root.value_at(&inst, &pool, &set), Ok(10));
+    Ok(())
 }
 
 // No plan costs less than the start says.

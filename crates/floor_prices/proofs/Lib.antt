@@ -10,3 +10,4 @@ pub mod Shelled
 pub mod Joined
 pub mod Better
 pub mod Small
+pub mod Weighed

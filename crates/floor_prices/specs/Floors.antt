@@ -1,5 +1,5 @@
 -- The floors of the bound, and when a price set reaches one: where its value divided by its denominator is at least the floor.
-use Rattle.std.specs.Prelude.{◌≡◌, ◌≢◌, ℕ, ◌+◌, ◌*◌, ◌≤◌, Bool, List, [], map, sum_by, ℤ, pos, ◌*ℤ◌, ◌≤ℤ◌}
+use Rattle.std.specs.Prelude.{◌≡◌, ◌≢◌, ℕ, ◌+◌, ◌*◌, ◌<◌, ◌≤◌, Bool, List, [], length, map, sum_by, ℤ, pos, ◌*ℤ◌, ◌≤ℤ◌}
 use Rattle.carp_base.specs.declared.edge.Task.{Task}
 use Rattle.carp_base.specs.Problem.{Problem, edge_at, required_cost, total_demand}
 use Rattle.cut_pool.specs.declared.shore.Weighted.{Weighted}
@@ -8,7 +8,7 @@ use Rattle.deadhead_paths.specs.Tours.{IsTaskTour, LeastDeadhead}
 use Rattle.capacity_cuts.specs.Levels.{AreShells, AreLevelSets, needs_below}
 use Rattle.matching_duals.specs.Joins.{IsLeastJoin, IsJoinBound}
 use Rattle.decision_chains.specs.declared.decision.Decision.{Decision}
-use Rattle.branch_rules.specs.Prices.{Prices, value_of}
+use Rattle.branch_rules.specs.Prices.{Prices, value_of, weight_at}
 use Rattle.branch_rules.specs.Decisions.{rules_of}
 use Rattle.branch_rules.specs.Laws.{FitsBranch}
 
@@ -73,3 +73,8 @@ pub record HoldsJoinShores (p : Problem) (pool : List (List ℕ)) : Type 0 where
   pub value : ℕ
   pub show : IsJoinBound p counts shores value
   pub held : pool ≡ shores_of shores
+
+-- the set has one weight on each shore of the pool, in their order, and no others
+pub record WeighsEach (pool : List (List ℕ)) (set : Prices) : Type 0 where
+  pub one_each : length set.weights ≡ length pool
+  pub numbers : (i : ℕ) → i < length pool → (weight_at set i).shore ≡ i + 1

@@ -3,7 +3,7 @@ ghost use Rattle.std.specs.Prelude.{◌≡◌, [], All, IfOk, OnOk};
 ghost use Rattle.cut_pool.specs.Shores.{Belongs};
 ghost use Rattle.deadhead_paths.specs.Prices.{costs_of};
 ghost use Rattle.branch_rules.specs.Limits.{IsShoreOf};
-ghost use Rattle.floor_prices.specs.Floors.{FitsAlways, HoldsJoinShores, ReachesJoin};
+ghost use Rattle.floor_prices.specs.Floors.{FitsAlways, HoldsJoinShores, ReachesJoin, WeighsEach};
 
 use crate::placing::set_of_shores;
 use branch_rules::PriceSet;
@@ -21,7 +21,7 @@ use std::alloc::Global;
 /// The set fits under every branch, since over each edge the halves sum to at most twice its cost, and its value is at least the
 /// floor, since an odd number of required edges cross each shore, and so one deadhead at least.
 ///
-/// It asks for the network, for distances by cost and for an empty pool, in which it leaves the shores, at most 1,999. The one
+/// It asks for the network, for distances by cost and for an empty pool, in which it leaves the shores, at most 1,999, each with a weight. The one
 /// error is want of memory, after which all shores of the pool belong to the instance. It takes the time of
 /// [`matching_duals::join_bound`], and with m required edges time in proportion to m and to the sizes of the shores.
 pub fn join_prices(
@@ -39,6 +39,7 @@ pub fn join_prices(
     ensures reaches { IfOk result (ReachesJoin inst.now pool.new) }
     ensures shores { IfOk result (λ set. All (λ w. IsShoreOf inst.now pool.new w.shore) set.weights) }
     ensures held { OnOk result (HoldsJoinShores inst.now pool.new) }
+    ensures weighed { IfOk result (WeighsEach pool.new) }
     ensures belong { All (Belongs inst.now) pool.new }
 {
     let _ = inst.vertices();

@@ -3,7 +3,7 @@ ghost use Rattle.std.specs.Prelude.{◌≡◌, [], All, IfOk, OnOk};
 ghost use Rattle.cut_pool.specs.Shores.{Belongs};
 ghost use Rattle.deadhead_paths.specs.Prices.{costs_of};
 ghost use Rattle.branch_rules.specs.Limits.{IsShoreOf};
-ghost use Rattle.floor_prices.specs.Floors.{FitsAlways, HoldsShells, ReachesShell};
+ghost use Rattle.floor_prices.specs.Floors.{FitsAlways, HoldsShells, ReachesShell, WeighsEach};
 
 use crate::laws::packing_weights_fit;
 use crate::placing::set_of_shores;
@@ -21,7 +21,7 @@ use std::alloc::Global;
 /// vertices that the depot reaches at a distance by cost above t. The set fits under every branch, since over each edge the
 /// weights sum to at most its cost, and its value is at least the floor.
 ///
-/// It asks for distances by cost and for an empty pool, in which it leaves the level sets, nearest first. The one error is want
+/// It asks for distances by cost and for an empty pool, in which it leaves the level sets, nearest first, each with a weight. The one error is want
 /// of memory, after which all shores of the pool belong to the instance. With n vertices and m required edges it takes one sort
 /// of the distances, and time and memory in proportion to n times the number of level sets, and to m.
 pub fn shell_prices(
@@ -37,6 +37,7 @@ pub fn shell_prices(
     ensures reaches { IfOk result (ReachesShell inst.now pool.new) }
     ensures shores { IfOk result (λ set. All (λ w. IsShoreOf inst.now pool.new w.shore) set.weights) }
     ensures held { OnOk result (HoldsShells inst.now pool.new) }
+    ensures weighed { IfOk result (WeighsEach pool.new) }
     ensures belong { All (Belongs inst.now) pool.new }
 {
     packing_weights_fit();

@@ -9,6 +9,7 @@ with_value-requires c = record {
   shores = c.in_ok-set.ensures.shores;
   belong = c.join_prices.ensures.belong;
   base = inr (inl c.in_ok-set.ensures.held);
+  weighed = c.in_ok-set.ensures.weighed;
 }
 
 pub returns-clause-reaches : goal.returns-clause-reaches

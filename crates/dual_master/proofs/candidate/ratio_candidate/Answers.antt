@@ -6,6 +6,7 @@ use Rattle.branch_rules.specs.Limits.{IsShoreOf}
 use Rattle.branch_rules.specs.Prices.{Prices}
 use Rattle.branch_rules.specs.declared.weight.Weight.{Weight}
 use Rattle.floor_prices.specs.Floors.{ReachesRatio}
+use Rattle.dual_master.proofs.Chosen.{none_weighed}
 use Rattle.dual_master.proofs.candidate.ratio_candidate.Goals as goal
 
 pub with_value-requires : goal.with_value-requires
@@ -17,6 +18,7 @@ with_value-requires c =
       shores = subst (λ (ws : List Weight). All (λ (w : Weight). IsShoreOf p pool w.shore) ws) (sym c.in_ok-set.ensures.no_weights) (All-nil (λ (w : Weight). IsShoreOf p pool w.shore));
       belong = subst (All (Belongs p)) (sym c.new.ensures) (All-nil (Belongs p));
       base = inr (inr c.new.ensures);
+      weighed = none_weighed pool c.in_ok-set.set c.new.ensures c.in_ok-set.ensures.no_weights;
     }
 
 pub returns-clause-reaches : goal.returns-clause-reaches

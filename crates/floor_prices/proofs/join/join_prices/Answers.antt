@@ -4,11 +4,12 @@ use Rattle.std.proofs.lemmas.Result.{on_ok_weaker}
 use Rattle.branch_rules.specs.Limits.{IsShoreOf}
 use Rattle.branch_rules.specs.Prices.{Prices}
 use Rattle.branch_rules.specs.declared.weight.Weight.{Weight}
-use Rattle.floor_prices.specs.Floors.{FitsAlways, ReachesJoin, shores_of}
+use Rattle.floor_prices.specs.Floors.{FitsAlways, ReachesJoin, WeighsEach, shores_of}
 use Rattle.floor_prices.specs.Pieces.{prices_of}
 use Rattle.floor_prices.proofs.Joined.{join_placeable, join_fits, join_reaches}
 use Rattle.floor_prices.proofs.Packed.{pool_belongs}
 use Rattle.floor_prices.proofs.Shelled.{both_on_ok, first_belong}
+use Rattle.floor_prices.proofs.Weighed.{weighs_each}
 use Rattle.floor_prices.proofs.join.join_prices.Goals as goal
 
 pub set_of_shores-requires-clause-placeable : goal.set_of_shores-requires-clause-placeable
@@ -63,3 +64,11 @@ returns-clause-belong c =
     let shores = c.in_ok-bound.bound.shores.items in
     first_belong p shores c.set_of_shores.new.pool
     (join_placeable p c.in_ok-bound.bound.deadheads.items shores c.in_ok-bound.bound.value c.vertices.ensures.valid c.in_ok-bound.ensures) c.set_of_shores.ensures.first
+
+pub returns-clause-weighed : goal.returns-clause-weighed
+returns-clause-weighed c =
+    let p = c.args.inst.now in
+    let pool = c.set_of_shores.new.pool in
+    let shores = c.in_ok-bound.bound.shores.items in
+    both_on_ok c.set_of_shores.result (λ set. set ≡ prices_of p 2 shores) (pool ≡ shores_of shores) (WeighsEach pool)
+    (λ set is held. subst (WeighsEach pool) (sym is) (weighs_each p 2 shores pool held)) c.set_of_shores.ensures.value c.set_of_shores.ensures.ok

@@ -3,11 +3,12 @@ use Rattle.std.specs.List.{All}
 use Rattle.branch_rules.specs.Limits.{IsShoreOf}
 use Rattle.branch_rules.specs.Prices.{Prices}
 use Rattle.branch_rules.specs.declared.weight.Weight.{Weight}
-use Rattle.floor_prices.specs.Floors.{FitsAlways, ReachesShell, shores_of}
+use Rattle.floor_prices.specs.Floors.{FitsAlways, ReachesShell, WeighsEach, shores_of}
 use Rattle.floor_prices.specs.Pieces.{prices_of}
 use Rattle.floor_prices.proofs.Nested.{shells_placeable}
 use Rattle.floor_prices.proofs.Packed.{pool_belongs}
 use Rattle.floor_prices.proofs.Shelled.{both_on_ok, first_belong, shell_fits, shell_reaches}
+use Rattle.floor_prices.proofs.Weighed.{weighs_each}
 use Rattle.floor_prices.proofs.shell.shell_prices.Goals as goal
 
 pub set_of_shores-requires-clause-placeable : goal.set_of_shores-requires-clause-placeable
@@ -53,3 +54,11 @@ returns-clause-belong c =
     let p = c.args.inst.now in
     first_belong p c.in_ok-found.found.items c.set_of_shores.new.pool
     (shells_placeable c.least_prices_are_there.ensures.few_steps p c.vertices.ensures.valid c.in_ok-found.found.items c.in_ok-found.ensures) c.set_of_shores.ensures.first
+
+pub returns-clause-weighed : goal.returns-clause-weighed
+returns-clause-weighed c =
+    let p = c.args.inst.now in
+    let pool = c.set_of_shores.new.pool in
+    let shores = c.in_ok-found.found.items in
+    both_on_ok c.set_of_shores.result (λ set. set ≡ prices_of p 1 shores) (pool ≡ shores_of shores) (WeighsEach pool)
+    (λ set is held. subst (WeighsEach pool) (sym is) (weighs_each p 1 shores pool held)) c.set_of_shores.ensures.value c.set_of_shores.ensures.ok
