@@ -1,6 +1,6 @@
 """Solves instances, and prints their bounds beside the linear program over all shores and relaxed tours.
 
-usage: bounds.py PROGRAM FOLDER WORK [NAME ..]
+usage: bounds.py PROGRAM FLOORS FOLDER WORK [NAME ..]
 """
 import csv
 import os
@@ -24,6 +24,12 @@ def solve(program, path, work):
     return int(lines["cost"]), int(lines["bound"]), seconds, usage.ru_maxrss / 1024
 
 
+def floor(program, path):
+    """The best floor, rounded up."""
+    value, unit, _ = map(int, subprocess.run([program, path], capture_output=True, text=True, check=True).stdout.split())
+    return -(-value // unit)
+
+
 def services(path):
     """What serving all required edges costs: those of the first list, each at its cost, or at its service cost where it has one."""
     total = 0
@@ -39,7 +45,7 @@ def services(path):
     return total
 
 
-def main(program, folder, work, names):
+def main(program, floors, folder, work, names):
     with open(os.path.join(folder, "lp.csv")) as file:
         programs = {row["name"]: float(row["lp"]) for row in csv.DictReader(file)}
     reached = []
@@ -49,13 +55,13 @@ def main(program, folder, work, names):
         base, lp = services(path), programs[name]
         percent = 100 * (bound - base) / (lp - base) if lp > base else 100
         reached.append(percent)
-        print(f"| {name} | {base} | {bound} | {lp:.2f} | {percent:.1f} % | {cost} | {100 * (cost - bound) / cost:.2f} % | {seconds:.2f} s | {memory:.0f} MB |", flush=True)
-    print(f"| mean of {len(reached)} | | | | {sum(reached) / len(reached):.1f} % | | | | |")
-    print(f"| least | | | | {min(reached):.1f} % | | | | |")
+        print(f"| {name} | {base} | {floor(floors, path)} | {bound} | {lp:.2f} | {percent:.1f} % | {cost} | {100 * (cost - bound) / cost:.2f} % | {seconds:.2f} s | {memory:.0f} MB |", flush=True)
+    print(f"| mean of {len(reached)} | | | | | {sum(reached) / len(reached):.1f} % | | | | |")
+    print(f"| least | | | | | {min(reached):.1f} % | | | | |")
     limits = os.path.join(work, "limits.dat")
     if os.path.exists(limits):
         cost, bound, seconds, memory = solve(program, limits, work)
-        print(f"| at the limits | {services(limits)} | {bound} | | | {cost} | {100 * (cost - bound) / cost:.2f} % | {seconds:.2f} s | {memory:.0f} MB |")
+        print(f"| at the limits | {services(limits)} | {floor(floors, limits)} | {bound} | | | {cost} | {100 * (cost - bound) / cost:.2f} % | {seconds:.2f} s | {memory:.0f} MB |")
 
 
-main(sys.argv[1], sys.argv[2], sys.argv[3], sys.argv[4:])
+main(sys.argv[1], sys.argv[2], sys.argv[3], sys.argv[4], sys.argv[5:])

@@ -1,0 +1,5 @@
+pub mod Places
+pub mod Stands
+pub mod Laws
+pub mod Backward
+pub mod Examples

@@ -1,0 +1,68 @@
+// Small data on which a fact that no call decides holds, and on which it does not.
+ghost use Rattle.std.specs.Prelude.{◌≡◌, [], ◌∷◌};
+ghost use Rattle.carp_base.specs.Problem.{IsRequired};
+ghost use Rattle.cut_pool.specs.Examples.{in_a_row};
+ghost use Rattle.deadhead_paths.specs.Examples.{town};
+ghost use Rattle.decision_chains.specs.declared.decision.Decision.TheVariants.{High, Low, No, Yes};
+ghost use Rattle.branch_rules.specs.declared.node.Node.TheVariants.{Cut, Fixed, Pair, Price, Void};
+ghost use Rattle.branch_rules.specs.Examples.{heavy_prices, town_pool, town_prices, town_support};
+ghost use Rattle.branch_rules.specs.Trees.{cut, fixed, pair, price, void};
+ghost use Rattle.grown_trees.specs.Examples.{high_tree, low_tree};
+ghost use Rattle.grown_trees.specs.Places.{IsFineNode, IsLeaf, IsLeafAt, branch_to, grown, size_of};
+ghost use Rattle.grown_trees.specs.Stands.{HasRequiredPair, HoldsShores, IsLeanStand, IsShownStand, NodeFits, NodeTurns, PricesFit, TurnsAdd, stands, with_sets, with_shores};
+
+fn places_of_a_tree()
+    ensures size { size_of low_tree ≡ 5 }
+    ensures leaf { IsLeafAt low_tree 2 }
+    ensures inner { ¬ (IsLeafAt low_tree 1) }
+    ensures beyond { ¬ (IsLeafAt low_tree 5) }
+    ensures split { ¬ (IsLeaf (Pair 1 2)) }
+    ensures fine { IsFineNode (Cut 1 1000000) }
+    ensures not_fine { ¬ (IsFineNode (Cut 1 1000001)) }
+{}
+
+fn ways_in_a_tree()
+    ensures root { branch_to [] low_tree 0 ≡ [] }
+    ensures first { branch_to [] low_tree 1 ≡ Yes 1 2 ∷ [] }
+    ensures below { branch_to [] low_tree 2 ≡ Yes 1 2 ∷ Low 1 3 ∷ [] }
+    ensures above { branch_to [] low_tree 3 ≡ Yes 1 2 ∷ High 1 3 ∷ [] }
+    ensures second { branch_to (No 3 4 ∷ []) low_tree 4 ≡ No 3 4 ∷ No 1 2 ∷ [] }
+{}
+
+fn a_tree_that_grows()
+    ensures last { grown low_tree 4 (pair 1 3 void (price 2)) ≡ high_tree }
+    ensures back { grown high_tree 4 fixed ≡ low_tree }
+    ensures inner { grown low_tree 1 fixed ≡ pair 1 2 fixed fixed }
+    ensures root { grown low_tree 0 void ≡ void }
+{}
+
+fn nodes_where_they_stand()
+    ensures cut { stands (Yes 1 2 ∷ []) (cut 1 3 void fixed) ≡
+        record { branch = Yes 1 2 ∷ []; node = Cut 1 3 }
+        ∷ record { branch = Yes 1 2 ∷ Low 1 3 ∷ []; node = Void } ∷ record { branch = Yes 1 2 ∷ High 1 3 ∷ []; node = Fixed } ∷ [] }
+{}
+
+fn sets_of_the_leaves()
+    ensures inner { NodeFits town_support [] (Cut 1 0) }
+    ensures none { ¬ (NodeFits town_support [] (Price 0)) }
+    ensures past_the_last { ¬ (NodeFits town_support [] (Price 2)) }
+    ensures without_prices { PricesFit town_support [] (pair 1 2 void fixed) }
+    ensures second_leaf { ¬ (PricesFit town_support [] (pair 1 2 fixed (price 0))) }
+    ensures held { HoldsShores town_support }
+    ensures not_held { ¬ (HoldsShores (record { problem = town; pool = []; sets = town_prices ∷ [] })) }
+    ensures more_shores { with_shores town_support ((3 ∷ []) ∷ []) ≡ record { problem = town; pool = (2 ∷ []) ∷ (3 ∷ []) ∷ []; sets = town_prices ∷ [] } }
+    ensures one_more { with_sets town_support (heavy_prices ∷ []) ≡ record { problem = town; pool = town_pool; sets = town_prices ∷ heavy_prices ∷ [] } }
+{}
+
+fn facts_on_nodes()
+    ensures a_cut_too_many { ¬ (IsLeanStand town_support 1 (record { branch = High 1 0 ∷ []; node = Cut 1 5 })) }
+    ensures one_is_left { IsLeanStand town_support 2 (record { branch = High 1 0 ∷ []; node = Cut 1 5 }) }
+    ensures inner_shows { IsShownStand town_support 7 (record { branch = []; node = Pair 1 2 }) }
+    ensures none_shows { ¬ (IsShownStand town_support 7 (record { branch = []; node = Price 0 })) }
+    ensures inner_turns { NodeTurns town_support 7 [] (Pair 1 2) 1 }
+    ensures no_turns { NodeTurns town_support 7 [] (Price 0) 0 }
+    ensures not_one { ¬ (NodeTurns town_support 7 [] (Price 0) 1) }
+    ensures turns { TurnsAdd town_support 7 (stands [] (pair 1 2 (price 0) (price 0))) 1 }
+    ensures required { HasRequiredPair (in_a_row 2) (Pair 1 2) }
+    ensures not_required { ¬ (HasRequiredPair (in_a_row 2) (Pair 1 3)) }
+{}

@@ -1,0 +1,125 @@
+// The decisions on the way to a place of a tree.
+ghost use Rattle.std.specs.Prelude.{◌≡◌, suc, ◌+◌, ◌<◌, ◌^◌, ◌++◌, ◌∷◌, [], length, All, IfOk, OnOk};
+ghost use Rattle.branch_rules.specs.Limits.{IsFineDecision};
+ghost use Rattle.branch_rules.specs.Trees.{Tree, preorder};
+ghost use Rattle.grown_trees.specs.Backward.{all_read, found_by, node_read, split_read};
+ghost use Rattle.grown_trees.specs.Places.{IsFineNode, branch_to};
+
+use branch_rules::{Branch, Decision, Node};
+use carp_base::Memory;
+use std::alloc::Global;
+
+/// The decisions on the way to the node at a place of a list of nodes in preorder, from the root on. The list is that of a whole
+/// tree, of which the nodes before the place suffice.
+///
+/// Without memory there is an error. It takes time and memory in proportion to the place.
+pub fn branch_to(alloc: Global, nodes: &[Node], place: usize) -> Result<Branch, Memory>
+    requires place { place < length nodes.now }
+    requires fine { All IsFineNode nodes.now }
+    ensures { (tree : Tree) → preorder tree ≡ nodes.now → IfOk result (λ branch. branch ≡ branch_to [] tree place) }
+{
+    let decisions = decisions_to(alloc, nodes, place)?;
+    branch_of(alloc, &decisions)
+}
+
+// The decisions on the way to a place, from the root on.
+pub(crate) fn decisions_to(
+    alloc: Global,
+    nodes: &[Node],
+    place: usize,
+) -> Result<Vec<Decision>, Memory>
+    requires place { place < length nodes.now }
+    requires fine { All IsFineNode nodes.now }
+    ensures way { (tree : Tree) → preorder tree ≡ nodes.now → IfOk result (λ decisions. decisions.items ≡ branch_to [] tree place) }
+    ensures fine { IfOk result (λ decisions. All IsFineDecision decisions.items) }
+{
+    let mut decisions = decisions_back(alloc, &nodes[..place])?;
+    decisions.reverse();
+    Ok(decisions)
+}
+
+// What the nodes before a place tell of the way to it, read from the last to the first.
+#[derive(Drop)]
+struct Way {
+    // The decisions that were found, the last of the way first.
+    decisions: Vec<Decision>,
+    // The number of whole subtrees since the last of them.
+    whole: usize,
+}
+
+impl Way {
+    // Reads a node. With no whole subtree behind it a node with two children has the way through its first child, with one
+    // through its second child; with more it is the root of a whole subtree itself, as a leaf is.
+    fn read(&mut self, node: &Node) -> Result<(), Memory>
+        requires { self.old.whole + 1 < 2 ^ 64 }
+        ensures { OnOk result (found_by self.new ≡ node_read (found_by self.old) node.now) }
+    {
+        match *node {
+            Node::Pair { a, b } => self.split(Decision::Yes { a, b }, Decision::No { a, b }),
+            Node::Cut { shore, k } => {
+                self.split(Decision::Low { shore, k }, Decision::High { shore, k })
+            }
+            Node::Price { .. } => self.end(),
+            Node::Void => self.end(),
+            Node::Fixed => self.end(),
+        }
+    }
+
+    // Reads a node with two children, which follow these decisions.
+    fn split(&mut self, first: Decision, second: Decision) -> Result<(), Memory>
+        ensures { OnOk result (found_by self.new ≡ split_read self.old.decisions.items self.old.whole first second) }
+    {
+        match self.whole {
+            0 => self.take(first),
+            1 => self.take(second),
+            _ => {
+                self.whole -= 1;
+                Ok(())
+            }
+        }
+    }
+
+    // Reads a leaf.
+    fn end(&mut self) -> Result<(), Memory>
+        requires { self.old.whole + 1 < 2 ^ 64 }
+        ensures { OnOk result (found_by self.new ≡ record { decisions = self.old.decisions.items; whole = suc self.old.whole }) }
+    {
+        self.whole += 1;
+        Ok(())
+    }
+
+    // The way goes by this decision.
+    fn take(&mut self, decision: Decision) -> Result<(), Memory>
+        ensures { OnOk result (found_by self.new ≡ record { decisions = self.old.decisions.items ++ decision ∷ []; whole = 0 }) }
+    {
+        self.decisions.push(decision)?;
+        self.whole = 0;
+        Ok(())
+    }
+}
+
+// The decisions on the way to the node behind these, the last one first.
+fn decisions_back(alloc: Global, before: &[Node]) -> Result<Vec<Decision>, Memory>
+    ensures { IfOk result (λ decisions. decisions.items ≡ (all_read before.now).decisions) }
+{
+    let mut way = Way {
+        decisions: Vec::new(alloc),
+        whole: 0,
+    };
+    for i in (0..before.len()).rev() {
+        way.read(&before[i])?;
+    }
+    Ok(way.decisions)
+}
+
+// The branch of these decisions.
+fn branch_of(alloc: Global, decisions: &[Decision]) -> Result<Branch, Memory>
+    requires { All IsFineDecision decisions.now }
+    ensures { IfOk result (λ branch. branch ≡ decisions.now) }
+{
+    let mut branch = Branch::new(alloc);
+    for decision in decisions {
+        branch.push(*decision)?;
+    }
+    Ok(branch)
+}
