@@ -3,6 +3,7 @@ pub mod Signed
 pub mod EdgeCosts
 pub mod ShoreNumbers
 pub mod Places
+pub mod Priced
 pub mod Bound
 pub mod Paying
 pub mod Services

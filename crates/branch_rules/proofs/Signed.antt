@@ -1,5 +1,5 @@
 -- Sums of signed numbers.
-use Rattle.std.proofs.Common.{◌≡◌, ℕ, zero, suc, ◌+◌, ◌*◌, ◌≤◌, ◌<◌, List, [], ◌∷◌, ◌++◌, refl, ◌∙◌, arith, pos, negsuc, ◌+ℤ◌, ◌-ℤ◌, ◌*ℤ◌, ◌≤ℤ◌, ◌<ℤ◌, ℤ, inl, inr}
+use Rattle.std.proofs.Common.{◌≡◌, ℕ, zero, suc, ◌+◌, ◌*◌, ◌≤◌, ◌<◌, List, [], ◌∷◌, ◌++◌, refl, ◌∙◌, arith, pos, negsuc, neg_ℤ, ◌+ℤ◌, ◌-ℤ◌, ◌*ℤ◌, ◌≤ℤ◌, ◌<ℤ◌, ℤ, inl, inr}
 use Rattle.std.specs.List.{sum_by}
 use Rattle.std.proofs.lemmas.List.Sums.{sum_by-cons}
 use Rattle.std.proofs.lemmas.Int.{ints}
@@ -57,3 +57,12 @@ signed_sum_more f xs i d short = rw (take_more xs i d short) (signed_sum-append 
 pub signed_sum_step : {X : Type 0} (f : X → ℤ) (xs : List X) (i : ℕ) (d : X) (sum term joined : ℤ) → i < length xs →
     sum ≡ signed_sum f (take i xs) → term ≡ f (get_or xs i d) → joined ≡ sum +ℤ term → joined ≡ signed_sum f (take (i + 1) xs)
 signed_sum_step f xs i d sum term joined short sum_is term_is joined_is = omega (arith, ints, signed_sum_more f xs i d short, sum_is, term_is, joined_is)
+
+-- a price or a weight times a number of crossings is within 4 * 10^22 either way
+pub product_least : (w : ℤ) (n : ℕ) → neg_ℤ (pos 1000000000000000) ≤ℤ w → n ≤ 36000001 → neg_ℤ (pos 40000000000000000000000) ≤ℤ (w *ℤ pos n)
+product_least (pos x) n low small = omega (arith, ints)
+product_least (negsuc x) n low small = omega (arith, ints, mul-le-mul_left (suc x) small)
+
+pub product_most : (w : ℤ) (n : ℕ) → w ≤ℤ pos 1000000000000000 → n ≤ 36000001 → (w *ℤ pos n) ≤ℤ pos 40000000000000000000000
+product_most (pos x) n high small = omega (arith, ints, mul-le-mul_left x small)
+product_most (negsuc x) n high small = omega (arith, ints)

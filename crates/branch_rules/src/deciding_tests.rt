@@ -1,12 +1,12 @@
 // What small branches allow and settle, worked by hand.
 ghost use Rattle.std.specs.Prelude.{◌≤◌, IfSome, IsTrue};
 ghost use Rattle.decision_chains.specs.Pairs.{ArePairsIn, HasPairWithin};
-ghost use Rattle.branch_rules.specs.Limits.{AreShoresIn, HasShoreOf, IsFineDecision};
+ghost use Rattle.branch_rules.specs.Limits.{AreShoresIn, HasShoreOf, IsFineDecision, IsNodeIn, IsShoreOf};
 
 use crate::{Branch, Decision, Node};
-use carp_base::{Instance, RawEdge};
+use carp_base::{Instance, Memory, RawEdge};
 use cut_pool::{Shore, ShorePool};
-use std::alloc::{AllocError, Global};
+use std::alloc::Global;
 use std::process::Abort;
 use std::test::Fail;
 use task_tours::{cost_distances, lawful_cost};
@@ -46,13 +46,20 @@ fn are_pairs_in(inst: &Instance, decisions: &[Decision]) -> bool
     true
 }
 
+// Whether a shore is in the pool and belongs to the instance.
+pub(crate) fn is_shore_of(inst: &Instance, pool: &ShorePool, shore: u32) -> bool
+    ensures { IsTrue result → IsShoreOf inst.now pool.now shore }
+{
+    1 <= shore && shore <= pool.len() && pool.shore(shore).belongs(inst)
+}
+
 // Whether the shore of a decision is in the pool and belongs to the instance.
 fn is_on_shore(inst: &Instance, pool: &ShorePool, decision: &Decision) -> bool
     ensures { IsTrue result → HasShoreOf inst.now pool.now decision.now }
 {
     match *decision {
         Decision::Low { shore, .. } | Decision::High { shore, .. } => {
-            1 <= shore && shore <= pool.len() && pool.shore(shore).belongs(inst)
+            is_shore_of(inst, pool, shore)
         }
         _ => true,
     }
@@ -92,25 +99,29 @@ fn decision_of(kind: u8, a: u32, b: u32) -> Option<Decision>
     }
 }
 
+// Adds a decision of three signs.
+fn push_signs(branch: &mut Branch, signs: &[u8]) -> Result<(), Fail> {
+    let &[kind, first, second] = signs else {
+        return Err("three signs")?;
+    };
+    branch.push(decision_of(kind, digit(first), digit(second)).ok_or("a decision")?)?;
+    Ok(())
+}
+
 // The branch of a text of decisions.
-pub(crate) fn branch_of(alloc: Global, text: &[u8]) -> Result<Branch, Fail> {
+pub(crate) fn branch_of(alloc: Global, text: &str) -> Result<Branch, Fail> {
     let mut branch = Branch::new(alloc);
-    for signs in text.chunks_exact(3) {
-        let &[kind, first, second] = signs else {
-            return Err("three signs")?;
-        };
-        branch.push(decision_of(kind, digit(first), digit(second)).ok_or("a decision")?)?;
+    for signs in text.as_bytes().chunks_exact(3) {
+        push_signs(&mut branch, signs)?;
     }
     Ok(branch)
 }
 
-// The parts of a row between bars.
-fn parts_of(alloc: Global, row: &'static str) -> Result<Vec<&'static str>, AllocError> {
-    let mut parts = Vec::new(alloc);
-    for part in row.split('|') {
-        parts.push(part)?;
-    }
-    Ok(parts)
+// The three parts of a row between bars; a part that lacks is empty.
+fn parts_of(row: &'static str) -> [&'static str; 3] {
+    let (first, rest) = row.split_once('|').unwrap_or((row, ""));
+    let (second, third) = rest.split_once('|').unwrap_or((rest, ""));
+    [first, second, third]
 }
 
 // The allowed pairs, each as two digits and a blank.
@@ -131,7 +142,59 @@ fn allowed_text(alloc: Global, inst: &Instance, branch: &Branch) -> Result<Vec<u
     Ok(text)
 }
 
-// A row has decisions, then the allowed pairs, and then `v` for a void branch, `f` for a fixed one and else a stop.
+// The branch allows these pairs.
+fn expect_allowed(
+    rt: &impl Abort,
+    alloc: Global,
+    inst: &Instance,
+    branch: &Branch,
+    pairs: &str,
+) -> Result<(), Fail> {
+    let pairs_in = are_pairs_in(inst, branch.decisions());
+    assert!(rt; pairs_in);
+    let text = allowed_text(alloc, inst, branch)?;
+    assert_eq!(rt; text.as_slice(), pairs.as_bytes());
+    Ok(())
+}
+
+// `v` for a void branch, `f` for a fixed one, a stop for one that is neither, and else marks of what is wrong.
+fn state_of(
+    alloc: Global,
+    inst: &Instance,
+    pool: &ShorePool,
+    branch: &Branch,
+) -> Result<&'static str, Memory> {
+    let pairs_in = are_pairs_in(inst, branch.decisions());
+    let shores_in = are_shores_in(inst, pool, branch.decisions());
+    if !pairs_in || !shores_in {
+        return Ok("?");
+    }
+    let void = branch.void(alloc, inst, pool)?;
+    let fixed = branch.fixed(alloc, inst, pool)?;
+    Ok(match (void, fixed) {
+        (true, false) => "v",
+        (false, true) => "f",
+        (false, false) => ".",
+        (true, true) => "vf",
+    })
+}
+
+// A row has decisions, then the allowed pairs, and then the state of the branch.
+fn expect_row(
+    rt: &impl Abort,
+    alloc: Global,
+    inst: &Instance,
+    pool: &ShorePool,
+    row: &'static str,
+) -> Result<(), Fail> {
+    let [decisions, pairs, state] = parts_of(row);
+    let branch = branch_of(alloc, decisions)?;
+    expect_allowed(rt, alloc, inst, &branch, pairs)?;
+    assert_eq!(rt; state_of(alloc, inst, pool, &branch)?, state, "{row}");
+    Ok(())
+}
+
+// Such a row a line.
 pub(crate) fn expect_rows(
     rt: &impl Abort,
     alloc: Global,
@@ -140,21 +203,7 @@ pub(crate) fn expect_rows(
     rows: &'static str,
 ) -> Result<(), Fail> {
     for row in rows.split('\n') {
-        let parts = parts_of(alloc, row)?;
-        let [decisions, pairs, state] = parts.as_slice() else {
-            panic!(rt; "three parts in {row}");
-        };
-        let branch = branch_of(alloc, decisions.as_bytes())?;
-        let pairs_in = are_pairs_in(inst, branch.decisions());
-        assert!(rt; pairs_in);
-        let shores_in = are_shores_in(inst, pool, branch.decisions());
-        assert!(rt; shores_in);
-        let text = allowed_text(alloc, inst, &branch)?;
-        assert_eq!(rt; text.as_slice(), pairs.as_bytes(), "{row}");
-        let void = branch.void(alloc, inst, pool)?;
-        let fixed = branch.fixed(alloc, inst, pool)?;
-        assert_eq!(rt; void, *state == "v", "{row}");
-        assert_eq!(rt; fixed, *state == "f", "{row}");
+        expect_row(rt, alloc, inst, pool, row)?;
     }
     Ok(())
 }
@@ -182,11 +231,16 @@ fn pairs_above_the_capacity_are_excluded(rt: HostRuntime) -> Result<(), Fail> {
     expect_far(&rt, rt.alloc(), 5, "|12 13 23 |.\n+12|12 |f")
 }
 
+// A triangle of streets that one vehicle serves.
+pub(crate) fn triangle(alloc: Global) -> Result<Instance, Fail> {
+    let required = [street(1, 2, 5, 1), street(2, 3, 7, 1), street(1, 3, 4, 1)];
+    Ok(Instance::build(alloc, 3, 1, 3, &required, &[])?)
+}
+
 #[test]
 fn chains_in_a_triangle(rt: HostRuntime) -> Result<(), Fail> {
     let alloc = rt.alloc();
-    let required = [street(1, 2, 5, 1), street(2, 3, 7, 1), street(1, 3, 4, 1)];
-    let inst = Instance::build(alloc, 3, 1, 3, &required, &[])?;
+    let inst = triangle(alloc)?;
     let rows = "\
         |12 13 23 |.\n\
         +12|12 13 23 |.\n\
@@ -260,64 +314,67 @@ fn a_shore_needs_four_deadheads(rt: HostRuntime) -> Result<(), Fail> {
     expect_rows(&rt, alloc, &far_star(alloc)?, &far_shore(&rt, alloc)?, rows)
 }
 
-// Whether the shore 1 may be cut at this number.
-fn may_cut(
-    rt: &impl Abort,
-    alloc: Global,
-    inst: &Instance,
-    pool: &ShorePool,
-    branch: &Branch,
-    k: u64,
-) -> Result<bool, Fail>
-    requires { ArePairsIn inst.now branch.now }
-{
-    let shores = pool.len();
-    assert!(rt; 1 <= shores);
-    let belongs = pool.shore(1).belongs(inst);
-    assert!(rt; belongs);
-    Ok(branch.lean(alloc, inst, pool, &Node::Cut { shore: 1, k })?)
-}
-
-// Whether the pair may be split.
-fn may_split(
-    rt: &impl Abort,
-    alloc: Global,
-    inst: &Instance,
-    pool: &ShorePool,
-    branch: &Branch,
-    a: u32,
-    b: u32,
-) -> Result<bool, Fail>
-    requires { ArePairsIn inst.now branch.now }
-{
-    assert!(rt; 1 <= a && a < b && b <= inst.required());
-    Ok(branch.lean(alloc, inst, pool, &Node::Pair { a, b })?)
-}
-
-// Whether a node of two signs after a letter may stand after some decisions: `p12` splits by the edges 1 and 2, and `c14` by the
-// shore 1 at 4.
-fn may_stand(
-    rt: &impl Abort,
-    alloc: Global,
-    inst: &Instance,
-    pool: &ShorePool,
-    decisions: &str,
-    node: &str,
-) -> Result<bool, Fail> {
-    let branch = branch_of(alloc, decisions.as_bytes())?;
-    let &[kind, first, second] = node.as_bytes() else {
-        panic!(rt; "three signs in {node}");
+// The node of two signs after a letter: `p12` splits by the edges 1 and 2, and `c14` by the shore 1 at 4.
+fn node_of(text: &str) -> Option<Node> {
+    let &[kind, first, second] = text.as_bytes() else {
+        return None;
     };
-    let pairs_in = are_pairs_in(inst, branch.decisions());
-    assert!(rt; pairs_in);
-    if kind == b'p' {
-        may_split(rt, alloc, inst, pool, &branch, digit(first), digit(second))
-    } else {
-        may_cut(rt, alloc, inst, pool, &branch, u64::from(digit(second)))
+    let (a, b) = (digit(first), digit(second));
+    match kind {
+        b'p' => Some(Node::Pair { a, b }),
+        b'c' => Some(Node::Cut {
+            shore: a,
+            k: u64::from(b),
+        }),
+        _ => None,
     }
 }
 
+// Whether the pair of a node is of two different required edges, and its shore in the pool and of the instance.
+fn is_node_in(inst: &Instance, pool: &ShorePool, node: &Node) -> bool
+    ensures { IsTrue result → IsNodeIn inst.now pool.now node.now }
+{
+    let m = inst.required();
+    match *node {
+        Node::Pair { a, b } => 1 <= a && a <= m && 1 <= b && b <= m && a != b,
+        Node::Cut { shore, .. } => is_shore_of(inst, pool, shore),
+        _ => true,
+    }
+}
+
+// Whether a node may stand in a lean tree after some decisions, and `None` where one of them is out of range.
+fn may_stand(
+    alloc: Global,
+    inst: &Instance,
+    pool: &ShorePool,
+    branch: &Branch,
+    node: &Node,
+) -> Result<Option<bool>, Memory> {
+    let pairs_in = are_pairs_in(inst, branch.decisions());
+    let node_in = is_node_in(inst, pool, node);
+    if !pairs_in || !node_in {
+        return Ok(None);
+    }
+    Ok(Some(branch.lean(alloc, inst, pool, node)?))
+}
+
 // A row has decisions, then a node, and then whether it may stand there.
+fn expect_node(
+    rt: &impl Abort,
+    alloc: Global,
+    inst: &Instance,
+    pool: &ShorePool,
+    row: &'static str,
+) -> Result<(), Fail> {
+    let [decisions, node, want] = parts_of(row);
+    let branch = branch_of(alloc, decisions)?;
+    let node = node_of(node).ok_or("a node")?;
+    let may = may_stand(alloc, inst, pool, &branch, &node)?;
+    assert_eq!(rt; may, Some(want == "yes"), "{row}");
+    Ok(())
+}
+
+// Such a row a line.
 pub(crate) fn expect_nodes(
     rt: &impl Abort,
     alloc: Global,
@@ -326,12 +383,7 @@ pub(crate) fn expect_nodes(
     rows: &'static str,
 ) -> Result<(), Fail> {
     for row in rows.split('\n') {
-        let parts = parts_of(alloc, row)?;
-        let [decisions, node, want] = parts.as_slice() else {
-            panic!(rt; "three parts in {row}");
-        };
-        let may = may_stand(rt, alloc, inst, pool, decisions, node)?;
-        assert_eq!(rt; may, *want == "yes", "{row}");
+        expect_node(rt, alloc, inst, pool, row)?;
     }
     Ok(())
 }
@@ -354,19 +406,69 @@ fn nodes_of_a_lean_tree(rt: HostRuntime) -> Result<(), Fail> {
     expect_nodes(&rt, alloc, &far_star(alloc)?, &far_shore(&rt, alloc)?, rows)
 }
 
+// Whether a pair is determined, and `None` where an edge is not required.
+fn determined(
+    alloc: Global,
+    inst: &Instance,
+    branch: &Branch,
+    a: u32,
+    b: u32,
+) -> Result<Option<bool>, Memory> {
+    let pairs_in = are_pairs_in(inst, branch.decisions());
+    let m = inst.required();
+    if !pairs_in || a < 1 || a > m || b < 1 || b > m {
+        return Ok(None);
+    }
+    Ok(Some(branch.determined(alloc, inst, a, b)?))
+}
+
 #[test]
 fn a_pair_is_determined_for_a_reason(rt: HostRuntime) -> Result<(), Fail> {
     let alloc = rt.alloc();
     let inst = side_by_side(alloc, 10)?;
-    let branch = branch_of(alloc, b"+12-34")?;
-    let pairs_in = are_pairs_in(&inst, branch.decisions());
-    assert!(&rt; pairs_in);
-    assert!(&rt; inst.required() == 5);
-    assert_eq!(&rt; branch.determined(alloc, &inst, 2, 1)?, true, "yes");
-    assert_eq!(&rt; branch.determined(alloc, &inst, 4, 3)?, true, "no");
-    assert_eq!(&rt; branch.determined(alloc, &inst, 5, 5)?, true, "one edge");
-    assert_eq!(&rt; branch.determined(alloc, &inst, 2, 3)?, false, "open");
+    let branch = branch_of(alloc, "+12-34")?;
+    let rows = [(2, 1, true), (4, 3, true), (5, 5, true), (2, 3, false)];
+    for &(a, b, want) in &rows {
+        assert_eq!(&rt;
+            determined(alloc, &inst, &branch, a, b)?,
+            Some(want),
+            "{a} {b}"
+        );
+    }
     Ok(())
+}
+
+// The cost of the plan of a branch whose numbers are in range, and `None` where it is not fixed.
+fn cost_within(
+    alloc: Global,
+    inst: &Instance,
+    pool: &ShorePool,
+    branch: &Branch,
+) -> Result<Option<u128>, Fail>
+    requires pairs { ArePairsIn inst.now branch.now }
+    requires shores { AreShoresIn inst.now pool.now branch.now }
+{
+    if !branch.fixed(alloc, inst, pool)? {
+        return Ok(None);
+    }
+    let dist = cost_distances(alloc, inst)?;
+    let plan = branch.fixed_plan(alloc, inst, pool, &dist)?;
+    Ok(Some(lawful_cost(alloc, inst, &plan)?))
+}
+
+// The cost of the plan of a branch, and `None` where it is not fixed or a number is out of range.
+fn fixed_cost(
+    alloc: Global,
+    inst: &Instance,
+    pool: &ShorePool,
+    branch: &Branch,
+) -> Result<Option<u128>, Fail> {
+    let pairs_in = are_pairs_in(inst, branch.decisions());
+    let shores_in = are_shores_in(inst, pool, branch.decisions());
+    if !pairs_in || !shores_in {
+        return Ok(None);
+    }
+    cost_within(alloc, inst, pool, branch)
 }
 
 // Under these decisions the branch is fixed, and its plan costs this.
@@ -377,25 +479,23 @@ pub(crate) fn expect_fixed_cost(
     decisions: &str,
     want: u128,
 ) -> Result<(), Fail> {
-    let pool = ShorePool::new(alloc);
-    let branch = branch_of(alloc, decisions.as_bytes())?;
-    let pairs_in = are_pairs_in(inst, branch.decisions());
-    assert!(rt; pairs_in);
-    let shores_in = are_shores_in(inst, &pool, branch.decisions());
-    assert!(rt; shores_in);
-    let fixed = branch.fixed(alloc, inst, &pool)?;
-    assert!(rt; fixed);
-    let plan = branch.fixed_plan(alloc, inst, &pool, &cost_distances(alloc, inst)?)?;
-    assert_eq!(rt; lawful_cost(alloc, inst, &plan)?, want);
+    let branch = branch_of(alloc, decisions)?;
+    let cost = fixed_cost(alloc, inst, &ShorePool::new(alloc), &branch)?;
+    assert_eq!(rt; cost, Some(want), "{decisions}");
     Ok(())
 }
 
 #[test]
 fn a_fixed_branch_has_a_plan(rt: HostRuntime) -> Result<(), Fail> {
     let alloc = rt.alloc();
-    expect_fixed_cost(&rt, alloc, &far_triangle(alloc, 3)?, "", 67)?;
     let required = [street(1, 2, 5, 1), street(3, 2, 7, 1), street(3, 1, 4, 1)];
     let inst = Instance::build(alloc, 3, 1, 3, &required, &[])?;
     expect_fixed_cost(&rt, alloc, &inst, "+12+23", 16)?;
     expect_fixed_cost(&rt, alloc, &inst, "+13-12-23", 32)
+}
+
+#[test]
+fn a_branch_without_decisions_has_a_plan(rt: HostRuntime) -> Result<(), Fail> {
+    let alloc = rt.alloc();
+    expect_fixed_cost(&rt, alloc, &far_triangle(alloc, 3)?, "", 67)
 }
