@@ -26,7 +26,7 @@ def solve(program, path, work):
 
 def floor(program, path):
     """The best floor, rounded up."""
-    value, unit, _ = map(int, subprocess.run([program, path], capture_output=True, text=True, check=True).stdout.split())
+    value, unit = map(int, subprocess.run([program, path], capture_output=True, text=True, check=True).stdout.split())
     return -(-value // unit)
 
 

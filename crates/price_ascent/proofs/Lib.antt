@@ -1,0 +1,4 @@
+pub mod Served
+pub mod Placed
+pub mod Listed
+pub mod Pushed

@@ -1,0 +1,5 @@
+use Rattle.pricing_grid.specs.Pricing.{IsServicePrice}
+use Rattle.price_ascent.proofs.scaling.eased.Given as goal
+
+abbrev pub invariant-loop-place : goal.invariant-loop-place
+invariant-loop-place l = IsServicePrice l.least

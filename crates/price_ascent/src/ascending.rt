@@ -1,0 +1,160 @@
+// The public call.
+ghost use Rattle.std.specs.Prelude.{◌≡◌, ◌≤◌, All, IfOk, IfSome, length};
+ghost use Rattle.cut_pool.specs.Shores.{Belongs};
+ghost use Rattle.branch_rules.specs.Limits.{IsShoreOf};
+ghost use Rattle.decision_chains.specs.Pairs.{ArePairsIn};
+ghost use Rattle.route_pricing.specs.Tables.{IsRoom};
+ghost use Rattle.shore_prices.specs.Proposals.{IsGrown, IsProposal};
+ghost use Rattle.price_ascent.specs.Ascents.{IsAscent};
+ghost use Rattle.price_ascent.specs.Points.{IsActive};
+
+use crate::active::active_shores;
+use crate::climbing::Ascent;
+use crate::numbers::UNIT;
+use crate::placing::{list_weights, place_weights};
+use crate::scoring::Town;
+use crate::setting_out::start_point;
+use branch_rules::{Branch, PriceSet};
+use carp_base::{Instance, Memory};
+use cut_pool::ShorePool;
+use road_network::Network;
+use route_pricing::Table;
+use std::alloc::Global;
+
+// How many fills of the table there are at most, and at least: an ascent of fewer is not worth its time.
+const MOST_FILLS: u32 = 400;
+
+const LEAST_FILLS: u64 = 60;
+
+// So much work, by the count of steps of fills, is allowed.
+const WORK: u64 = 1_500_000_000;
+
+/// Proposes a price set under a branch by an ascent from a start; `None` where no edge is required, where `rounds` is 0, or where the
+/// instance is so large that 60 fills of the table pass a measure of work. Of its value nothing is said, nor that it fits; but it has
+/// a price for each required edge, in parts of 1/1,000,000, and its weights are on shores of the pool that belong to the instance.
+///
+/// Prices of services and weights of shores move together along the slopes that relaxed tours show, as Lagrange multipliers do (Held,
+/// Wolfe and Crowder 1974; the heavy average of slopes after Camerini, Fratta and Maffioli 1975). At each point the table is filled
+/// once, and the point is made one that pays: each price takes its part of the least rate of a tour, and of what all tours through
+/// its edge leave. The best such point is proposed. Every tenth step up to 10 shores are added that the averaged deadheads of the
+/// tours leave short (`shore_search`). Where 12 steps bring no record, the ascent goes back to the record and makes shorter steps.
+///
+/// Shores of the start keep a negative weight as it is. Those that end with a weight are placed in the pool behind those that it held;
+/// one for which there is no room, since it holds 2,000, loses its weight, and so does one whose weight is small.
+///
+/// It asks for the network of the instance, a table that was made for it, a branch whose pairs are of required edges, and a start with
+/// a price for each required edge and weights on shores of the pool that belong to the instance; so have all shores of the pool to. The
+/// one error is want of memory. It takes up to `rounds` fills of the table, and at most 400, each with the distances by its deadhead
+/// prices; no clock decides.
+pub fn ascend(
+    alloc: Global,
+    inst: &Instance,
+    net: &Network,
+    table: &mut Table,
+    pool: &mut ShorePool,
+    branch: &Branch,
+    start: &PriceSet,
+    rounds: u32,
+) -> Result<Option<PriceSet>, Memory>
+    requires net { net.now ≡ inst.now }
+    requires room { IsRoom inst.now table.old }
+    requires pairs { ArePairsIn inst.now branch.now }
+    requires belong { All (Belongs inst.now) pool.old }
+    requires shores { All (λ w. IsShoreOf inst.now pool.old w.shore) start.now.weights }
+    requires one_each { length start.now.services ≡ inst.now.required }
+    ensures proposed { IfOk result (λ set. IfSome set (IsProposal inst.now pool.new)) }
+    ensures grown { IsGrown pool.old pool.new }
+    ensures belong { All (Belongs inst.now) pool.new }
+    ensures room { IsRoom inst.now table.new }
+{
+    let fills = fills_for(inst, rounds);
+    if fills == 0 {
+        return Ok(None);
+    }
+    match best_ascent(alloc, inst, net, table, pool, branch, start, fills)? {
+        Some(ascent) => Ok(Some(offer(alloc, inst, pool, &ascent)?)),
+        None => Ok(None),
+    }
+}
+
+// How many fills are made: none where they would be too few.
+fn fills_for(inst: &Instance, rounds: u32) -> u32 {
+    let ends = u64::from(inst.vertices()).min(u64::from(inst.required()).saturating_mul(2));
+    let labels = ends.saturating_mul(ends).saturating_mul(2);
+    let streets = u64::from(inst.edge_count()).saturating_mul(48);
+    let fill = labels.min(streets).saturating_mul(inst.capacity());
+    let affordable = WORK / fill.max(1);
+    if inst.required() == 0 || affordable < LEAST_FILLS {
+        0
+    } else {
+        rounds.min(MOST_FILLS).min(affordable.min(1_000_000) as u32)
+    }
+}
+
+// The ascent after so many fills.
+fn best_ascent(
+    alloc: Global,
+    inst: &Instance,
+    net: &Network,
+    table: &mut Table,
+    pool: &ShorePool,
+    branch: &Branch,
+    start: &PriceSet,
+    fills: u32,
+) -> Result<Option<Ascent>, Memory>
+    requires net { net.now ≡ inst.now }
+    requires room { IsRoom inst.now table.old }
+    requires pairs { ArePairsIn inst.now branch.now }
+    requires shores { All (λ w. IsShoreOf inst.now pool.now w.shore) start.now.weights }
+    requires one_each { length start.now.services ≡ inst.now.required }
+    ensures ascent { IfOk result (λ found. IfSome found (IsAscent inst.now)) }
+    ensures room { IsRoom inst.now table.new }
+{
+    // What a read of the instance says is needed: that it is valid.
+    let _ = inst.vertices();
+    let allowed = branch.allowed(alloc, inst)?;
+    let town = Town {
+        inst,
+        net,
+        allowed: &allowed,
+    };
+    let actives = active_shores(alloc, inst, pool, branch, start)?;
+    let point = start_point(alloc, inst, start)?;
+    let Some(mut ascent) = Ascent::begin(alloc, &town, table, actives, &point)? else {
+        return Ok(None);
+    };
+    ascent.climb(alloc, &town, table, fills)?;
+    Ok(Some(ascent))
+}
+
+// The best point of an ascent as a price set, with its shores placed in the pool.
+fn offer(
+    alloc: Global,
+    inst: &Instance,
+    pool: &mut ShorePool,
+    ascent: &Ascent,
+) -> Result<PriceSet, Memory>
+    requires ascent { IsAscent inst.now ascent.now }
+    requires belong { All (Belongs inst.now) pool.old }
+    ensures proposed { IfOk result (IsProposal inst.now pool.new) }
+    ensures grown { IsGrown pool.old pool.new }
+    ensures belong { All (Belongs inst.now) pool.new }
+{
+    let best = &ascent.best;
+    let least = least_weight(inst);
+    let placed = place_weights(alloc, inst, pool, &ascent.actives, &best.weights, least)?;
+    let listed = list_weights(alloc, pool, &placed)?;
+    // What a read of the instance says is needed: that it is valid.
+    let _ = inst.vertices();
+    PriceSet::new(alloc, UNIT, &best.prices, &listed)
+}
+
+// A thousandth of the mean cost of an edge, and at least 1: a weight below it is not worth a shore.
+fn least_weight(inst: &Instance) -> i64 {
+    let mut sum: u64 = 0;
+    for edge in inst.edges() {
+        sum = sum.saturating_add(edge.cost);
+    }
+    let mean = sum.saturating_mul(UNIT) / u64::from(inst.edge_count()).max(1);
+    (mean / 1000).clamp(1, 1_000_000_000_000) as i64
+}

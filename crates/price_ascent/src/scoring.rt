@@ -1,0 +1,188 @@
+// What a point is worth, and how the tours that it leaves least serve and cross.
+ghost use Rattle.std.specs.Prelude.{◌≡◌, ◌≤◌, All, IfOk, IfSome};
+ghost use Rattle.carp_base.specs.Problem.{IsRequired};
+ghost use Rattle.pricing_grid.specs.Pricing.{IsServicePrice};
+ghost use Rattle.route_pricing.specs.Tables.{IsRoom};
+ghost use Rattle.route_pricing.specs.Values.{IsRate};
+ghost use Rattle.price_ascent.specs.Points.{AreServicePrices, IsFilledOn, IsPoint, IsTown};
+
+use crate::active::Active;
+use crate::numbers::{PARTS, UNIT, floor, held, number_at};
+use crate::scaling::{deadhead_prices, eased_weights};
+use crate::touring::{Cover, best_tour, excess_over, load_of, tour_over};
+use carp_base::{Allowed, Instance, Memory};
+use deadhead_paths::{Distances, distances};
+use road_network::Network;
+use route_pricing::{Rate, Table};
+use std::alloc::Global;
+
+/// An instance with its network, and the pairs that are not excluded.
+#[derive(Clone, Copy)]
+pub(crate) struct Town<'a> {
+    pub(crate) inst: &'a Instance,
+    pub(crate) net: &'a Network,
+    pub(crate) allowed: &'a Allowed,
+}
+
+/// Prices of services, and weights of the first shores that move; the others have none.
+#[derive(Drop)]
+pub(crate) struct Point {
+    pub(crate) prices: Vec<i64>,
+    pub(crate) weights: Vec<i64>,
+}
+
+/// A point that pays, its value, and what its least tours serve and cross.
+#[derive(Drop)]
+pub(crate) struct Scored {
+    pub(crate) point: Point,
+    pub(crate) value: i128,
+    pub(crate) cover: Cover,
+}
+
+/// Makes of a point one that pays, by one fill of the table; `None` where no edge is required.
+///
+/// Weights are cut until no deadhead price is negative. Each price takes its part of the least rate of a tour, after which no tour is
+/// worth less than 0, and then, of what every tour through its edge is worth, the part of its demand in a vehicle's capacity.
+pub(crate) fn score(
+    alloc: Global,
+    town: &Town<'_>,
+    table: &mut Table,
+    actives: &[Active],
+    point: &Point,
+) -> Result<Option<Scored>, Memory>
+    requires town { IsTown town.now }
+    requires room { IsRoom town.now.inst.now table.old }
+    requires point { IsPoint town.now.inst.now point.now }
+    ensures room { IsRoom town.now.inst.now table.new }
+    ensures scored { IfOk result (λ found. IfSome found (λ scored. IsPoint town.now.inst.now scored.point)) }
+{
+    let inst = town.inst;
+    let weights = eased_weights(alloc, inst.edges(), actives, &point.weights)?;
+    let deadheads = deadhead_prices(alloc, inst, actives, &weights)?;
+    let dist = distances(alloc, inst, town.net, &deadheads)?;
+    table.fill(inst, &dist, UNIT, &point.prices, town.allowed);
+    let Some(rate) = table.least_rate() else {
+        return Ok(None);
+    };
+    let prices = paying_prices(alloc, inst, table, &point.prices, rate)?;
+    let cover = cover_of(alloc, inst, table, &dist, rate)?;
+    let value = value_of(actives, &prices, &weights);
+    Ok(Some(Scored {
+        point: Point { prices, weights },
+        value,
+        cover,
+    }))
+}
+
+// The prices that pay.
+fn paying_prices(
+    alloc: Global,
+    inst: &Instance,
+    table: &Table,
+    prices: &[i64],
+    rate: Rate,
+) -> Result<Vec<i64>, Memory>
+    requires filled { IsFilledOn inst.now table.now }
+    requires rate { IsRate rate }
+    ensures { IfOk result (λ paying. AreServicePrices inst.now paying.items) }
+{
+    // What a read of the instance says is needed: that it is valid.
+    let _ = inst.vertices();
+    let mut paying = Vec::with_capacity(alloc, inst.required() as usize)?;
+    for place in 0..inst.required() {
+        paying.push(paying_price(inst, table, prices, place + 1, rate))?;
+    }
+    Ok(paying)
+}
+
+// The price of an edge with its part of the rate, and of the excess of the tours through it, which counts by the load of the rate.
+fn paying_price(inst: &Instance, table: &Table, prices: &[i64], e: u32, rate: Rate) -> i64
+    requires filled { IsFilledOn inst.now table.now }
+    requires edge { IsRequired inst.now e }
+    requires rate { IsRate rate }
+    ensures { IsServicePrice result }
+{
+    let _ = inst.vertices();
+    let price = number_at(prices, e as usize - 1);
+    let excess = excess_over(inst, table, e, rate);
+    let demand = i128::from(inst.edge(e).demand);
+    let share = floor(rate.value.saturating_mul(demand), rate.load);
+    let spare = floor(excess.max(0), rate.load);
+    let more = floor(spare.saturating_mul(demand), inst.capacity());
+    held(i128::from(price).saturating_add(share).saturating_add(more))
+}
+
+// What the least tours serve and cross: the one through each edge counts by the edge's part of a vehicle, and what is left of the
+// demands is carried by a tour of the least rate.
+fn cover_of(
+    alloc: Global,
+    inst: &Instance,
+    table: &Table,
+    dist: &Distances,
+    rate: Rate,
+) -> Result<Cover, Memory>
+    requires filled { IsFilledOn inst.now table.now }
+    requires dist { dist.now.problem ≡ inst.now }
+    requires rate { IsRate rate }
+{
+    let mut cover = Cover::new(alloc, inst)?;
+    let mut left: u64 = 0;
+    for e in 1..inst.required() + 1 {
+        let room = add_tour_over(alloc, inst, table, dist, e, rate, &mut cover)?;
+        left = left.saturating_add(room);
+    }
+    if let Some(tour) = best_tour(alloc, inst, table)? {
+        let parts = left / load_of(inst, &tour).max(1);
+        cover.add_tour(alloc, inst, dist, &tour, parts.min(1 << 40) as i64)?;
+    }
+    Ok(cover)
+}
+
+// Adds the least tour through an edge, and answers the parts that it leaves of a vehicle's capacity.
+fn add_tour_over(
+    alloc: Global,
+    inst: &Instance,
+    table: &Table,
+    dist: &Distances,
+    e: u32,
+    rate: Rate,
+    cover: &mut Cover,
+) -> Result<u64, Memory>
+    requires filled { IsFilledOn inst.now table.now }
+    requires dist { dist.now.problem ≡ inst.now }
+    requires edge { IsRequired inst.now e }
+    requires rate { IsRate rate }
+{
+    let tour = tour_over(alloc, inst, table, e, rate)?;
+    let parts = parts_of(inst, e);
+    cover.add_tour(alloc, inst, dist, &tour, parts as i64)?;
+    let room = inst.capacity().saturating_sub(load_of(inst, &tour));
+    Ok(parts.saturating_mul(room))
+}
+
+// The part of a vehicle's capacity that an edge takes.
+fn parts_of(inst: &Instance, e: u32) -> u64
+    requires { IsRequired inst.now e }
+    ensures { result ≤ 1048576 }
+{
+    let _ = inst.vertices();
+    let whole = (PARTS as u64).saturating_mul(inst.edge(e).demand);
+    (whole / inst.capacity()).min(PARTS as u64)
+}
+
+// The sum of the prices, and of what the weights add.
+fn value_of(actives: &[Active], prices: &[i64], weights: &[i64]) -> i128 {
+    let mut value = sum_of(prices);
+    for place in 0..actives.len() {
+        value = value.saturating_add(actives[place].value(number_at(weights, place)));
+    }
+    value
+}
+
+fn sum_of(prices: &[i64]) -> i128 {
+    let mut sum: i128 = 0;
+    for price in prices {
+        sum = sum.saturating_add(i128::from(*price));
+    }
+    sum
+}

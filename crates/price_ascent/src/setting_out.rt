@@ -1,0 +1,131 @@
+// The points where an ascent begins.
+ghost use Rattle.std.specs.Prelude.{◌≡◌, ◌<◌, ◌≤◌, All, IfOk, length};
+ghost use Rattle.carp_base.specs.Problem.{IsRequired};
+ghost use Rattle.pricing_grid.specs.Pricing.{IsServicePrice};
+ghost use Rattle.price_ascent.specs.Points.{AreServicePrices, IsPoint, IsTown};
+
+use crate::numbers::{UNIT, floor, held, quotient};
+use crate::scoring::{Point, Town};
+use branch_rules::PriceSet;
+use carp_base::{Instance, Memory};
+use deadhead_paths::{Distances, cost_prices, distances};
+use std::alloc::Global;
+
+/// The numbers of a set by the denominator of the proposals: prices rounded down, and weights towards 0.
+pub(crate) fn start_point(alloc: Global, inst: &Instance, set: &PriceSet) -> Result<Point, Memory>
+    requires { length set.now.services ≡ inst.now.required }
+    ensures { IfOk result (IsPoint inst.now) }
+{
+    Ok(Point {
+        prices: start_prices(alloc, inst, set)?,
+        weights: start_weights(alloc, set)?,
+    })
+}
+
+fn start_prices(alloc: Global, inst: &Instance, set: &PriceSet) -> Result<Vec<i64>, Memory>
+    requires { length set.now.services ≡ inst.now.required }
+    ensures { IfOk result (λ prices. AreServicePrices inst.now prices.items) }
+{
+    let mut prices = Vec::with_capacity(alloc, inst.required() as usize)?;
+    for place in 0..inst.required() {
+        prices.push(start_price(set, place + 1))?;
+    }
+    Ok(prices)
+}
+
+fn start_price(set: &PriceSet, e: u32) -> i64
+    requires from_one { 1 ≤ e }
+    requires in_range { e ≤ length set.now.services }
+    ensures { IsServicePrice result }
+{
+    let whole = i128::from(set.service(e)).saturating_mul(i128::from(UNIT));
+    held(floor(whole, set.unit()))
+}
+
+fn start_weights(alloc: Global, set: &PriceSet) -> Result<Vec<i64>, Memory>
+    ensures { IfOk result (λ weights. All IsServicePrice weights.items) }
+{
+    let mut weights = Vec::with_capacity(alloc, set.weights())?;
+    for place in 0..set.weights() {
+        weights.push(start_weight(set, place))?;
+    }
+    Ok(weights)
+}
+
+fn start_weight(set: &PriceSet, place: usize) -> i64
+    requires { place < length set.now.weights }
+    ensures { IsServicePrice result }
+{
+    let whole = i128::from(set.weight(place).weight).saturating_mul(i128::from(UNIT));
+    held(quotient(whole, i128::from(set.unit())))
+}
+
+/// The point where an ascent sets out: half of the weights, and half of what each edge is to pay if full vehicles drive to it and
+/// back from it.
+pub(crate) fn first_point(alloc: Global, town: &Town<'_>, weights: &[i64]) -> Result<Point, Memory>
+    requires town { IsTown town.now }
+    requires weights { All IsServicePrice weights.now }
+    ensures { IfOk result (IsPoint town.now.inst.now) }
+{
+    let costs = cost_prices(alloc, town.inst)?;
+    let dist = distances(alloc, town.inst, town.net, &costs)?;
+    Ok(Point {
+        prices: first_prices(alloc, town.inst, &dist)?,
+        weights: halves(alloc, weights)?,
+    })
+}
+
+fn first_prices(alloc: Global, inst: &Instance, dist: &Distances) -> Result<Vec<i64>, Memory>
+    requires { dist.now.problem ≡ inst.now }
+    ensures { IfOk result (λ prices. AreServicePrices inst.now prices.items) }
+{
+    let mut prices = Vec::with_capacity(alloc, inst.required() as usize)?;
+    for place in 0..inst.required() {
+        prices.push(first_price(inst, dist, place + 1))?;
+    }
+    Ok(prices)
+}
+
+// The service cost, and half of the edge's part of a way to it and back without half of the edge itself.
+fn first_price(inst: &Instance, dist: &Distances, e: u32) -> i64
+    requires dist { dist.now.problem ≡ inst.now }
+    requires edge { IsRequired inst.now e }
+    ensures { IsServicePrice result }
+{
+    let _ = inst.vertices();
+    let edge = inst.edge(e);
+    let out = dist.get(inst.depot(), edge.u).unwrap_or(0);
+    let back = dist.get(edge.v, inst.depot()).unwrap_or(0);
+    let way = out.saturating_add(back).min(1 << 62) as i128;
+    let unit = i128::from(UNIT);
+    let share = floor(
+        way.saturating_mul(i128::from(edge.demand))
+            .saturating_mul(unit),
+        inst.capacity(),
+    );
+    let half = share.saturating_sub(unit.saturating_mul(i128::from(edge.cost)) / 2) / 2;
+    held(half.saturating_add(unit.saturating_mul(i128::from(edge.service))))
+}
+
+fn halves(alloc: Global, weights: &[i64]) -> Result<Vec<i64>, Memory>
+    requires { All IsServicePrice weights.now }
+    ensures { IfOk result (λ halves. All IsServicePrice halves.items) }
+{
+    let mut halves = Vec::with_capacity(alloc, weights.len())?;
+    for place in 0..weights.len() {
+        halves.push(half_of(weights[place]))?;
+    }
+    Ok(halves)
+}
+
+// Half of a weight; one below 0 stays.
+fn half_of(weight: i64) -> i64
+    requires { IsServicePrice weight }
+    ensures { IsServicePrice result }
+{
+    if weight < 0 {
+        weight
+    } else {
+        held(i128::from(weight) / 2)
+    }
+}
