@@ -6,9 +6,7 @@ ghost use Rattle.branch_rules.specs.Limits.{AreShoresIn, HasShoreOf, IsFineDecis
 use crate::{Branch, Decision, Node};
 use carp_base::{Instance, Memory, RawEdge};
 use cut_pool::{Shore, ShorePool};
-use std::alloc::Global;
-use std::process::Abort;
-use std::test::Fail;
+use std::{alloc::Global, process::Abort, test::Fail};
 use task_tours::{cost_distances, lawful_cost};
 
 // An edge whose service costs as much as a crossing.
@@ -179,7 +177,7 @@ fn state_of(
     })
 }
 
-// A row has decisions, then the allowed pairs, and then the state of the branch.
+// A row has decisions, then the allowed pairs, and then the state of the branch; a line is a row.
 fn expect_row(
     rt: &impl Abort,
     alloc: Global,
@@ -194,7 +192,6 @@ fn expect_row(
     Ok(())
 }
 
-// Such a row a line.
 pub(crate) fn expect_rows(
     rt: &impl Abort,
     alloc: Global,
@@ -358,7 +355,7 @@ fn may_stand(
     Ok(Some(branch.lean(alloc, inst, pool, node)?))
 }
 
-// A row has decisions, then a node, and then whether it may stand there.
+// A row has decisions, then a node, and then whether it may stand there; a line is a row.
 fn expect_node(
     rt: &impl Abort,
     alloc: Global,
@@ -374,7 +371,6 @@ fn expect_node(
     Ok(())
 }
 
-// Such a row a line.
 pub(crate) fn expect_nodes(
     rt: &impl Abort,
     alloc: Global,
