@@ -6,7 +6,9 @@ ghost use Rattle.branch_rules.specs.Limits.{AreShoresIn, HasShoreOf, IsFineDecis
 use crate::{Branch, Decision, Node};
 use carp_base::{Instance, Memory, RawEdge};
 use cut_pool::{Shore, ShorePool};
-use std::{alloc::Global, process::Abort, test::Fail};
+use std::alloc::Global;
+use std::process::Abort;
+use std::test::Fail;
 use task_tours::{cost_distances, lawful_cost};
 
 // An edge whose service costs as much as a crossing.

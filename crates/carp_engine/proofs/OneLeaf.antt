@@ -92,7 +92,10 @@ module _ (p : Problem) (valid : IsValid p) (plan : List (List Step)) (short : Is
   turns_of bound turns greatest is = elim (cases_eq bound (plan_cost p plan)) [
     | inl same ↦ inl (leaf_shows bound (plan_cost p plan) (subst (IsShown set.unit (plain_value p pool set)) same greatest.shown), is ∙ search rules)
     | inr other ↦
-        inr ((λ shows.
-        let most = greatest.greatest (plan_cost p plan) (omega arith) shows.2.above in
-        other (omega (arith, most, greatest.at_most))), is ∙ search rules)
+        inr (
+          (λ shows.
+              let most = greatest.greatest (plan_cost p plan) (omega arith) shows.2.above in
+              other (omega (arith, most, greatest.at_most))),
+          is ∙ search rules,
+        )
   ]

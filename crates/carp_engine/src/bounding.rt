@@ -3,8 +3,8 @@ ghost use Rattle.std.specs.Prelude.{◌≡◌, [], IfOk};
 ghost use Rattle.deadhead_paths.specs.Prices.{costs_of};
 ghost use Rattle.carp_engine.specs.Leaves.{IsRootSet};
 
-use carp_base::{Instance, Memory};
 use branch_rules::{Branch, PriceSet};
+use carp_base::{Instance, Memory};
 use cut_pool::ShorePool;
 use deadhead_paths::{Distances, least_prices_are_there};
 use dual_master::{floors, raise};

@@ -57,6 +57,6 @@ shore_is_fine p shore valid is belongs =
       vertices_in = λ k d below. record { from_first = (belongs.vertices k d below).from_one; to_last = omega (arith, (belongs.vertices k d below).in_range, valid.few_vertices) };
       rising = is.rising;
     } where
-  some : (xs : List ℕ) → xs ≢ [] → 1 ≤ length xs
-  some [] none = absurd (none refl)
-  some (x ∷ xs) none = omega arith
+      some : (xs : List ℕ) → xs ≢ [] → 1 ≤ length xs
+      some [] none = absurd (none refl)
+      some (x ∷ xs) none = omega arith

@@ -154,7 +154,9 @@ fn expect_raised(
     let mut pool = ShorePool::new(alloc);
     let start = floors(alloc, inst, &net, &dist, &mut table, &mut pool)?;
     let root = Branch::new(alloc);
-    let set = raise(alloc, inst, &net, &mut table, &mut pool, &root, &start, rounds)?;
+    let set = raise(
+        alloc, inst, &net, &mut table, &mut pool, &root, &start, rounds,
+    )?;
     let value = root.value_at(inst, &pool, &set);
     let whole = expected.saturating_mul(i128::from(set.unit()));
     assert_eq!(rt; value, Ok(whole));
