@@ -1,6 +1,7 @@
 -- A set over a pool that grew, and sets that are no lower.
-use Rattle.std.proofs.Common.{◌≡◌, ℕ, zero, suc, ◌+◌, ◌*◌, ◌≤◌, List, ◌++◌, length, sym, subst, ap, ◌∙◌, arith, ℤ, pos, negsuc, neg_ℤ, ◌+ℤ◌, ◌*ℤ◌, ◌≤ℤ◌, Result, Ok, Err, IfOk, All}
+use Rattle.std.proofs.Common.{◌≡◌, ℕ, zero, suc, ◌+◌, ◌*◌, ◌≤◌, List, ◌++◌, length, sym, subst, ap, ◌∙◌, arith, ℤ, pos, negsuc, neg_ℤ, ◌+ℤ◌, ◌*ℤ◌, ◌≤ℤ◌, Result, Ok, Err, IfOk, All, append_assoc, length-append, inl, inr}
 use Rattle.std.proofs.Math.Nat.{mul-le-mul_left}
+use Rattle.std.proofs.lemmas.Bool.{cases_lt}
 use Rattle.std.proofs.lemmas.Int.{ints}
 use Rattle.std.proofs.lemmas.List.Elements.{All-weaker}
 use Rattle.carp_base.specs.Problem.{Problem}
@@ -30,6 +31,54 @@ more_times n (negsuc v) (negsuc w) less =
     let more : n * suc w ≤ n * suc v = mul-le-mul_left n (omega (arith, ints, less)) in
     omega (arith, ints, more, neg_times n (suc v), neg_times n (suc w))
 
+times_neg : (n m : ℕ) → (pos n *ℤ neg_ℤ (pos m)) ≡ neg_ℤ (pos (n * m))
+times_neg n m = omega (arith, ints, neg_times n m)
+
+swap : (a b : ℕ) (v : ℤ) → (pos a *ℤ (pos b *ℤ v)) ≡ (pos b *ℤ (pos a *ℤ v))
+swap a b (pos n) = omega (arith, ints)
+swap a b (negsuc n) =
+    let same : a * (b * suc n) ≡ b * (a * suc n) = omega arith in
+    ap (λ (z : ℤ). pos a *ℤ z) (times_neg b (suc n)) ∙ times_neg a (b * suc n) ∙ ap (λ (k : ℕ). neg_ℤ (pos k)) same ∙ sym (times_neg b (a * suc n))
+    ∙ sym (ap (λ (z : ℤ). pos b *ℤ z) (times_neg a (suc n)))
+
+cancel : (b m n : ℕ) → 1 ≤ b → b * m ≤ b * n → m ≤ n
+cancel b m n some most = elim (cases_lt n m) [
+  | inl less ↦
+      let more : b * suc n ≤ b * m = mul-le-mul_left b (omega (arith, less)) in
+      absurd (omega (arith, more, most, some))
+  | inr within ↦ within
+]
+
+cancel_times : (u : ℕ) (v w : ℤ) → 1 ≤ u → (pos u *ℤ v) ≤ℤ (pos u *ℤ w) → v ≤ℤ w
+cancel_times u (pos v) (pos w) some less = let most = cancel u v w some (omega (arith, ints, less)) in omega (arith, ints, most)
+cancel_times u (pos v) (negsuc w) some less =
+    let low : u * 1 ≤ u * suc w = mul-le-mul_left u (omega arith) in
+    absurd (omega (arith, ints, less, neg_times u (suc w), low, some))
+cancel_times u (negsuc v) (pos w) some less = omega (arith, ints)
+cancel_times u (negsuc v) (negsuc w) some less =
+    let most = cancel u (suc w) (suc v) some (omega (arith, ints, less, neg_times u (suc v), neg_times u (suc w))) in omega (arith, ints, most)
+
+-- what is no lower than a set that is no lower is no lower
+pub no_lower_through : (p : Problem) (branch : List Decision) (pool middle after : List (List ℕ)) (start set raised : Prices) → 1 ≤ set.unit →
+    IsNoLower p branch pool start middle set → IsNoLower p branch middle set after raised → IsNoLower p branch pool start after raised
+no_lower_through p branch pool middle after start set raised some one other =
+    let v = value_of (rules_of p pool branch) start in
+    let w = value_of (rules_of p middle branch) set in
+    let z = value_of (rules_of p after branch) raised in
+    let first : (pos raised.unit *ℤ (pos set.unit *ℤ v)) ≤ℤ (pos raised.unit *ℤ (pos start.unit *ℤ w)) = more_times raised.unit (pos set.unit *ℤ v) (pos start.unit *ℤ w) one in
+    let second : (pos start.unit *ℤ (pos raised.unit *ℤ w)) ≤ℤ (pos start.unit *ℤ (pos set.unit *ℤ z)) = more_times start.unit (pos raised.unit *ℤ w) (pos set.unit *ℤ z) other in
+    let left = swap raised.unit set.unit v in
+    let middle' = swap raised.unit start.unit w in
+    let right = swap start.unit set.unit z in
+    cancel_times set.unit (pos raised.unit *ℤ v) (pos start.unit *ℤ z) some (omega (arith, ints, first, second, left, middle', right))
+
+pub grows_more : (pool middle after : List (List ℕ)) → IsGrown pool middle → IsGrown middle after → IsGrown pool after
+grows_more pool middle after one other =
+    record { more = one.more ++ other.more; added = other.added ∙ ap (λ (xs : List (List ℕ)). xs ++ other.more) one.added ∙ append_assoc pool one.more other.more }
+
+pub no_shorter : (pool after : List (List ℕ)) → IsGrown pool after → length pool ≤ length after
+no_shorter pool after grown = omega (arith, ap (λ (xs : List (List ℕ)). length xs) grown.added, length-append pool grown.more)
+
 -- a set that is worth no less than one that is no lower is no lower
 pub no_lower_then : (p : Problem) (branch : List Decision) (pool after : List (List ℕ)) (start set raised : Prices) → IsNoLower p branch pool start after set → set.unit ≡ raised.unit →
     value_of (rules_of p after branch) set ≤ℤ value_of (rules_of p after branch) raised → IsNoLower p branch pool start after raised
@@ -55,6 +104,10 @@ module _ (law : GrowthKeepsSets) (p : Problem) (branch : List Decision) (pool af
   -- no less than another set is no less than this set was
   pub no_lower_before : (other : Prices) → IsNoLower p branch after set after other → IsNoLower p branch pool set after other
   no_lower_before other no_lower = subst (λ (z : ℤ). (pos other.unit *ℤ z) ≤ℤ (pos set.unit *ℤ value_of (rules_of p after branch) other)) as_before.value no_lower
+
+  -- and what is no lower than this set now was no lower before
+  pub no_lower_since : (later : List (List ℕ)) (other : Prices) → IsNoLower p branch after set later other → IsNoLower p branch pool set later other
+  no_lower_since later other no_lower = subst (λ (z : ℤ). (pos other.unit *ℤ z) ≤ℤ (pos set.unit *ℤ value_of (rules_of p later branch) other)) as_before.value no_lower
 
   pub itself : IsNoLower p branch pool set after set
   itself = no_lower_before set (omega (arith, ints))

@@ -1,5 +1,5 @@
 // Price sets that are raised.
-ghost use Rattle.std.specs.Prelude.{◌≡◌, ◌*ℤ◌, ◌≤ℤ◌, pos, All, IfOk, IfSome, IsTrue, length};
+ghost use Rattle.std.specs.Prelude.{◌≡◌, ◌≤◌, ◌*ℤ◌, ◌≤ℤ◌, pos, All, IfOk, IfSome, IsTrue, length};
 ghost use Rattle.cut_pool.specs.Shores.{Belongs};
 ghost use Rattle.branch_rules.specs.Decisions.{rules_of};
 ghost use Rattle.branch_rules.specs.Laws.{FitsBranch};
@@ -18,6 +18,7 @@ use carp_base::{Instance, Memory};
 use cut_pool::ShorePool;
 use road_network::Network;
 use route_pricing::Table;
+use price_ascent::ascend;
 use shore_prices::shore_prices;
 use std::alloc::Global;
 use tight_prices::{fits, tighten};
@@ -27,7 +28,8 @@ use tight_prices::{fits, tighten};
 /// which some deadhead is needed (`tight_prices`).
 ///
 /// Where `rounds` is above 0, the linear program over shores is solved in up to so many rounds of search for shores that it leaves short
-/// (`shore_prices`), and its set is taken if it fits and is better. Shores with a weight are placed in the pool behind those that it
+/// (`shore_prices`), and its set is taken if it fits and is better; from the better one prices and weights ascend along relaxed tours in
+/// up to so many steps (`price_ascent`), and that set is taken in the same way. Shores with a weight are placed in the pool behind those that it
 /// held, while it holds fewer than 2,000.
 ///
 /// It asks for the network, for a table that was made for the instance, which it fills, for a branch whose pairs are of required edges,
@@ -58,7 +60,41 @@ pub fn raise(
 {
     growth_keeps_sets();
     let held = pool.len();
-    let better = better_set(alloc, inst, net, table, pool, branch, start, rounds)?;
+    let better = by_program(alloc, inst, net, table, pool, branch, start, rounds)?;
+    match better {
+        Some(set) => climb(alloc, inst, net, table, pool, branch, &set, rounds, held),
+        None => climb(alloc, inst, net, table, pool, branch, start, rounds, held),
+    }
+}
+
+// The same from a set that fits, by the ascent alone; the pass is over the first so many shores of the pool.
+fn climb(
+    alloc: Global,
+    inst: &Instance,
+    net: &Network,
+    table: &mut Table,
+    pool: &mut ShorePool,
+    branch: &Branch,
+    start: &PriceSet,
+    rounds: u32,
+    held: u32,
+) -> Result<PriceSet, Memory>
+    requires net { net.now ≡ inst.now }
+    requires room { IsRoom inst.now table.old }
+    requires pairs { ArePairsIn inst.now branch.now }
+    requires belong { All (Belongs inst.now) pool.old }
+    requires shores { All (λ w. IsShoreOf inst.now pool.old w.shore) start.now.weights }
+    requires fits { FitsBranch inst.now pool.old branch.now start.now }
+    requires held { held ≤ length pool.old }
+    ensures tight { IfOk result (IsTight inst.now pool.new held branch.now) }
+    ensures no_lower { IfOk result (IsNoLower inst.now branch.now pool.old start.now pool.new) }
+    ensures shores { IfOk result (λ set. All (λ w. IsShoreOf inst.now pool.new w.shore) set.weights) }
+    ensures grown { IsGrown pool.old pool.new }
+    ensures belong { All (Belongs inst.now) pool.new }
+    ensures room { IsRoom inst.now table.new }
+{
+    growth_keeps_sets();
+    let better = by_ascent(alloc, inst, net, table, pool, branch, start, rounds)?;
     match better {
         Some(set) => tighten(alloc, inst, net, table, pool, branch, &set, held),
         None => tighten(alloc, inst, net, table, pool, branch, start, held),
@@ -66,7 +102,7 @@ pub fn raise(
 }
 
 // The set that the program over shores proposes, where it fits and is better than the start.
-fn better_set(
+fn by_program(
     alloc: Global,
     inst: &Instance,
     net: &Network,
@@ -92,6 +128,43 @@ fn better_set(
         return Ok(None);
     }
     let offered = shore_prices(alloc, inst, net, pool, branch, rounds)?;
+    let pays = fits(alloc, inst, net, table, pool, branch, &offered)?;
+    if !pays {
+        return Ok(None);
+    }
+    if !is_better(inst, pool, branch, &offered, start) {
+        return Ok(None);
+    }
+    Ok(Some(offered))
+}
+
+// The set that the ascent proposes, where it fits and is better than the start.
+fn by_ascent(
+    alloc: Global,
+    inst: &Instance,
+    net: &Network,
+    table: &mut Table,
+    pool: &mut ShorePool,
+    branch: &Branch,
+    start: &PriceSet,
+    rounds: u32,
+) -> Result<Option<PriceSet>, Memory>
+    requires net { net.now ≡ inst.now }
+    requires room { IsRoom inst.now table.old }
+    requires pairs { ArePairsIn inst.now branch.now }
+    requires belong { All (Belongs inst.now) pool.old }
+    requires shores { All (λ w. IsShoreOf inst.now pool.old w.shore) start.now.weights }
+    requires fits { FitsBranch inst.now pool.old branch.now start.now }
+    ensures raised { IfOk result (λ better. IfSome better (IsRaised inst.now branch.now pool.old start.now pool.new)) }
+    ensures grown { IsGrown pool.old pool.new }
+    ensures belong { All (Belongs inst.now) pool.new }
+    ensures room { IsRoom inst.now table.new }
+{
+    growth_keeps_sets();
+    let found = ascend(alloc, inst, net, table, pool, branch, start, rounds)?;
+    let Some(offered) = found else {
+        return Ok(None);
+    };
     let pays = fits(alloc, inst, net, table, pool, branch, &offered)?;
     if !pays {
         return Ok(None);

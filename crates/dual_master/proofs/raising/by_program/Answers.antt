@@ -1,6 +1,6 @@
 use Rattle.std.proofs.Common.{rules}
 use Rattle.dual_master.proofs.Raised.{no_lower_before, still_fits, still_there}
-use Rattle.dual_master.proofs.raising.better_set.Goals as goal
+use Rattle.dual_master.proofs.raising.by_program.Goals as goal
 
 pub is_better-requires-clause-other_fits : goal.is_better-requires-clause-other_fits
 is_better-requires-clause-other_fits c =
