@@ -27,7 +27,7 @@ const MOST_FILLS: u32 = 400;
 const LEAST_FILLS: u64 = 60;
 
 // So much work, by the count of steps of fills, is allowed.
-const WORK: u64 = 1_500_000_000;
+const WORK: u64 = 1_650_000_000;
 
 /// Proposes a price set under a branch by an ascent from a start; `None` where no edge is required, where `rounds` is 0, or where the
 /// instance is so large that 60 fills of the table pass a measure of work. Of its value nothing is said, nor that it fits; but it has
@@ -82,7 +82,11 @@ fn fills_for(inst: &Instance, rounds: u32) -> u32 {
     let ends = u64::from(inst.vertices()).min(u64::from(inst.required()).saturating_mul(2));
     let labels = ends.saturating_mul(ends).saturating_mul(2);
     let streets = u64::from(inst.edge_count()).saturating_mul(48);
-    let fill = labels.min(streets).saturating_mul(inst.capacity());
+    let tasks = u64::from(inst.required()).saturating_mul(8);
+    let fill = labels
+        .min(streets)
+        .saturating_add(tasks)
+        .saturating_mul(inst.capacity());
     let affordable = WORK / fill.max(1);
     if inst.required() == 0 || affordable < LEAST_FILLS {
         0
