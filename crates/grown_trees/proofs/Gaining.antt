@@ -1,21 +1,17 @@
--- A support that gains price sets, and what of a tree it leaves as it was.
-use Rattle.std.proofs.Common.{◌≡◌, ℕ, zero, suc, ◌-◌, ◌≤◌, List, [], ◌∷◌, ◌++◌, length, refl, sym, subst, arith, inl, inr, length-append}
-use Rattle.std.specs.List.{AllByRecursion}
+-- A support that gains price sets leaves each node sound.
+use Rattle.std.proofs.Common.{◌≡◌, ℕ, zero, suc, ◌<◌, ◌≤◌, ◌↔◌, List, ◌++◌, length, refl, sym, subst, arith, pos, ◌*ℤ◌, ◌≤ℤ◌, length-append}
 use Rattle.std.proofs.lemmas.List.{get_or_append_left}
-use Rattle.std.proofs.lemmas.List.Elements.{All-weaker, recursion_from_All}
 use Rattle.decision_chains.specs.declared.decision.Decision.{Decision}
-use Rattle.decision_chains.specs.declared.decision.Decision.TheVariants.{Yes, No, Low, High}
 use Rattle.branch_rules.specs.declared.node.Node.{Node}
 use Rattle.branch_rules.specs.declared.node.Node.TheVariants as nodes
+use Rattle.branch_rules.specs.Decisions.{rules_of}
 use Rattle.branch_rules.specs.Laws.{FitsBranch}
-use Rattle.branch_rules.specs.Prices.{Prices}
-use Rattle.branch_rules.specs.Trees.{Tree, pair, cut, price, void, fixed, Support, no_prices, set_at, PricesShow, PriceShows, FixedShows, Shows, IsLean, HasTurns, IsTest}
-use Rattle.grown_trees.specs.Stands.{stands, NodeFits, IsFitStand, PricesFit, NodeShows, IsShownStand, with_sets}
-use Rattle.grown_trees.proofs.Eaches.{part_all, shows_each}
-
-pub same_test : (P Q : Type 0) (n : ℕ) → (P → Q) → (Q → P) → IsTest P n → IsTest Q n
-same_test P Q n to from (inl holds) = inl (to holds.0, holds.1)
-same_test P Q n to from (inr fails) = inr ((λ q. fails.0 (from q)), fails.1)
+use Rattle.branch_rules.specs.Prices.{Prices, value_of}
+use Rattle.branch_rules.specs.Trees.{Tree, Support, no_prices, set_at, PricesShow, PriceShows, FixedShows}
+use Rattle.grown_trees.specs.Growth.{Fraction, IsSpelledNode, NodeReaches, IsSoundNode, AreSound}
+use Rattle.grown_trees.specs.Stands.{Stand, stands, NodeFits, NodeShows, with_sets}
+use Rattle.grown_trees.specs.declared.growing.GrowingNode.{GrowingNode}
+use Rattle.grown_trees.proofs.Sound.{all_sound}
 
 module _ (c : Support) (more : List Prices) where
   set_more : (k : ℕ) → k ≤ length c.sets → set_at (with_sets c more) k ≡ set_at c k
@@ -41,47 +37,54 @@ module _ (c : Support) (more : List Prices) where
   fixed_from : (branch : List Decision) (bound : ℕ) → FixedShows (with_sets c more) branch bound → FixedShows c branch bound
   fixed_from branch bound shown = record { settled = shown.settled; value = shown.value; fixed = shown.fixed; enough = shown.enough }
 
-  pub lean_more : (branch : List Decision) (cuts : ℕ) (tree : Tree) → IsLean c branch cuts tree → IsLean (with_sets c more) branch cuts tree
-  lean_more branch cuts (pair a b t u) lean = (lean.0, lean_more (branch ++ Yes a b ∷ []) cuts t lean.1, lean_more (branch ++ No a b ∷ []) cuts u lean.2)
-  lean_more branch cuts (cut shore k t u) lean = (lean.0, lean_more (branch ++ Low shore k ∷ []) (cuts - 1) t lean.1, lean_more (branch ++ High shore k ∷ []) (cuts - 1) u lean.2)
-  lean_more branch cuts (price set) lean = tt
-  lean_more branch cuts void lean = tt
-  lean_more branch cuts fixed lean = tt
-
-  node_fits : (branch : List Decision) (node : Node) → NodeFits c branch node → NodeFits (with_sets c more) branch node
-  node_fits branch (nodes.Pair a b) fits = tt
-  node_fits branch (nodes.Cut shore k) fits = tt
-  node_fits branch (nodes.Price k) fits =
+  fits_more : (branch : List Decision) (node : Node) → NodeFits c branch node → NodeFits (with_sets c more) branch node
+  fits_more branch (nodes.Pair a b) fits = tt
+  fits_more branch (nodes.Cut shore k) fits = tt
+  fits_more branch (nodes.Price k) fits =
       (fits.0, most_more k fits.1, subst (λ (set : Prices). FitsBranch c.problem c.pool branch set) (sym (set_more k fits.1)) fits.2)
-  node_fits branch nodes.Void fits = tt
-  node_fits branch nodes.Fixed fits = tt
+  fits_more branch nodes.Void fits = tt
+  fits_more branch nodes.Fixed fits = tt
 
-  pub fits_more : (branch : List Decision) (tree : Tree) → PricesFit c branch tree → PricesFit (with_sets c more) branch tree
-  fits_more branch tree fits = All-weaker (IsFitStand c) (IsFitStand (with_sets c more)) (λ s here. node_fits s.branch s.node here) (stands branch tree) fits
+  spelled_more : (node : Node) → IsSpelledNode (length c.sets) node → IsSpelledNode (length (c.sets ++ more)) node
+  spelled_more (nodes.Pair a b) spelled = spelled
+  spelled_more (nodes.Cut shore k) spelled = spelled
+  spelled_more (nodes.Price k) spelled = (spelled.0, most_more k spelled.1)
+  spelled_more nodes.Void spelled = tt
+  spelled_more nodes.Fixed spelled = tt
 
-  node_shows : (branch : List Decision) (bound : ℕ) (node : Node) → NodeShows c bound branch node → NodeShows (with_sets c more) bound branch node
-  node_shows branch bound (nodes.Pair a b) shown = tt
-  node_shows branch bound (nodes.Cut shore k) shown = tt
-  node_shows branch bound (nodes.Price k) shown = price_to branch bound k shown
-  node_shows branch bound nodes.Void shown = shown
-  node_shows branch bound nodes.Fixed shown = fixed_to branch bound shown
+  reaches_more : (base : Fraction) (branch : List Decision) (node : Node) → NodeFits c branch node → NodeReaches c base branch node → NodeReaches (with_sets c more) base branch node
+  reaches_more base branch (nodes.Pair a b) fits reaches = tt
+  reaches_more base branch (nodes.Cut shore k) fits reaches = tt
+  reaches_more base branch (nodes.Price k) fits reaches =
+      subst (λ (set : Prices). (pos set.unit *ℤ base.value) ≤ℤ (pos base.unit *ℤ value_of (rules_of c.problem c.pool branch) set)) (sym (set_more k fits.1)) reaches
+  reaches_more base branch nodes.Void fits reaches = tt
+  reaches_more base branch nodes.Fixed fits reaches = tt
 
-  pub shows_more : (branch : List Decision) (bound : ℕ) (tree : Tree) → Shows c branch bound tree → Shows (with_sets c more) branch bound tree
-  shows_more branch bound tree shown =
-      (shows_each (with_sets c more) branch bound tree).1
-      (All-weaker (IsShownStand c bound) (IsShownStand (with_sets c more) bound) (λ s here. node_shows s.branch bound s.node here) (stands branch tree) ((shows_each c branch bound tree).0 shown))
+  shows_more : (bound : ℕ) (branch : List Decision) (node : Node) → NodeFits c branch node → NodeShows (with_sets c more) bound branch node ↔ NodeShows c bound branch node
+  shows_more bound branch (nodes.Pair a b) fits = ((λ shown. tt), (λ shown. tt))
+  shows_more bound branch (nodes.Cut shore k) fits = ((λ shown. tt), (λ shown. tt))
+  shows_more bound branch (nodes.Price k) fits = (price_from branch bound k fits.1, price_to branch bound k)
+  shows_more bound branch nodes.Void fits = ((λ shown. shown), (λ shown. shown))
+  shows_more bound branch nodes.Fixed fits = (fixed_from branch bound, fixed_to branch bound)
 
-  turns_with : (branch : List Decision) (cost : ℕ) (tree : Tree) (n : ℕ) → AllByRecursion (IsFitStand c) (stands branch tree) → HasTurns c branch cost tree n → HasTurns (with_sets c more) branch cost tree n
-  turns_with branch cost (pair a b t u) n fits turns =
-      let parts = part_all (IsFitStand c) (stands (branch ++ Yes a b ∷ []) t) (stands (branch ++ No a b ∷ []) u) fits.1 in
-      (turns.0, turns.1, turns_with (branch ++ Yes a b ∷ []) cost t turns.0 parts.0 turns.2, turns_with (branch ++ No a b ∷ []) cost u turns.1 parts.1 turns.3, turns.4)
-  turns_with branch cost (cut shore k t u) n fits turns =
-      let parts = part_all (IsFitStand c) (stands (branch ++ Low shore k ∷ []) t) (stands (branch ++ High shore k ∷ []) u) fits.1 in
-      (turns.0, turns.1, turns_with (branch ++ Low shore k ∷ []) cost t turns.0 parts.0 turns.2, turns_with (branch ++ High shore k ∷ []) cost u turns.1 parts.1 turns.3, turns.4)
-  turns_with branch cost (price k) n fits turns =
-      same_test (PriceShows c branch cost k) (PriceShows (with_sets c more) branch cost k) n (price_to branch cost k) (price_from branch cost k fits.0.1) turns
-  turns_with branch cost void n fits turns = turns
-  turns_with branch cost fixed n fits turns = same_test (FixedShows c branch cost) (FixedShows (with_sets c more) branch cost) n (fixed_to branch cost) (fixed_from branch cost) turns
+  node_sound : (base : Fraction) (s : Stand) (e : GrowingNode) → IsSoundNode c base s e → IsSoundNode (with_sets c more) base s e
+  node_sound base s e sound = record {
+    same = sound.same;
+    pairs = sound.pairs;
+    shores = sound.shores;
+    inside = sound.inside;
+    fine = sound.fine;
+    spelled = spelled_more s.node sound.spelled;
+    lean = sound.lean;
+    fits = fits_more s.branch s.node sound.fits;
+    reaches = reaches_more base s.branch s.node sound.fits sound.reaches;
+    shows = λ bound few. (
+      (λ shown. (sound.shows bound few).0 ((shows_more bound s.branch s.node sound.fits).0 shown)),
+      (λ less. (shows_more bound s.branch s.node sound.fits).1 ((sound.shows bound few).1 less)),
+    );
+    enough = sound.enough;
+  }
 
-  pub turns_more : (branch : List Decision) (cost : ℕ) (tree : Tree) (n : ℕ) → PricesFit c branch tree → HasTurns c branch cost tree n → HasTurns (with_sets c more) branch cost tree n
-  turns_more branch cost tree n fits turns = turns_with branch cost tree n (recursion_from_All (IsFitStand c) (stands branch tree) fits) turns
+pub sound_more : (c : Support) (base : Fraction) (more : List Prices) (branch : List Decision) (tree : Tree) (entries : List GrowingNode) →
+    AreSound c base (stands branch tree) entries → AreSound (with_sets c more) base (stands branch tree) entries
+sound_more c base more branch tree entries sound = all_sound c (with_sets c more) base (node_sound c more base) (stands branch tree) entries sound

@@ -1,9 +1,9 @@
 pub mod Halves
-pub mod Telling
-pub mod Growing
+pub mod Standing
 pub mod Eaches
-pub mod Adding
 pub mod Reading
-pub mod Deciding
 pub mod Gaining
 pub mod Widening
+pub mod Sound
+pub mod Leasts
+pub mod Keeping

@@ -1,9 +1,9 @@
 -- The nodes before a place, read backward, tell the way to it.
-use Rattle.std.proofs.Common.{◌≡◌, ℕ, zero, suc, ◌-◌, ◌≤◌, ◌<◌, List, [], ◌∷◌, ◌++◌, length, take, reverse, refl, sym, ap, ◌∙◌, subst, arith, inl, inr, append_assoc, append-nil}
+use Rattle.std.proofs.Common.{◌≡◌, ℕ, zero, suc, ◌-◌, ◌≤◌, ◌<◌, List, [], ◌∷◌, ◌++◌, length, map, take, reverse, refl, sym, ap, ◌∙◌, subst, arith, inl, inr, append_assoc, append-nil}
 use Rattle.std.specs.List.{All, AllByRecursion}
 use Rattle.std.proofs.lemmas.Bool.{cases_lt, lt-ltb, le-ltb}
-use Rattle.std.proofs.lemmas.List.{reverse-append, length-reverse, get_or-reverse}
-use Rattle.std.proofs.lemmas.List.Elements.{All-nil, All-push, All-take, All-same, recursion_from_All}
+use Rattle.std.proofs.lemmas.List.{reverse-append, length-reverse, get_or-reverse, length-map, take-map}
+use Rattle.std.proofs.lemmas.List.Elements.{All-nil, All-push, All-take, All-same, All-map, recursion_from_All}
 use Rattle.decision_chains.specs.declared.decision.Decision.{Decision}
 use Rattle.decision_chains.specs.declared.decision.Decision.TheVariants.{Yes, No, Low, High}
 use Rattle.branch_rules.specs.Limits.{IsFineDecision}
@@ -11,9 +11,10 @@ use Rattle.branch_rules.specs.declared.node.Node.{Node}
 use Rattle.branch_rules.specs.declared.node.Node.TheVariants as nodes
 use Rattle.branch_rules.specs.Trees.{Tree, pair, cut, price, void, fixed, preorder}
 use Rattle.grown_trees.specs.Places.{size_of, branch_to, IsFineNode}
+use Rattle.grown_trees.specs.declared.growing.GrowingNode.{GrowingNode}
 use Rattle.grown_trees.specs.Backward.{Found, split_read, node_read, all_read}
 use Rattle.grown_trees.proofs.Halves.{take_first, take_second}
-use Rattle.grown_trees.proofs.Growing.{inside_second}
+use Rattle.grown_trees.proofs.Standing.{inside_second}
 
 -- with one more whole subtree
 abbrev more : Found → Found
@@ -95,7 +96,7 @@ leads_to branch fixed zero inside = leads_here branch
 leads_to branch fixed (suc k) inside = absurd (omega (arith, inside))
 
 -- what was found before a place, turned, is the branch to it
-pub found_way : (nodes : List Node) (place : ℕ) → place < length nodes → (tree : Tree) → preorder tree ≡ nodes → reverse (all_read (take place nodes)).decisions ≡ branch_to [] tree place
+found_way : (nodes : List Node) (place : ℕ) → place < length nodes → (tree : Tree) → preorder tree ≡ nodes → reverse (all_read (take place nodes)).decisions ≡ branch_to [] tree place
 found_way nodes place less tree is =
     ap (λ (xs : List Node). reverse (all_read (take place xs)).decisions) (sym is) ∙ sym (leads_to [] tree place (omega (arith, less, ap length is))).way
 
@@ -119,7 +120,7 @@ split_fine ds zero first second fine here other = All-push IsFineDecision ds fir
 split_fine ds (suc zero) first second fine here other = All-push IsFineDecision ds second fine other
 split_fine ds (suc (suc n)) first second fine here other = fine
 
-pub read_fine : (xs : List Node) → AllByRecursion IsFineNode xs → All IsFineDecision (all_read xs).decisions
+read_fine : (xs : List Node) → AllByRecursion IsFineNode xs → All IsFineDecision (all_read xs).decisions
 read_fine [] fine = All-nil IsFineDecision
 read_fine (nodes.Pair a b ∷ xs) fine = split_fine (all_read xs).decisions (all_read xs).whole (Yes a b) (No a b) (read_fine xs fine.1) tt tt
 read_fine (nodes.Cut shore k ∷ xs) fine = split_fine (all_read xs).decisions (all_read xs).whole (Low shore k) (High shore k) (read_fine xs fine.1) fine.0 fine.0
@@ -133,7 +134,25 @@ fine_turned ds fine = λ k d less.
     subst IsFineDecision (sym (get_or-reverse ds k d inside)) (fine (length ds - 1 - k) d (omega (arith, inside)))
 
 -- the branch that was found has fine decisions
-pub found_fine : (nodes : List Node) (place : ℕ) (ds : List Decision) → ds ≡ reverse (all_read (take place nodes)).decisions → All IsFineNode nodes → All IsFineDecision ds
+found_fine : (nodes : List Node) (place : ℕ) (ds : List Decision) → ds ≡ reverse (all_read (take place nodes)).decisions → All IsFineNode nodes → All IsFineDecision ds
 found_fine nodes place ds is fine =
     All-same IsFineDecision ds (reverse (all_read (take place nodes)).decisions) is
     (fine_turned (all_read (take place nodes)).decisions (read_fine (take place nodes) (recursion_from_All IsFineNode (take place nodes) (All-take IsFineNode place nodes fine))))
+
+-- The same of entries, each with its node.
+
+entries_before : (entries : List GrowingNode) (place : ℕ) → map (λ (entry : GrowingNode). entry.node) (take place entries) ≡ take place (map (λ (entry : GrowingNode). entry.node) entries)
+entries_before entries place = sym (take-map (λ (entry : GrowingNode). entry.node) place entries)
+
+pub entries_way : (entries : List GrowingNode) (place : ℕ) → place < length entries → (tree : Tree) → preorder tree ≡ map (λ (entry : GrowingNode). entry.node) entries →
+    reverse (all_read (map (λ (entry : GrowingNode). entry.node) (take place entries))).decisions ≡ branch_to [] tree place
+entries_way entries place less tree is =
+    let node_of = λ (entry : GrowingNode). entry.node in
+    ap (λ (xs : List Node). reverse (all_read xs).decisions) (entries_before entries place)
+    ∙ found_way (map node_of entries) place (omega (arith, less, length-map entries node_of)) tree is
+
+pub entries_fine : (entries : List GrowingNode) (place : ℕ) (ds : List Decision) → ds ≡ reverse (all_read (map (λ (entry : GrowingNode). entry.node) (take place entries))).decisions →
+    All (λ (entry : GrowingNode). IsFineNode entry.node) entries → All IsFineDecision ds
+entries_fine entries place ds is fine =
+    let node_of = λ (entry : GrowingNode). entry.node in
+    found_fine (map node_of entries) place ds (is ∙ ap (λ (xs : List Node). reverse (all_read xs).decisions) (entries_before entries place)) (All-map IsFineNode node_of entries fine)

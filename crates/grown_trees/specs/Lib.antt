@@ -1,5 +1,6 @@
 pub mod Places
 pub mod Stands
+pub mod Growth
 pub mod Laws
 pub mod Backward
 pub mod Examples

@@ -1,7 +1,6 @@
 -- What is true of a tree where something is true of each of its nodes, under the decisions on the way to it.
-use Rattle.std.specs.Prelude.{◌≡◌, ℕ, ◌+◌, ◌-◌, ◌≤◌, List, [], ◌∷◌, ◌++◌, length}
+use Rattle.std.specs.Prelude.{ℕ, ◌-◌, ◌≤◌, List, [], ◌∷◌, ◌++◌, length}
 use Rattle.std.specs.List.{All}
-use Rattle.carp_base.specs.Problem.{Problem, IsRequired}
 use Rattle.cut_pool.specs.Pools.{IsShoreNumber}
 use Rattle.decision_chains.specs.declared.decision.Decision.{Decision}
 use Rattle.decision_chains.specs.declared.decision.Decision.TheVariants.{Yes, No, Low, High}
@@ -10,7 +9,7 @@ use Rattle.branch_rules.specs.Laws.{FitsBranch}
 use Rattle.branch_rules.specs.Prices.{Prices}
 use Rattle.branch_rules.specs.declared.node.Node.{Node}
 use Rattle.branch_rules.specs.declared.node.Node.TheVariants as nodes
-use Rattle.branch_rules.specs.Trees.{Tree, pair, cut, price, void, fixed, Support, set_at, PriceShows, FixedShows, IsLeanNode, IsTest}
+use Rattle.branch_rules.specs.Trees.{Tree, pair, cut, price, void, fixed, Support, set_at, PriceShows, FixedShows, IsLeanNode}
 
 -- a node, and the decisions on the way to it
 pub record Stand : Type 0 where
@@ -42,27 +41,6 @@ NodeShows c bound branch nodes.Fixed = FixedShows c branch bound
 -- the same, of a node where it stands
 abbrev pub IsShownStand : Support → (bound : ℕ) → Stand → Type 0
 IsShownStand c bound s = NodeShows c bound s.branch s.node
-
--- a node alone makes so many turns for a cost: an inner node 1, a leaf 1 where it shows the cost by itself, and 0 otherwise
-abbrev pub NodeTurns : Support → (cost : ℕ) → List Decision → Node → ℕ → Type 0
-NodeTurns c cost branch (nodes.Pair a b) n = n ≡ 1
-NodeTurns c cost branch (nodes.Cut shore k) n = n ≡ 1
-NodeTurns c cost branch (nodes.Price set) n = IsTest (PriceShows c branch cost set) n
-NodeTurns c cost branch nodes.Void n = IsTest (IsVoid c.problem c.pool branch) n
-NodeTurns c cost branch nodes.Fixed n = IsTest (FixedShows c branch cost) n
-
--- the turns of nodes add up to n
-abbrev pub TurnsAdd : Support → (cost : ℕ) → List Stand → ℕ → Type 0
-TurnsAdd c cost [] n = n ≡ 0
-TurnsAdd c cost (s ∷ rest) n = (i j : ℕ) × NodeTurns c cost s.branch s.node i × TurnsAdd c cost rest j × (n ≡ i + j)
-
--- the pair of a node is of required edges
-abbrev pub HasRequiredPair : Problem → Node → Type 0
-HasRequiredPair p (nodes.Pair a b) = IsRequired p a × IsRequired p b
-HasRequiredPair p (nodes.Cut shore k) = Unit {0}
-HasRequiredPair p (nodes.Price set) = Unit {0}
-HasRequiredPair p nodes.Void = Unit {0}
-HasRequiredPair p nodes.Fixed = Unit {0}
 
 -- a price leaf names a set that fits under the decisions on the way to it
 abbrev pub NodeFits : Support → List Decision → Node → Type 0

@@ -1,15 +1,16 @@
 // Small data on which a fact that no call decides holds, and on which it does not.
-ghost use Rattle.std.specs.Prelude.{◌≡◌, [], ◌∷◌};
-ghost use Rattle.carp_base.specs.Problem.{IsRequired};
+ghost use Rattle.std.specs.Prelude.{◌≡◌, true, false, [], ◌∷◌};
 ghost use Rattle.cut_pool.specs.Examples.{in_a_row};
 ghost use Rattle.deadhead_paths.specs.Examples.{town};
 ghost use Rattle.decision_chains.specs.declared.decision.Decision.TheVariants.{High, Low, No, Yes};
 ghost use Rattle.branch_rules.specs.declared.node.Node.TheVariants.{Cut, Fixed, Pair, Price, Void};
 ghost use Rattle.branch_rules.specs.Examples.{heavy_prices, town_pool, town_prices, town_support};
 ghost use Rattle.branch_rules.specs.Trees.{cut, fixed, pair, price, void};
-ghost use Rattle.grown_trees.specs.Examples.{high_tree, low_tree};
+ghost use Rattle.grown_trees.specs.Examples.{cut_entry, cut_root, entries_showing, high_tree, low_tree, price_entry, whole};
+ghost use Rattle.grown_trees.specs.Growth.{AreSound, IsLeastOpen, IsSoundNode, NodeReaches, ShowsUpTo, shows_just, turns_in};
+ghost use Rattle.grown_trees.specs.Laws.{IsKept, IsOpenDecision};
 ghost use Rattle.grown_trees.specs.Places.{IsFineNode, IsLeaf, IsLeafAt, branch_to, grown, size_of};
-ghost use Rattle.grown_trees.specs.Stands.{HasRequiredPair, HoldsShores, IsLeanStand, IsShownStand, NodeFits, NodeTurns, PricesFit, TurnsAdd, stands, with_sets, with_shores};
+ghost use Rattle.grown_trees.specs.Stands.{HoldsShores, IsLeanStand, IsShownStand, NodeFits, PricesFit, stands, with_sets, with_shores};
 
 fn places_of_a_tree()
     ensures size { size_of low_tree ≡ 5 }
@@ -59,10 +60,47 @@ fn facts_on_nodes()
     ensures one_is_left { IsLeanStand town_support 2 (record { branch = High 1 0 ∷ []; node = Cut 1 5 }) }
     ensures inner_shows { IsShownStand town_support 7 (record { branch = []; node = Pair 1 2 }) }
     ensures none_shows { ¬ (IsShownStand town_support 7 (record { branch = []; node = Price 0 })) }
-    ensures inner_turns { NodeTurns town_support 7 [] (Pair 1 2) 1 }
-    ensures no_turns { NodeTurns town_support 7 [] (Price 0) 0 }
-    ensures not_one { ¬ (NodeTurns town_support 7 [] (Price 0) 1) }
-    ensures turns { TurnsAdd town_support 7 (stands [] (pair 1 2 (price 0) (price 0))) 1 }
-    ensures required { HasRequiredPair (in_a_row 2) (Pair 1 2) }
-    ensures not_required { ¬ (HasRequiredPair (in_a_row 2) (Pair 1 3)) }
+{}
+
+fn turns_of_entries()
+    ensures two { turns_in 3 (entries_showing 3 1) ≡ 2 }
+    ensures each { turns_in 1 (entries_showing 3 1) ≡ 3 }
+    ensures just { shows_just 3 (price_entry 1 3) ≡ true }
+    ensures not_just { shows_just 3 (price_entry 1 4) ≡ false }
+{}
+
+fn the_leaf_that_shows_least()
+    ensures last { IsLeastOpen 4 (entries_showing 3 1) 2 }
+    ensures first_of_two { IsLeastOpen 4 (entries_showing 3 3) 1 }
+    ensures not_the_first { ¬ (IsLeastOpen 4 (entries_showing 3 3) 2) }
+    ensures not_the_least { ¬ (IsLeastOpen 4 (entries_showing 3 1) 1) }
+    ensures shown { ¬ (IsLeastOpen 1 (entries_showing 3 1) 2) }
+    ensures no_place { ¬ (IsLeastOpen 4 (entries_showing 3 1) 3) }
+{}
+
+fn what_a_node_shows()
+    ensures inner { ShowsUpTo town_support (cut_root 1) 999999999999999999 }
+    ensures inner_shows_more { ¬ (ShowsUpTo town_support (cut_root 1) 5) }
+    ensures no_set { ¬ (ShowsUpTo town_support (record { branch = []; node = Price 0 }) 5) }
+    ensures reaches { NodeReaches town_support (whole 12) [] (Price 1) }
+    ensures not_reached { ¬ (NodeReaches town_support (whole 13) [] (Price 1)) }
+    ensures no_leaf { NodeReaches town_support (whole 13) [] (Cut 1 1) }
+{}
+
+fn sound_nodes()
+    ensures cut { IsSoundNode town_support (whole 12) (cut_root 1) (cut_entry 1 999999999999999999) }
+    ensures below_its_number { ¬ (IsSoundNode town_support (whole 12) (cut_root 0) (cut_entry 0 999999999999999999)) }
+    ensures shows_more { ¬ (IsSoundNode town_support (whole 12) (cut_root 1) (cut_entry 1 5)) }
+    ensures another { ¬ (IsSoundNode town_support (whole 12) (cut_root 1) (cut_entry 2 999999999999999999)) }
+    ensures one { AreSound town_support (whole 12) (cut_root 1 ∷ []) (cut_entry 1 999999999999999999 ∷ []) }
+    ensures none { AreSound town_support (whole 12) [] [] }
+    ensures one_too_many { ¬ (AreSound town_support (whole 12) [] (cut_entry 1 999999999999999999 ∷ [])) }
+    ensures one_too_few { ¬ (AreSound town_support (whole 12) (cut_root 1 ∷ []) []) }
+{}
+
+fn decisions_that_may_be_added()
+    ensures cut { IsOpenDecision town [] (Low 1 0) }
+    ensures one_edge { ¬ (IsOpenDecision (in_a_row 2) [] (Yes 1 1)) }
+    ensures said { ¬ (IsOpenDecision (in_a_row 2) (No 1 2 ∷ []) (No 2 1)) }
+    ensures not_fit { ¬ (IsKept town town_pool [] (Low 1 0) heavy_prices) }
 {}

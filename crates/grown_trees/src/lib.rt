@@ -1,23 +1,23 @@
 //! Trees of decisions that grow at their leaves.
 //!
-//! A search holds the nodes of its tree in preorder, takes a leaf, and puts an inner node with two leaves, or another leaf, in its
-//! place. [`branch_to`] gives the decisions on the way to a node of such a list. The laws say what becomes of a tree that grows so:
-//! its nodes and the decisions on the way to each of them ([`grown_trees_keep_their_nodes`]), whether it is lean
-//! ([`grown_trees_stay_lean`]), the number of its turns ([`turns_of_grown_trees`]), and what its leaves show
-//! ([`trees_show_by_their_leaves`]); and what more price sets and more shores leave as it was ([`more_sets_keep_trees`],
-//! [`more_shores_keep_trees`]).
+//! A search holds the nodes of its tree in preorder, each with the greatest bound that it shows by itself ([`GrowingTree`]). It takes
+//! the leaf that shows least, and puts an inner node with two leaves, or another leaf, in its place. Its nodes stay sound where each
+//! new one is sound under the decisions on the way to it ([`grown_trees_stay_sound`]), and where the support gains price sets or shores
+//! ([`more_support_keeps_trees_sound`]). A tree of sound nodes is lean, and shows what each of its nodes shows
+//! ([`sound_trees_are_lean`]). A price set that fits under a branch fits under it with one more decision ([`decisions_keep_sets`]), so
+//! that the two leaves of a split may name the set of the leaf that was split.
 #![tactic(auto)]
 
 #[cfg(test)]
 mod examples;
+mod growing;
 mod laws;
 #[cfg(test)]
 mod tests;
 mod way;
 
+pub use growing::{GrowingNode, GrowingTree};
 pub use laws::{
-    branches_are_of_their_nodes, grown_trees_keep_their_nodes, grown_trees_stay_lean,
-    more_sets_keep_trees, more_shores_keep_trees, preorders_tell_their_trees,
-    trees_show_by_their_leaves, turns_of_grown_trees,
+    decisions_keep_sets, grown_trees_stay_sound, more_support_keeps_trees_sound,
+    sound_trees_are_lean,
 };
-pub use way::branch_to;

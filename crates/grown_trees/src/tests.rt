@@ -1,9 +1,10 @@
-// The decisions on the way to each place of small trees, worked by hand.
-ghost use Rattle.std.specs.Prelude.{◌≤◌, All, IfOk};
+// Small trees, their ways and how they grow, worked by hand.
+ghost use Rattle.std.specs.Prelude.{◌≡◌, ◌≤◌, length, All, IfOk};
+ghost use Rattle.grown_trees.specs.Examples.{IsSmall};
 ghost use Rattle.grown_trees.specs.Places.{IsFineNode};
 
-use crate::branch_to;
-use crate::way::decisions_to;
+use crate::way::{branch_at, decisions_to};
+use crate::{GrowingNode, GrowingTree};
 use branch_rules::{Decision, Node};
 use std::alloc::{AllocError, Global};
 use std::process::Abort;
@@ -33,18 +34,29 @@ fn node_of(kind: u8, a: u32, b: u32) -> Node
     }
 }
 
-// The nodes of a text.
-fn nodes_of(alloc: Global, text: &[u8]) -> Result<Vec<Node>, Fail>
-    ensures { IfOk result (λ nodes. All IsFineNode nodes.items) }
+// An entry of four signs: those of its node, and the greatest bound that it shows.
+fn entry_of(signs: [u8; 4]) -> GrowingNode
+    ensures { IsFineNode result.node }
 {
-    let mut nodes = Vec::new(alloc);
+    let [kind, first, second, shows] = signs;
+    GrowingNode {
+        node: node_of(kind, digit(first), digit(second)),
+        shows: u64::from(digit(shows)),
+    }
+}
+
+// The entries of a text of nodes of three signs.
+fn entries_of(alloc: Global, text: &[u8]) -> Result<Vec<GrowingNode>, Fail>
+    ensures { IfOk result (λ entries. All (λ entry. IsFineNode entry.node) entries.items) }
+{
+    let mut entries = Vec::new(alloc);
     for signs in text.chunks_exact(3) {
         let &[kind, first, second] = signs else {
             return Err("three signs")?;
         };
-        nodes.push(node_of(kind, digit(first), digit(second)))?;
+        entries.push(entry_of([kind, first, second, b'0']))?;
     }
-    Ok(nodes)
+    Ok(entries)
 }
 
 // A decision as three signs: `+12` is yes to the edges 1 and 2, `-12` no, `<13` at most 3 over the shore 1, `>13` more than 3.
@@ -73,16 +85,16 @@ fn text_of(alloc: Global, decisions: &[Decision]) -> Result<Vec<u8>, AllocError>
 fn expect_way(
     rt: &impl Abort,
     alloc: Global,
-    nodes: &[Node],
+    entries: &[GrowingNode],
     place: usize,
     want: &str,
 ) -> Result<(), Fail>
-    requires { All IsFineNode nodes.now }
+    requires { All (λ entry. IsFineNode entry.node) entries.now }
 {
-    assert!(rt; place < nodes.len());
-    let text = text_of(alloc, &decisions_to(alloc, nodes, place)?)?;
+    assert!(rt; place < entries.len());
+    let text = text_of(alloc, &decisions_to(alloc, entries, place)?)?;
     assert_eq!(rt; text.as_slice(), want.as_bytes(), "{want}");
-    let branch = branch_to(alloc, nodes, place)?;
+    let branch = branch_at(alloc, entries, place)?;
     assert_eq!(rt; branch.len(), want.len() / 3);
     Ok(())
 }
@@ -94,14 +106,14 @@ fn expect_ways(
     nodes: &'static str,
     ways: &'static str,
 ) -> Result<(), Fail> {
-    let nodes = nodes_of(alloc, nodes.as_bytes())?;
+    let entries = entries_of(alloc, nodes.as_bytes())?;
     let mut place = 0;
     for want in ways.split('\n') {
-        assert!(rt; place < nodes.len());
-        expect_way(rt, alloc, &nodes, place, want)?;
+        assert!(rt; place < entries.len());
+        expect_way(rt, alloc, &entries, place, want)?;
         place += 1;
     }
-    assert_eq!(rt; place, nodes.len());
+    assert_eq!(rt; place, entries.len());
     Ok(())
 }
 
@@ -139,4 +151,123 @@ fn second_children_are_split(rt: HostRuntime) -> Result<(), Fail> {
 fn first_children_are_split(rt: HostRuntime) -> Result<(), Fail> {
     let ways = "\n<18\n<18<16\n<18<16+34\n<18<16-34\n<18>16\n>18";
     expect_ways(&rt, rt.alloc(), "c18c16p34v00v00s01s02", ways)
+}
+
+// A pair with two leaves, which show 3 and 1, and memory for two nodes more.
+fn small_tree(alloc: Global) -> Result<GrowingTree, Fail>
+    ensures { IfOk result IsSmall }
+{
+    let mut tree = GrowingTree::new(alloc, 5, entry_of(*b"s011"))?;
+    tree.split(
+        0,
+        entry_of(*b"p129"),
+        entry_of(*b"s013"),
+        entry_of(*b"s021"),
+    );
+    Ok(tree)
+}
+
+// The tree has the entries of a row of four signs each.
+fn expect_entries(
+    rt: &impl Abort,
+    alloc: Global,
+    tree: &GrowingTree,
+    row: &'static str,
+) -> Result<(), Fail> {
+    let nodes = tree.tree(alloc)?;
+    let mut place = 0;
+    for signs in row.as_bytes().chunks_exact(4) {
+        let &[kind, first, second, shows] = signs else {
+            return Err("four signs")?;
+        };
+        let entry = entry_of([kind, first, second, shows]);
+        assert!(rt; place < tree.len() && place < nodes.len());
+        assert!(rt; tree.node(place) == entry, "{row}");
+        assert!(rt; nodes.node(place) == entry.node, "{row}");
+        place += 1;
+    }
+    assert_eq!(rt; tree.len(), place);
+    assert_eq!(rt; nodes.len(), place);
+    Ok(())
+}
+
+#[test]
+fn a_root_alone(rt: HostRuntime) -> Result<(), Fail> {
+    let tree = GrowingTree::new(rt.alloc(), 1, entry_of(*b"s027"))?;
+    expect_entries(&rt, rt.alloc(), &tree, "s027")
+}
+
+#[test]
+fn a_root_is_split(rt: HostRuntime) -> Result<(), Fail> {
+    let tree = small_tree(rt.alloc())?;
+    expect_entries(&rt, rt.alloc(), &tree, "p129s013s021")
+}
+
+#[test]
+fn a_leaf_is_split(rt: HostRuntime) -> Result<(), Fail> {
+    let mut tree = small_tree(rt.alloc())?;
+    tree.split(
+        1,
+        entry_of(*b"c149"),
+        entry_of(*b"v009"),
+        entry_of(*b"s034"),
+    );
+    expect_entries(&rt, rt.alloc(), &tree, "p129c149v009s034s021")
+}
+
+#[test]
+fn leaves_are_replaced(rt: HostRuntime) -> Result<(), Fail> {
+    let mut tree = small_tree(rt.alloc())?;
+    tree.replace(2, entry_of(*b"f005"));
+    tree.replace(1, entry_of(*b"v009"));
+    expect_entries(&rt, rt.alloc(), &tree, "p129v009f005")
+}
+
+#[test]
+fn the_way_to_a_leaf(rt: HostRuntime) -> Result<(), Fail> {
+    let tree = small_tree(rt.alloc())?;
+    assert_eq!(&rt; tree.branch_to(rt.alloc(), 0)?.len(), 0);
+    assert_eq!(&rt; tree.branch_to(rt.alloc(), 2)?.len(), 1);
+    Ok(())
+}
+
+// The turns for a cost, the greatest bound up to it that is shown, and the place of the first leaf that shows least, or `-`.
+fn expect_open(rt: &impl Abort, tree: &GrowingTree, rows: &'static str) -> Result<(), Fail> {
+    for row in rows.split('\n') {
+        let &[cost, turns, shown, place] = row.as_bytes() else {
+            return Err("four signs")?;
+        };
+        let cost = u64::from(digit(cost));
+        assert_eq!(rt; tree.turns(cost), digit(turns) as usize, "{row}");
+        assert_eq!(rt; tree.shown(cost), u64::from(digit(shown)), "{row}");
+        let want = match place {
+            b'-' => None,
+            sign => Some(digit(sign) as usize),
+        };
+        assert!(rt; tree.open_leaf(cost) == want, "{row}");
+    }
+    Ok(())
+}
+
+// Its nodes show 9, 3 and 1.
+#[test]
+fn the_leaf_that_shows_least(rt: HostRuntime) -> Result<(), Fail> {
+    let tree = small_tree(rt.alloc())?;
+    expect_open(&rt, &tree, "030-\n131-\n2212\n3212\n4112\n9112")
+}
+
+// Both leaves show 3.
+#[test]
+fn leaves_that_show_the_same(rt: HostRuntime) -> Result<(), Fail> {
+    let mut tree = small_tree(rt.alloc())?;
+    tree.replace(2, entry_of(*b"s023"));
+    expect_open(&rt, &tree, "333-\n4131\n9131")
+}
+
+#[test]
+fn a_tree_that_shows_each_cost(rt: HostRuntime) -> Result<(), Fail> {
+    let mut tree = small_tree(rt.alloc())?;
+    tree.replace(1, entry_of(*b"v009"));
+    tree.replace(2, entry_of(*b"v009"));
+    expect_open(&rt, &tree, "838-\n939-")
 }

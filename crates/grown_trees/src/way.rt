@@ -1,22 +1,25 @@
 // The decisions on the way to a place of a tree.
-ghost use Rattle.std.specs.Prelude.{◌≡◌, suc, ◌+◌, ◌<◌, ◌^◌, ◌++◌, ◌∷◌, [], length, All, IfOk, OnOk};
+ghost use Rattle.std.specs.Prelude.{◌≡◌, suc, ◌+◌, ◌<◌, ◌^◌, ◌++◌, ◌∷◌, [], length, map, All, IfOk, OnOk};
 ghost use Rattle.branch_rules.specs.Limits.{IsFineDecision};
 ghost use Rattle.branch_rules.specs.Trees.{Tree, preorder};
 ghost use Rattle.grown_trees.specs.Backward.{all_read, found_by, node_read, split_read};
 ghost use Rattle.grown_trees.specs.Places.{IsFineNode, branch_to};
 
+use crate::growing::GrowingNode;
 use branch_rules::{Branch, Decision, Node};
 use carp_base::Memory;
 use std::alloc::Global;
 
-/// The decisions on the way to the node at a place of a list of nodes in preorder, from the root on. The list is that of a whole
-/// tree, of which the nodes before the place suffice.
-///
-/// Without memory there is an error. It takes time and memory in proportion to the place.
-pub fn branch_to(alloc: Global, nodes: &[Node], place: usize) -> Result<Branch, Memory>
+// The decisions on the way to the node at a place of a list of nodes in preorder, from the root on. The list is that of a whole tree,
+// of which the nodes before the place suffice. It takes time and memory in proportion to the place.
+pub(crate) fn branch_at(
+    alloc: Global,
+    nodes: &[GrowingNode],
+    place: usize,
+) -> Result<Branch, Memory>
     requires place { place < length nodes.now }
-    requires fine { All IsFineNode nodes.now }
-    ensures { (tree : Tree) → preorder tree ≡ nodes.now → IfOk result (λ branch. branch ≡ branch_to [] tree place) }
+    requires fine { All (λ entry. IsFineNode entry.node) nodes.now }
+    ensures { (tree : Tree) → preorder tree ≡ map (λ entry. entry.node) nodes.now → IfOk result (λ branch. branch ≡ branch_to [] tree place) }
 {
     let decisions = decisions_to(alloc, nodes, place)?;
     branch_of(alloc, &decisions)
@@ -25,12 +28,12 @@ pub fn branch_to(alloc: Global, nodes: &[Node], place: usize) -> Result<Branch, 
 // The decisions on the way to a place, from the root on.
 pub(crate) fn decisions_to(
     alloc: Global,
-    nodes: &[Node],
+    nodes: &[GrowingNode],
     place: usize,
 ) -> Result<Vec<Decision>, Memory>
     requires place { place < length nodes.now }
-    requires fine { All IsFineNode nodes.now }
-    ensures way { (tree : Tree) → preorder tree ≡ nodes.now → IfOk result (λ decisions. decisions.items ≡ branch_to [] tree place) }
+    requires fine { All (λ entry. IsFineNode entry.node) nodes.now }
+    ensures way { (tree : Tree) → preorder tree ≡ map (λ entry. entry.node) nodes.now → IfOk result (λ decisions. decisions.items ≡ branch_to [] tree place) }
     ensures fine { IfOk result (λ decisions. All IsFineDecision decisions.items) }
 {
     let mut decisions = decisions_back(alloc, &nodes[..place])?;
@@ -99,15 +102,15 @@ impl Way {
 }
 
 // The decisions on the way to the node behind these, the last one first.
-fn decisions_back(alloc: Global, before: &[Node]) -> Result<Vec<Decision>, Memory>
-    ensures { IfOk result (λ decisions. decisions.items ≡ (all_read before.now).decisions) }
+fn decisions_back(alloc: Global, before: &[GrowingNode]) -> Result<Vec<Decision>, Memory>
+    ensures { IfOk result (λ decisions. decisions.items ≡ (all_read (map (λ entry. entry.node) before.now)).decisions) }
 {
     let mut way = Way {
         decisions: Vec::new(alloc),
         whole: 0,
     };
     for i in (0..before.len()).rev() {
-        way.read(&before[i])?;
+        way.read(&before[i].node)?;
     }
     Ok(way.decisions)
 }
