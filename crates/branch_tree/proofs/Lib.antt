@@ -1,0 +1,15 @@
+mod Numbers
+mod Rounding
+mod Decisions
+mod FixedOnce
+mod PlanCosts
+mod Services
+mod Settling
+mod Counting
+mod Pools
+mod Taking
+mod Standing
+mod Turning
+mod Turns
+mod Root
+mod Finding

@@ -1,0 +1,94 @@
+-- A search that has just begun holds its tree of one leaf.
+use Rattle.std.proofs.Common.{◌≡◌, ℕ, suc, ◌*◌, List, [], ◌∷◌, refl, sym, subst, ap, ◌∙◌, arith, inl, inr, pos, ◌≤ℤ◌}
+use Rattle.std.specs.List.{All}
+use Rattle.std.proofs.lemmas.Int.{ints}
+use Rattle.std.proofs.lemmas.List.Elements.{All-nil, All-cons}
+use Rattle.carp_base.specs.Problem.{Problem}
+use Rattle.plan_model.specs.Plans.{plan_cost}
+use Rattle.plan_model.specs.declared.step.Step.{Step}
+use Rattle.cut_pool.specs.Shores.{Belongs}
+use Rattle.decision_chains.specs.Pairs.{HasPairWithin}
+use Rattle.branch_rules.specs.Laws.{NoDepot}
+use Rattle.branch_rules.specs.Limits.{HasShoreOf}
+use Rattle.branch_rules.specs.Trees.{price}
+use Rattle.branch_rules.specs.declared.node.Node.TheVariants.{Price}
+use Rattle.floor_prices.specs.Floors.{plain_value}
+use Rattle.branch_rules.specs.Prices.{Prices}
+use Rattle.grown_trees.specs.Growth.{AreSound, Growth, turns_in}
+use Rattle.grown_trees.specs.Stands.{stands}
+use Rattle.grown_trees.specs.declared.growing.GrowingNode.{GrowingNode}
+use Rattle.branch_tree.specs.Beginnings.{IsFloor, IsRoot, fraction_of}
+use Rattle.branch_tree.specs.Searches.{IsHeld, IsHeldSet, IsShortPlan, State, support_in}
+use Rattle.branch_tree.specs.Values.{IsMostShown}
+use Rattle.branch_tree.specs.declared.beginning.Floor.{Floor}
+use Rattle.branch_tree.proofs.Numbers.{at_most_more}
+use Rattle.branch_tree.proofs.PlanCosts.{cost_is_small}
+
+pub no_depot : (p : Problem) (pool : List (List ℕ)) → All (Belongs p) pool → NoDepot p pool
+no_depot p [] all = tt
+no_depot p (shore ∷ pool) all = ((all 0 shore (omega arith)).no_depot, no_depot p pool (λ k d less. all (suc k) d (omega (arith, less))))
+
+module _ (p : Problem) (floor : Floor) (is : IsFloor p floor) (plan : List (List Step)) (short : IsShortPlan p plan) (shows : ℕ)
+    (shown : IsMostShown floor.set.unit (plain_value p floor.pool floor.set) shows) where
+  abbrev leaf : GrowingNode
+  leaf = record { node = Price 1; shows = shows }
+
+  abbrev pub at_root : State
+  at_root = record { pool = floor.pool; sets = floor.set ∷ []; nodes = leaf ∷ []; plan = plan; cost = plan_cost p plan; done = turns_in (plan_cost p plan) (leaf ∷ []) }
+
+  enough : (fraction_of p floor).value ≤ℤ pos ((fraction_of p floor).unit * shows)
+  enough = elim shown.covers [
+    | inl covered ↦ covered
+    | inr above ↦
+        at_most_more floor.set.unit (plain_value p floor.pool floor.set) (plan_cost p plan) shows (omega (arith, above, cost_is_small p is.valid plan short))
+        (is.floors.below plan short.lawful)
+  ]
+
+  root_sound : AreSound (support_in p at_root) (fraction_of p floor) (stands [] (price 1)) (leaf ∷ [])
+  root_sound = (
+    record {
+      same = refl;
+      pairs = All-nil (HasPairWithin p.required);
+      shores = All-nil (HasShoreOf p floor.pool);
+      inside = tt;
+      fine = tt;
+      spelled = (omega arith, omega arith);
+      lean = tt;
+      fits = (omega arith, omega arith, is.fits []);
+      reaches = omega (arith, ints);
+      shows = λ bound small. (
+        λ shows_it. (shown.shown bound small).0 shows_it.2.above,
+        λ within. (omega arith, omega arith, record { fits = (is.fits []).fits; above = (shown.shown bound small).1 within }),
+      );
+      enough = enough;
+    },
+    tt,
+  )
+
+  pub root_held : IsHeld p at_root
+  root_held = record {
+    valid = is.valid;
+    base = fraction_of p floor;
+    floors = is.floors;
+    tree = price 1;
+    sound = root_sound;
+    sets = All-cons (IsHeldSet p floor.pool) floor.set [] (record { one_each = (is.fits []).one_each; not_negative = (is.fits []).fits.not_negative; shores = is.shores }) (All-nil (IsHeldSet p floor.pool));
+    few_sets = omega arith;
+    sets_by_turns = omega arith;
+    belong = is.belong;
+    short = short;
+    cost_is = refl;
+    done_is = refl;
+    few_nodes = omega arith;
+  }
+
+-- the parts of a search that has just begun
+pub begun_held : (p : Problem) (floor : Floor) → IsFloor p floor → (plan : List (List Step)) → IsShortPlan p plan → (turns : ℕ) (tree : Growth) → IsRoot p turns floor tree →
+    (sets : List Prices) → sets ≡ floor.set ∷ [] → (cost : ℕ) → cost ≡ plan_cost p plan → (done : ℕ) → done ≡ turns_in cost tree.nodes →
+    IsHeld p (record { pool = floor.pool; sets = sets; nodes = tree.nodes; plan = plan; cost = cost; done = done })
+begun_held p floor is plan short turns tree root sets sets_are cost cost_is done done_is =
+    let nodes : tree.nodes ≡ record { node = Price 1; shows = root.shows } ∷ [] = ap (λ (t : Growth). t.nodes) root.leaf in
+    let s : State = at_root p floor is plan short root.shows root.shown in
+    let same : s ≡ record { pool = floor.pool; sets = sets; nodes = tree.nodes; plan = plan; cost = cost; done = done } =
+    λ i. record { pool = floor.pool; sets = sym sets_are i; nodes = sym nodes i; plan = plan; cost = sym cost_is i; done = sym (done_is ∙ ap (λ (n : ℕ). turns_in n tree.nodes) cost_is ∙ ap (turns_in (plan_cost p plan)) nodes) i } in
+    subst (IsHeld p) same (root_held p floor is plan short root.shows root.shown)

@@ -1,0 +1,20 @@
+use Rattle.std.proofs.Common.{ap}
+use Rattle.grown_trees.specs.Growth.{Growth}
+use Rattle.branch_tree.proofs.Root.{begun_held}
+use Rattle.branch_tree.proofs.search.Search.begin.Goals as goal
+
+pub returns-clause-search : goal.returns-clause-search
+returns-clause-search c =
+    let p = c.args.inst.now in
+    let floor = c.in_ok-floor.floor in
+    let root = c.in_ok-tree.ensures in
+    record {
+      net = c.floor_of.ensures.tools.net;
+      problem = c.floor_of.ensures.tools.problem;
+      costs = c.floor_of.ensures.tools.costs;
+      table = c.floor_of.ensures.tools.table;
+      some_turns = c.requires.some_turns;
+      turns_in_range = c.requires.turns_in_range;
+      room = ap (λ (tree : Growth). tree.room) root.leaf;
+      held = begun_held p floor c.in_ok-floor.ensures.floor c.args.best c.requires.short c.args.turns c.in_ok-tree.tree root c.in_ok-sets.sets.items c.in_ok-sets.ensures c.in_ok-cost.cost c.in_ok-cost.ensures c.turns-done.result c.turns-done.ensures;
+    }

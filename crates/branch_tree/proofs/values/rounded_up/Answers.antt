@@ -1,0 +1,11 @@
+use mir.Syntax.{w128}
+use Rattle.std.proofs.Common.{ap, ◌∙◌, ℤ}
+use Rattle.std.proofs.lemmas.Int.{to_z-of_z}
+use Rattle.std.specs.Int.RustNames.{unsigned_abs}
+use Rattle.branch_tree.proofs.Rounding.{rounded_up}
+use Rattle.branch_tree.proofs.values.rounded_up.Goals as goal
+
+pub returns : goal.returns
+returns c =
+    rounded_up c.args.value c.unsigned_abs.result c.from.result c.div_ceil-shown.result c.from-2.result c.min.result c.args.unit c.requires.some c.requires.unit
+    (c.unsigned_abs.ensures.value ∙ ap (λ (z : ℤ). unsigned_abs z) (to_z-of_z w128 c.args.value c.ranges.value)) c.from.ensures c.div_ceil-shown.ensures c.from-2.ensures c.min.ensures

@@ -1,0 +1,15 @@
+-- What is known of grown trees, of branches and of price sets, for the proofs of private functions.
+use Rattle.decision_chains.specs.Laws.{YesPairsJoin}
+use Rattle.dual_master.specs.Growth.{GrowthKeepsSets}
+use Rattle.grown_trees.specs.Laws.{DecisionsKeepSets, GrownIsSound, MoreSetsKeepSound, MoreShoresKeepSound, SoundAtPlace, SoundIsTree, UnshownIsLeaf}
+
+pub record Known : Type 0 where
+  pub grown : GrownIsSound
+  pub more_sets : MoreSetsKeepSound
+  pub more_shores : MoreShoresKeepSound
+  pub tree : SoundIsTree
+  pub place : SoundAtPlace
+  pub leaf : UnshownIsLeaf
+  pub kept : DecisionsKeepSets
+  pub growth : GrowthKeepsSets
+  pub joins : YesPairsJoin

@@ -1,0 +1,10 @@
+pub mod Known
+pub mod Values
+pub mod Searches
+pub mod Splits
+pub mod Leaves
+pub mod Steps
+pub mod Beginnings
+pub mod Founds
+pub mod Laws
+pub mod Examples

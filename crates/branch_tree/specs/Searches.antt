@@ -1,0 +1,86 @@
+-- What a search holds.
+use Rattle.std.specs.Prelude.{◌≡◌, ℕ, ◌+◌, ◌*◌, ◌≤◌, List, [], ◌∷◌, length, map}
+use Rattle.std.specs.List.{All}
+use Rattle.carp_base.specs.Problem.{Problem, IsValid}
+use Rattle.plan_model.specs.declared.step.Step.{Step}
+use Rattle.plan_model.specs.Plans.{IsLawful, plan_cost, steps_of}
+use Rattle.deadhead_paths.specs.Prices.{costs_of}
+use Rattle.cut_pool.specs.Shores.{Belongs}
+use Rattle.route_pricing.specs.Tables.{IsRoom}
+use Rattle.branch_rules.specs.Limits.{IsShoreOf}
+use Rattle.branch_rules.specs.Prices.{Prices}
+use Rattle.branch_rules.specs.Refusals.{NoneTooHeavy}
+use Rattle.branch_rules.specs.Trees.{Tree, Support}
+use Rattle.branch_rules.specs.declared.node.Node.TheVariants as nodes
+use Rattle.dual_master.specs.Singles.{IsFloorPool}
+use Rattle.grown_trees.specs.Growth.{Fraction, AreSound, turns_in}
+use Rattle.grown_trees.specs.Stands.{stands}
+use Rattle.grown_trees.specs.declared.growing.GrowingNode.{GrowingNode}
+use Rattle.branch_tree.specs.declared.search.Search.{Search}
+use Rattle.branch_tree.specs.Values.{ReachesFloors}
+
+-- a lawful plan of no more tours than there are required edges, and of at most 2,000,000 steps
+pub record IsShortPlan (p : Problem) (plan : List (List Step)) : Type 0 where
+  pub lawful : IsLawful p plan
+  pub few_tours : length plan ≤ p.required
+  pub few_steps : length (steps_of plan) ≤ 2000000
+
+-- what a search holds, as plain data: its shores, its price sets, the nodes of its tree, each with the greatest bound that it shows, and
+-- the best plan with its cost and the tree's turns for this cost
+pub record State : Type 0 where
+  pub pool : List (List ℕ)
+  pub sets : List Prices
+  pub nodes : List GrowingNode
+  pub plan : List (List Step)
+  pub cost : ℕ
+  pub done : ℕ
+
+abbrev pub state_of : Search → State
+state_of s = record { pool = s.pool; sets = s.sets.items; nodes = s.tree.nodes; plan = s.best; cost = s.cost; done = s.done }
+
+-- what a price leaf rests on
+abbrev pub support_in : Problem → State → Support
+support_in p s = record { problem = p; pool = s.pool; sets = s.sets }
+
+-- a price set that a certificate may have: a price for each required edge, no negative price of a deadhead, and its shores are in the
+-- pool and belong to the instance
+pub record IsHeldSet (p : Problem) (pool : List (List ℕ)) (set : Prices) : Type 0 where
+  pub one_each : length set.services ≡ p.required
+  pub not_negative : NoneTooHeavy p pool set
+  pub shores : All (λ w. IsShoreOf p pool w.shore) set.weights
+
+-- A lean tree that grew leaf by leaf. Each price leaf names a set that fits there, and reaches the floors; each node has with it the
+-- greatest bound that it shows. There are at most 256 sets, and at most one more than the tree has turns for the best plan's cost.
+pub record IsHeld (p : Problem) (s : State) : Type 0 where
+  pub valid : IsValid p
+  pub base : Fraction
+  pub floors : ReachesFloors p base
+  pub tree : Tree
+  pub sound : AreSound (support_in p s) base (stands [] tree) s.nodes
+  pub sets : All (IsHeldSet p s.pool) s.sets
+  pub few_sets : length s.sets ≤ 256
+  pub sets_by_turns : length s.sets ≤ s.done + 1
+  pub belong : All (Belongs p) s.pool
+  pub short : IsShortPlan p s.plan
+  pub cost_is : s.cost ≡ plan_cost p s.plan
+  pub done_is : s.done ≡ turns_in s.cost s.nodes
+  pub few_nodes : length s.nodes ≤ 2 * s.done + 1
+
+-- a search for an instance, with memory for all nodes that a budget of turns can make
+pub record IsSearch (p : Problem) (s : Search) : Type 0 where
+  pub net : s.net ≡ p
+  pub problem : s.dist.problem ≡ p
+  pub costs : s.dist.prices ≡ costs_of p
+  pub table : IsRoom p s.table
+  pub some_turns : 1 ≤ s.turns
+  pub turns_in_range : s.turns ≤ 1048576
+  pub room : s.tree.room ≡ 2 * s.turns + 1
+  pub held : IsHeld p (state_of s)
+
+-- a search that has just begun: the tree is one price leaf, which names the best set of the floors, and the pool is as the floors leave it
+pub record IsBegun (p : Problem) (plan : List (List Step)) (s : State) : Type 0 where
+  pub best : s.plan ≡ plan
+  pub set : Prices
+  pub one_set : s.sets ≡ set ∷ []
+  pub pool : IsFloorPool p s.pool set
+  pub leaf : map (λ entry. entry.node) s.nodes ≡ nodes.Price 1 ∷ []

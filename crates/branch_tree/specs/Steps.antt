@@ -1,0 +1,89 @@
+-- What a step of a search does.
+use Rattle.std.specs.Prelude.{◌≡◌, ℕ, ◌+◌, ◌<◌, ◌≤◌, ◌⊎◌, List, [], ◌∷◌, ◌++◌, take, drop, map, length, slice_index_or}
+use Rattle.std.specs.List.{All}
+use Rattle.carp_base.specs.Problem.{Problem}
+use Rattle.decision_chains.specs.declared.decision.Decision.{Decision}
+use Rattle.branch_rules.specs.Decisions.{IsFixed, IsVoid}
+use Rattle.branch_rules.specs.Prices.{Prices}
+use Rattle.branch_rules.specs.Trees.{Tree, preorder, PriceShows}
+use Rattle.branch_rules.specs.declared.node.Node.TheVariants as nodes
+use Rattle.shore_prices.specs.Proposals.{IsGrown}
+use Rattle.tight_prices.specs.Tight.{IsTight}
+use Rattle.grown_trees.specs.Places.{IsLeaf, branch_to}
+use Rattle.grown_trees.specs.declared.growing.GrowingNode.{GrowingNode}
+use Rattle.branch_tree.specs.declared.search.Turn.{Turn}
+use Rattle.branch_tree.specs.declared.search.Turn.TheVariants.{Done, Closed, Split}
+use Rattle.branch_tree.specs.Searches.{State, support_in}
+
+-- each leaf is closed: it shows the best plan's cost by itself
+abbrev pub AreClosed : State → Type 0
+AreClosed s = All (λ entry. s.cost ≤ entry.shows) s.nodes
+
+-- the tree, the price sets and the best plan are as before; there may be more shores
+pub record IsAsBefore (before after : State) : Type 0 where
+  pub grown : IsGrown before.pool after.pool
+  pub sets : after.sets ≡ before.sets
+  pub nodes : after.nodes ≡ before.nodes
+  pub plan : after.plan ≡ before.plan
+  pub cost : after.cost ≡ before.cost
+  pub done : after.done ≡ before.done
+
+-- a leaf that was not closed gave way to other nodes; its branch is the decisions on the way to it
+pub record IsTaken (before after : State) (branch : List Decision) (old : GrowingNode) (news : List GrowingNode) : Type 0 where
+  pub place : ℕ
+  pub inside : place < length before.nodes
+  pub was : old ≡ slice_index_or before.nodes place old
+  pub leaf : IsLeaf old.node
+  pub unclosed : old.shows < before.cost
+  pub tree : Tree
+  pub of_nodes : preorder tree ≡ map (λ entry. entry.node) before.nodes
+  pub way : branch ≡ branch_to [] tree place
+  pub nodes : after.nodes ≡ take place before.nodes ++ (news ++ drop (place + 1) before.nodes)
+
+-- one price set was added. It is tight under the decisions on the way to the leaf and the shores of the step's beginning
+pub record HasNewSet (p : Problem) (before after : State) (branch : List Decision) : Type 0 where
+  pub set : Prices
+  pub added : after.sets ≡ before.sets ++ set ∷ []
+  pub tight : IsTight p after.pool (length before.pool) branch set
+
+-- a leaf was closed: another leaf in its place shows the best plan's cost; its price set, if it is a new one, is tight
+pub record IsClosing (p : Problem) (before after : State) : Type 0 where
+  pub branch : List Decision
+  pub old : GrowingNode
+  pub leaf : GrowingNode
+  pub taken : IsTaken before after branch old (leaf ∷ [])
+  pub is_leaf : IsLeaf leaf.node
+  pub closed : after.cost ≤ leaf.shows
+  pub sets : (after.sets ≡ before.sets) ⊎ HasNewSet p before after branch
+  pub no_dearer : after.cost ≤ before.cost
+
+-- A leaf was split, which was neither void nor fixed; both children carry one price set. While fewer than 256 are held it is a new one,
+-- tight where the leaf was, and it does not close the leaf; else it is the set of the leaf.
+pub record IsSplitting (p : Problem) (before after : State) : Type 0 where
+  pub branch : List Decision
+  pub old : GrowingNode
+  pub inner : GrowingNode
+  pub first : GrowingNode
+  pub second : GrowingNode
+  pub taken : IsTaken before after branch old (inner ∷ first ∷ second ∷ [])
+  pub not_void : ¬ (IsVoid p after.pool branch)
+  pub not_fixed : ¬ (IsFixed p after.pool branch)
+  pub set : ℕ
+  pub first_set : first.node ≡ nodes.Price set
+  pub second_set : second.node ≡ nodes.Price set
+  pub new_set : length before.sets < 256 → (set ≡ length after.sets) × HasNewSet p before after branch × ¬ (PriceShows (support_in p after) branch after.cost set)
+  pub old_set : length before.sets ≡ 256 → (after.sets ≡ before.sets) × (old.node ≡ nodes.Price set)
+  pub plan : after.plan ≡ before.plan
+  pub cost : after.cost ≡ before.cost
+
+-- what a step did, by its answer
+abbrev pub Does : Problem → State → State → Turn → Type 0
+Does p before after Done = AreClosed before × IsAsBefore before after
+Does p before after Closed = IsClosing p before after
+Does p before after Split = IsSplitting p before after
+
+-- a step leaves more turns behind it, unless there was nothing to do; shores are only added
+pub record IsStep (p : Problem) (before after : State) (turn : Turn) : Type 0 where
+  pub does : Does p before after turn
+  pub grown : IsGrown before.pool after.pool
+  pub more_done : AreClosed before ⊎ (before.done < after.done)

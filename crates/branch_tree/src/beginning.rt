@@ -1,0 +1,139 @@
+// How a search begins.
+ghost use Rattle.std.specs.Prelude.{◌≡◌, ◌*◌, ◌+◌, ◌≤◌, ◌∷◌, [], IfOk};
+ghost use Rattle.plan_model.specs.Plans.{plan_cost};
+ghost use Rattle.branch_tree.specs.Beginnings.{AreTools, IsFloor, IsRoot};
+ghost use Rattle.branch_tree.specs.Searches.{IsBegun, IsSearch, IsShortPlan, state_of};
+
+use crate::changing::price_leaf;
+use crate::laws::short_plans_cost_little;
+use crate::search::Search;
+use crate::values::shown_under;
+use branch_rules::{Branch, PriceSet, prices_bound};
+use carp_base::{Instance, Memory};
+use cut_pool::ShorePool;
+use deadhead_paths::{Distances, least_prices_are_there};
+use dual_master::floors;
+use grown_trees::GrowingTree;
+use plan_model::Plan;
+use road_network::Network;
+use route_pricing::Table;
+use std::alloc::Global;
+use task_tours::{cost_distances, lawful_cost};
+
+// What a search works with.
+#[derive(Drop)]
+pub(crate) struct Tools {
+    pub(crate) net: Network,
+    pub(crate) dist: Distances,
+    pub(crate) table: Table,
+}
+
+// The best set of the floors, and its pool.
+#[derive(Drop)]
+pub(crate) struct Floor {
+    pub(crate) pool: ShorePool,
+    pub(crate) set: PriceSet,
+}
+
+impl Search {
+    /// A search for an instance from a plan on, for a budget of turns from 1 to 1,048,576.
+    ///
+    /// The plan is lawful and has at most a tour for each required edge and 2,000,000 steps. The tree is one leaf with the best set of
+    /// the floors (`dual_master::floors`), and the pool is as `floors` leaves it. Memory for all nodes that the budget can make is taken
+    /// here, 32 bytes for each of up to `2 * turns + 1`, so that no step lacks it.
+    ///
+    /// The one error is want of memory. It takes the time of least paths between all pairs of vertices and of the floors.
+    pub fn begin(alloc: Global, inst: &Instance, turns: u64, best: Plan) -> Result<Search, Memory>
+        requires some_turns { 1 ≤ turns }
+        requires turns_in_range { turns ≤ 1048576 }
+        requires short { IsShortPlan inst.now best }
+        ensures search { IfOk result (IsSearch inst.now) }
+        ensures turns { IfOk result (λ search. search.turns ≡ turns) }
+        ensures begun { IfOk result (λ search. IsBegun inst.now best (state_of search)) }
+    {
+        let cost = short_cost(alloc, inst, &best)?;
+        let mut tools = tools_of(alloc, inst)?;
+        let floor = floor_of(alloc, inst, &mut tools)?;
+        let tree = plant(alloc, inst, turns, &floor)?;
+        let sets = one_set(alloc, floor.set)?;
+        let done = tree.turns(cost) as u64;
+        Ok(Search {
+            alloc,
+            net: tools.net,
+            dist: tools.dist,
+            table: tools.table,
+            tree,
+            sets,
+            pool: floor.pool,
+            best,
+            cost,
+            done,
+            turns,
+        })
+    }
+}
+
+// What a short plan costs.
+fn short_cost(alloc: Global, inst: &Instance, plan: &Plan) -> Result<u64, Memory>
+    requires { IsShortPlan inst.now plan.now }
+    ensures { IfOk result (λ cost. cost ≡ plan_cost inst.now plan.now) }
+{
+    short_plans_cost_little();
+    // What a read of the instance says is needed: that it is valid.
+    let _ = inst.vertices();
+    let cost = lawful_cost(alloc, inst, plan)?;
+    Ok(cost as u64)
+}
+
+// The network, the distances by cost and the table of an instance.
+fn tools_of(alloc: Global, inst: &Instance) -> Result<Tools, Memory>
+    ensures { IfOk result (AreTools inst.now) }
+{
+    let net = Network::new(alloc, inst)?;
+    let dist = cost_distances(alloc, inst)?;
+    let table = Table::new(alloc, inst)?;
+    Ok(Tools { net, dist, table })
+}
+
+// The best set of the floors, with its pool.
+fn floor_of(alloc: Global, inst: &Instance, tools: &mut Tools) -> Result<Floor, Memory>
+    requires { AreTools inst.now tools.old }
+    ensures floor { IfOk result (IsFloor inst.now) }
+    ensures tools { AreTools inst.now tools.new }
+{
+    least_prices_are_there();
+    prices_bound();
+    // What reads of the instance and of the set say is needed: that both are within their limits.
+    let _ = inst.vertices();
+    let mut pool = ShorePool::new(alloc);
+    let set = floors(
+        alloc,
+        inst,
+        &tools.net,
+        &tools.dist,
+        &mut tools.table,
+        &mut pool,
+    )?;
+    let _ = set.unit();
+    Ok(Floor { pool, set })
+}
+
+// The tree of one leaf that names the first set, with memory for all nodes that so many turns can make.
+fn plant(alloc: Global, inst: &Instance, turns: u64, floor: &Floor) -> Result<GrowingTree, Memory>
+    requires turns { turns ≤ 1048576 }
+    requires floor { IsFloor inst.now floor.now }
+    ensures { IfOk result (IsRoot inst.now turns floor.now) }
+{
+    let shows = shown_under(inst, &floor.pool, &Branch::new(alloc), &floor.set);
+    let room = 2 * turns as usize + 1;
+    GrowingTree::new(alloc, room, price_leaf(1, shows))
+}
+
+// The list of one price set.
+fn one_set(alloc: Global, set: PriceSet) -> Result<Vec<PriceSet>, Memory>
+    ensures { IfOk result (λ sets. sets.items ≡ set ∷ []) }
+{
+    let mut sets = Vec::with_capacity(alloc, 1)?;
+    sets.push(set)?;
+    Ok(sets)
+}

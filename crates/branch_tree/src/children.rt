@@ -1,0 +1,95 @@
+// What a price set shows under both decisions of an inner node.
+ghost use Rattle.std.specs.Prelude.{◌≡◌, ◌++◌, ◌∷◌, [], ◌-◌, ◌≤ℤ◌, pos, All, IfOk};
+ghost use Rattle.branch_rules.specs.Decisions.{cuts_of, rules_of};
+ghost use Rattle.branch_rules.specs.Laws.{FitsBranch};
+ghost use Rattle.branch_rules.specs.Limits.{IsFineDecision, IsNodeIn, IsShoreOf};
+ghost use Rattle.branch_rules.specs.Prices.{value_of};
+ghost use Rattle.branch_rules.specs.Trees.{IsLeanNode};
+ghost use Rattle.grown_trees.specs.Laws.{IsOpenDecision};
+ghost use Rattle.grown_trees.specs.Places.{IsFineNode};
+ghost use Rattle.branch_tree.specs.Leaves.{AreShown, IsSplitNode};
+ghost use Rattle.branch_tree.specs.Splits.{IsInner, first_of, second_of};
+ghost use Rattle.branch_tree.specs.Values.{IsMostShown};
+
+use crate::laws::known_laws;
+use crate::values::shown_under;
+use branch_rules::{Branch, Decision, Node, PriceSet};
+use carp_base::{Instance, Memory};
+use cut_pool::ShorePool;
+
+// The greatest bounds that a price set shows under the decisions of both children of a node.
+#[derive(Clone, Copy, Debug, PartialEq, Eq)]
+pub(crate) struct Children {
+    pub(crate) first: u64,
+    pub(crate) second: u64,
+}
+
+// The greatest bounds that a price set, which fits under a branch, shows under the decisions of both children of a node. The branch is
+// as it was afterwards.
+pub(crate) fn children_show(
+    inst: &Instance,
+    pool: &ShorePool,
+    branch: &mut Branch,
+    node: &Node,
+    set: &PriceSet,
+) -> Result<Children, Memory>
+    requires node { IsSplitNode inst.now pool.now branch.old node.now }
+    requires shores { All (λ w. IsShoreOf inst.now pool.now w.shore) set.now.weights }
+    requires fits { FitsBranch inst.now pool.now branch.old set.now }
+    requires some { pos 0 ≤ℤ value_of (rules_of inst.now pool.now branch.old) set.now }
+    ensures shown { IfOk result (AreShown inst.now pool.now branch.old set.now node.now) }
+    ensures same { branch.new ≡ branch.old }
+{
+    let first = shown_after(inst, pool, branch, first_decision(node), set)?;
+    let second = shown_after(inst, pool, branch, second_decision(node), set)?;
+    Ok(Children { first, second })
+}
+
+// The decision of the first child. A leaf decides nothing.
+fn first_decision(node: &Node) -> Decision
+    ensures { result ≡ first_of node.now }
+{
+    match *node {
+        Node::Pair { a, b } => Decision::Yes { a, b },
+        Node::Cut { shore, k } => Decision::Low { shore, k },
+        Node::Price { .. } => Decision::No { a: 0, b: 0 },
+        Node::Void => Decision::No { a: 0, b: 0 },
+        Node::Fixed => Decision::No { a: 0, b: 0 },
+    }
+}
+
+// The decision of the second child.
+fn second_decision(node: &Node) -> Decision
+    ensures { result ≡ second_of node.now }
+{
+    match *node {
+        Node::Pair { a, b } => Decision::No { a, b },
+        Node::Cut { shore, k } => Decision::High { shore, k },
+        Node::Price { .. } => Decision::No { a: 0, b: 0 },
+        Node::Void => Decision::No { a: 0, b: 0 },
+        Node::Fixed => Decision::No { a: 0, b: 0 },
+    }
+}
+
+// The greatest bound that a price set, which fits under a branch, shows under one more decision.
+fn shown_after(
+    inst: &Instance,
+    pool: &ShorePool,
+    branch: &mut Branch,
+    decision: Decision,
+    set: &PriceSet,
+) -> Result<u64, Memory>
+    requires fine { IsFineDecision decision }
+    requires undecided { IsOpenDecision inst.now branch.old decision }
+    requires shores { All (λ w. IsShoreOf inst.now pool.now w.shore) set.now.weights }
+    requires fits { FitsBranch inst.now pool.now branch.old set.now }
+    requires some { pos 0 ≤ℤ value_of (rules_of inst.now pool.now branch.old) set.now }
+    ensures shown { IfOk result (IsMostShown set.now.unit (value_of (rules_of inst.now pool.now (branch.old ++ decision ∷ [])) set.now)) }
+    ensures same { branch.new ≡ branch.old }
+{
+    known_laws();
+    branch.push(decision)?;
+    let shown = shown_under(inst, pool, branch, set);
+    branch.pop();
+    Ok(shown)
+}

@@ -1,0 +1,172 @@
+// How a leaf is split.
+ghost use Rattle.std.specs.Prelude.{◌≡◌, ◌-◌, ◌+◌, ◌≤◌, ◌<◌, All, IfOk, IfSome, IsFalse, IsTrue, MatchOption};
+ghost use Rattle.carp_base.specs.Problem.{IsRequired};
+ghost use Rattle.decision_chains.specs.Exclusions.{IsDetermined, PermitsUnexcluded};
+ghost use Rattle.decision_chains.specs.Pairs.{ArePairsIn};
+ghost use Rattle.branch_rules.specs.Decisions.{cuts_of, IsFixed, IsVoid};
+ghost use Rattle.branch_rules.specs.Limits.{AreShoresIn, IsNodeIn, IsShoreOf};
+ghost use Rattle.branch_rules.specs.Trees.{IsLeanNode};
+ghost use Rattle.grown_trees.specs.Growth.{IsSpelledNode};
+ghost use Rattle.grown_trees.specs.Places.{IsFineNode};
+ghost use Rattle.branch_tree.specs.Splits.{AreSettledBelow, IsInner, IsOpenPair, IsSettledBelow, IsWeighed};
+
+use branch_rules::{Branch, Node, PriceSet};
+use carp_base::{Allowed, Instance, Memory};
+use cut_pool::ShorePool;
+use decision_chains::{excluded_is_symmetric, yes_pairs_join};
+use std::alloc::Global;
+
+// The greatest k of a cut.
+const MOST_K: u64 = 1_000_000;
+
+// A node by which a branch is split that is neither void nor fixed, where a bound greater by `gap` would close the leaf. Where the shore of
+// the greatest weight may be cut at its lower number, and two more deadheads over it raise the value of the set by so much, it is that
+// cut; else the first pair of edges that is not determined.
+pub(crate) fn choose_split(
+    alloc: Global,
+    inst: &Instance,
+    pool: &ShorePool,
+    branch: &Branch,
+    set: &PriceSet,
+    gap: u64,
+) -> Result<Node, Memory>
+    requires pairs { ArePairsIn inst.now branch.now }
+    requires shores { AreShoresIn inst.now pool.now branch.now }
+    requires not_void { ¬ (IsVoid inst.now pool.now branch.now) }
+    requires not_fixed { ¬ (IsFixed inst.now pool.now branch.now) }
+    requires weights { All (λ w. IsShoreOf inst.now pool.now w.shore) set.now.weights }
+    ensures inner { IfOk result IsInner }
+    ensures inside { IfOk result (IsNodeIn inst.now pool.now) }
+    ensures fine { IfOk result IsFineNode }
+    ensures spelled { IfOk result (IsSpelledNode 0) }
+    ensures lean { IfOk result (IsLeanNode inst.now pool.now branch.now (4 - cuts_of branch.now)) }
+{
+    yes_pairs_join();
+    excluded_is_symmetric();
+    let cut = lean_cut(alloc, inst, pool, branch, set, gap)?;
+    match cut {
+        Some(node) => Ok(node),
+        None => the_open_pair(alloc, inst, branch),
+    }
+}
+
+// The cut on the shore of the greatest weight, where it may be made and closes the high child.
+fn lean_cut(
+    alloc: Global,
+    inst: &Instance,
+    pool: &ShorePool,
+    branch: &Branch,
+    set: &PriceSet,
+    gap: u64,
+) -> Result<Option<Node>, Memory>
+    requires pairs { ArePairsIn inst.now branch.now }
+    requires weights { All (λ w. IsShoreOf inst.now pool.now w.shore) set.now.weights }
+    ensures inner { IfOk result (λ found. IfSome found IsInner) }
+    ensures inside { IfOk result (λ found. IfSome found (IsNodeIn inst.now pool.now)) }
+    ensures fine { IfOk result (λ found. IfSome found IsFineNode) }
+    ensures spelled { IfOk result (λ found. IfSome found (IsSpelledNode 0)) }
+    ensures lean { IfOk result (λ found. IfSome found (IsLeanNode inst.now pool.now branch.now (4 - cuts_of branch.now))) }
+{
+    let missing = i128::from(set.unit()) * i128::from(gap);
+    let Some(shore) = heaviest(set, missing) else {
+        return Ok(None);
+    };
+    let k = branch.lower(inst, pool, shore);
+    if k > MOST_K {
+        return Ok(None);
+    }
+    let node = Node::Cut { shore, k };
+    let may = branch.lean(alloc, inst, pool, &node)?;
+    if may { Ok(Some(node)) } else { Ok(None) }
+}
+
+// The shore of the greatest weight, where twice the weight is at least so much.
+fn heaviest(set: &PriceSet, missing: i128) -> Option<u32>
+    ensures { IfSome result (IsWeighed set.now) }
+{
+    let mut best = None;
+    let mut most = 0;
+    for place in 0..set.weights() {
+        let weight = set.weight(place);
+        if weight.weight > most && 2 * i128::from(weight.weight) >= missing {
+            most = weight.weight;
+            best = Some(weight.shore);
+        }
+    }
+    best
+}
+
+// The first pair that is not determined, where there is one.
+fn the_open_pair(alloc: Global, inst: &Instance, branch: &Branch) -> Result<Node, Memory>
+    requires pairs { ArePairsIn inst.now branch.now }
+    requires some { ¬ (AreSettledBelow inst.now branch.now (inst.now.required + 1)) }
+    ensures { IfOk result (IsOpenPair inst.now branch.now) }
+{
+    let found = open_pair(alloc, inst, branch)?;
+    match found {
+        Some(node) => Ok(node),
+        None => unreachable!(),
+    }
+}
+
+// The first pair of required edges that is not determined, if there is one.
+fn open_pair(alloc: Global, inst: &Instance, branch: &Branch) -> Result<Option<Node>, Memory>
+    requires pairs { ArePairsIn inst.now branch.now }
+    ensures { IfOk result (λ found. MatchOption found (AreSettledBelow inst.now branch.now (inst.now.required + 1)) (IsOpenPair inst.now branch.now)) }
+{
+    let allowed = branch.allowed(alloc, inst)?;
+    let last = inst.required();
+    for a in 1..last + 1 {
+        let found = open_pair_of(alloc, inst, branch, &allowed, a)?;
+        if let Some(node) = found {
+            return Ok(Some(node));
+        }
+    }
+    Ok(None)
+}
+
+// The first pair of an edge and a later one that is not determined, if there is one.
+fn open_pair_of(
+    alloc: Global,
+    inst: &Instance,
+    branch: &Branch,
+    allowed: &Allowed,
+    a: u32,
+) -> Result<Option<Node>, Memory>
+    requires pairs { ArePairsIn inst.now branch.now }
+    requires allowed { PermitsUnexcluded inst.now branch.now allowed.now }
+    requires a { IsRequired inst.now a }
+    ensures { IfOk result (λ found. MatchOption found (IsSettledBelow inst.now branch.now a (inst.now.required + 1)) (IsOpenPair inst.now branch.now)) }
+{
+    let last = inst.required();
+    for b in a + 1..last + 1 {
+        let free = is_open(alloc, inst, branch, allowed, a, b)?;
+        if free {
+            return Ok(Some(Node::Pair { a, b }));
+        }
+    }
+    Ok(None)
+}
+
+// Whether a pair is not determined. The table of allowed pairs tells most of it.
+fn is_open(
+    alloc: Global,
+    inst: &Instance,
+    branch: &Branch,
+    allowed: &Allowed,
+    a: u32,
+    b: u32,
+) -> Result<bool, Memory>
+    requires pairs { ArePairsIn inst.now branch.now }
+    requires allowed { PermitsUnexcluded inst.now branch.now allowed.now }
+    requires a { IsRequired inst.now a }
+    requires b { IsRequired inst.now b }
+    ensures yes { IfOk result (λ free. IsTrue free → ¬ (IsDetermined inst.now branch.now a b)) }
+    ensures no { IfOk result (λ free. IsFalse free → IsDetermined inst.now branch.now a b) }
+{
+    if !allowed.may(a, b) {
+        return Ok(false);
+    }
+    let settled = branch.determined(alloc, inst, a, b)?;
+    Ok(!settled)
+}

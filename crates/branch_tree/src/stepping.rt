@@ -1,0 +1,77 @@
+// One turn of a search.
+ghost use Rattle.std.specs.Prelude.{◌≡◌, ◌<◌, OnErr, IfOk};
+ghost use Rattle.grown_trees.specs.Growth.{IsLeastOpen};
+ghost use Rattle.branch_tree.specs.Leaves.{IsAtLeaf, IsTurn, NamesSet};
+ghost use Rattle.branch_tree.specs.Searches.{IsSearch, state_of};
+ghost use Rattle.branch_tree.specs.Steps.{IsAsBefore, IsStep};
+
+use crate::kinds::{Kind, kind_of};
+use crate::laws::known_laws;
+use crate::search::{Search, Turn};
+use branch_rules::Branch;
+use carp_base::{Instance, Memory};
+
+impl Search {
+    /// The turns of the tree for the best plan's cost: its inner nodes, and its leaves that show the cost by themselves.
+    pub fn done(&self) -> u64
+        ensures { result ≡ self.now.done }
+    {
+        self.done
+    }
+
+    /// Takes the leaf that shows least, if it does not show the best plan's cost. Where no lawful plan meets its decisions, or they
+    /// leave each chain to be driven as it stands, it is closed as void or fixed; the plan of a fixed leaf is the best one from then on
+    /// if it is cheaper. Else, while fewer than 256 price sets are held, a tight set is sought for it (`dual_master::raise`). If that
+    /// shows the cost, it closes the leaf, and otherwise both leaves of a split by a pair or a shore carry it. Where 256 are held, the
+    /// leaves of the split carry the set of the leaf.
+    ///
+    /// It asks for a search whose turns are below its budget. The one error is want of memory: then the tree, the price sets and the best
+    /// plan are as before, and shores may have been added. It takes the time of `raise` and, with n nodes and m required edges, in
+    /// proportion to n + m * m.
+    pub fn step(&mut self, inst: &Instance) -> Result<Turn, Memory>
+        requires search { IsSearch inst.now self.old }
+        requires left { self.old.done < self.old.turns }
+        ensures search { IsSearch inst.now self.new }
+        ensures turns { self.new.turns ≡ self.old.turns }
+        ensures step { IfOk result (IsStep inst.now (state_of self.old) (state_of self.new)) }
+        ensures err { OnErr result (IsAsBefore (state_of self.old) (state_of self.new)) }
+    {
+        match self.tree.open_leaf(self.cost) {
+            None => Ok(Turn::Done),
+            Some(place) => self.take_leaf(inst, place),
+        }
+    }
+
+    // A step that takes the leaf at a place.
+    fn take_leaf(&mut self, inst: &Instance, place: usize) -> Result<Turn, Memory>
+        requires search { IsSearch inst.now self.old }
+        requires left { self.old.done < self.old.turns }
+        requires place { IsLeastOpen self.old.cost self.old.tree.nodes place }
+        ensures { IsTurn inst.now self.old self.new result }
+    {
+        known_laws();
+        let mut branch = self.tree.branch_to(self.alloc, place)?;
+        self.treat_leaf(inst, place, &mut branch)
+    }
+
+    // A step at a leaf, by what its decisions are.
+    fn treat_leaf(
+        &mut self,
+        inst: &Instance,
+        place: usize,
+        branch: &mut Branch,
+    ) -> Result<Turn, Memory>
+        requires search { IsSearch inst.now self.old }
+        requires left { self.old.done < self.old.turns }
+        requires at { IsAtLeaf (state_of self.old) place branch.old }
+        ensures { IsTurn inst.now self.old self.new result }
+    {
+        known_laws();
+        let kind = kind_of(self.alloc, inst, &self.pool, branch)?;
+        match kind {
+            Kind::Void => Ok(self.close_void(inst, place, branch)),
+            Kind::Fixed => self.close_fixed(inst, place, branch),
+            Kind::Open => self.treat_open(inst, place, branch),
+        }
+    }
+}
