@@ -1,6 +1,5 @@
 pub mod Sound
-pub mod Floors
-pub mod OneLeaf
-pub mod PlanCosts
+pub mod Certified
+pub mod PlanEdges
 pub mod Writing
 pub mod Fit

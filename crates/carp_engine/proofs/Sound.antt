@@ -1,46 +1,48 @@
 -- What is found is sound.
-use Rattle.std.proofs.Common.{◌≡◌, ℕ, ◌≤◌, ◌==◌, List, refl, sym, subst}
-use Rattle.std.specs.Prelude.{if◌then◌else◌}
-use Rattle.carp_base.specs.Problem.{Problem, IsValid, required_cost}
+use Rattle.std.proofs.Common.{◌≡◌, ℕ, ◌+◌, ◌-◌, ◌*◌, ◌/◌, ◌^◌, ◌≤◌, ◌<◌, ◌⊎◌, List, refl, sym, subst, arith, inl, inr}
+use Rattle.carp_base.specs.Problem.{Problem, required_cost}
 use Rattle.plan_model.specs.declared.step.Step.{Step}
 use Rattle.plan_model.specs.Plans.{plan_cost}
-use Rattle.branch_rules.specs.Laws.{PricesBound}
-use Rattle.branch_rules.specs.Prices.{Prices}
+use Rattle.branch_rules.specs.Laws.{LeanIsSmall}
+use Rattle.branch_tree.specs.Founds.{Findings, IsFound, support_found}
 use Rattle.cert_lines.specs.Certificates.{Certificate}
-use Rattle.cert_lines.specs.Laws.{FineIsSpellable, ShoreIsFine}
-use Rattle.cert_format.specs.Good.{CountsAreInRange}
-use Rattle.floor_prices.specs.Floors.{plain_value}
-use Rattle.carp_engine.specs.Helpers.{IsShortPlan}
-use Rattle.carp_engine.specs.Leaves.{AreWithinLimits, IsGreatestShown, IsOfSet, IsRootSet, by_set}
+use Rattle.carp_engine.specs.Certifying.{IsSearched, certificate_by}
 use Rattle.carp_engine.specs.Solutions.{IsAtMostSingles, IsSound}
-use Rattle.carp_engine.proofs.Floors.{above_floors, reached_is_below}
-use Rattle.carp_engine.proofs.OneLeaf.{set_is_fine, set_is_good, shown_bounds, turns_of}
+use Rattle.carp_engine.proofs.Certified.{Laws, above_floors, bounds, is_fine, is_good, reached}
 
--- the laws that a certificate rests on
-pub record Laws : Type 0 where
-  pub prices : PricesBound
-  pub counts : CountsAreInRange
-  pub spelled : FineIsSpellable
-  pub shores : ShoreIsFine
+module _ (laws : Laws) (p : Problem) (budget : ℕ) (plan : List (List Step)) (cheap : IsAtMostSingles p (plan_cost p plan)) (c : Certificate) (turns : ℕ)
+    (s : IsSearched p budget plan c turns) where
+  cheaper : IsAtMostSingles p (plan_cost p s.found.plan)
+  cheaper = record { singles = cheap.singles; tours = cheap.tours; lawful = cheap.lawful; at_most = omega (arith, cheap.at_most, s.no_dearer) }
 
-module _ (laws : Laws) (p : Problem) (valid : IsValid p) (plan : List (List Step)) (short : IsShortPlan p plan) (cheap : IsAtMostSingles p (plan_cost p plan))
-    (pool : List (List ℕ)) (set : Prices) (root : IsRootSet p pool set) (turns : ℕ) where
-  sound_set : AreWithinLimits pool set → (bound : ℕ) → IsGreatestShown set.unit (plain_value p pool set) (plan_cost p plan) bound → turns ≡ (if bound == plan_cost p plan then 1 else 0) →
-      IsSound p (by_set p plan pool set bound) turns
-  unfolding set_is_good
-  sound_set limits bound greatest are = record {
-    good = set_is_good p valid plan short pool set root bound greatest.shown;
-    bounds = shown_bounds laws.prices p valid pool set root bound greatest.shown;
-    spellable = laws.spelled (by_set p plan pool set bound) (set_is_fine p valid plan short pool set root laws.counts laws.shores limits bound greatest.at_most);
+  sound_by : IsSound p (certificate_by p s.found) turns
+  unfolding is_good
+  sound_by = record {
+    good = is_good laws p s.found turns s.is_found;
+    bounds = bounds laws p s.found turns s.is_found;
+    spellable = laws.spelled (certificate_by p s.found) (is_fine laws p s.found turns s.is_found s.certified.limits);
     counts = refl;
-    plan = short;
-    no_dearer = cheap;
-    not_above = greatest.at_most;
-    greatest = λ other most shows. greatest.greatest other most shows.2.above;
-    services = reached_is_below laws.prices p valid plan short.lawful pool set root limits.fine.some_unit bound greatest (required_cost p) root.services;
-    floors = above_floors laws.prices p valid plan short.lawful pool set root limits.fine.some_unit bound greatest;
-    turns_are = turns_of p valid plan short pool set root bound turns greatest are;
+    plan = s.is_found.short;
+    no_dearer = cheaper;
+    not_above = s.is_found.at_most;
+    greatest = λ other most shows. s.is_found.greatest other most shows;
+    services = reached laws p s.found turns s.is_found (required_cost p) s.is_found.floors.services;
+    floors = above_floors laws p s.found turns s.is_found;
+    turns_are = s.is_found.turns_are;
   }
 
-  pub sound : (c : Certificate) → IsOfSet p plan pool set c turns → IsSound p c turns
-  sound c of = subst (λ (d : Certificate). IsSound p d turns) (sym of.certificate) (sound_set of.limits c.bound of.greatest of.turns_are)
+  pub sound : IsSound p c turns
+  sound = subst (λ (d : Certificate). IsSound p d turns) (sym s.certified.certificate) sound_by
+
+-- the bound is below the cost only where the turns are at least the budget
+module _ (p : Problem) (budget : ℕ) (plan : List (List Step)) (c : Certificate) (turns : ℕ) (s : IsSearched p budget plan c turns) where
+  pub ended : (c.bound ≡ c.cost) ⊎ (budget ≤ turns)
+  ended = subst (λ (d : Certificate). (d.bound ≡ d.cost) ⊎ (budget ≤ turns)) (sym s.certified.certificate) s.ended
+
+  pub whole : LeanIsSmall → 2 ^ (p.required * (p.required - 1) / 2 + 5) ≤ budget → c.bound ≡ c.cost
+  whole law enough =
+      let few = law (support_found p s.found) (plan_cost p s.found.plan) s.is_found.tree turns s.is_found.lean s.is_found.pairs s.is_found.turns_are in
+      elim ended [
+        | inl same ↦ same
+        | inr spent ↦ absurd (omega (arith, few, spent, enough))
+      ]

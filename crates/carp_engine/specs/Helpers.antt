@@ -1,9 +1,9 @@
 -- What holds of a helper that was asked.
-use Rattle.std.specs.Prelude.{◌≡◌, ℕ, ◌<◌, ◌≤◌, List, length, Option, None, Some}
+use Rattle.std.specs.Prelude.{◌≡◌, ℕ, ◌<◌, ◌≤◌, List, Option, None, Some}
 use Rattle.carp_base.specs.Problem.{Problem}
 use Rattle.plan_model.specs.declared.step.Step.{Step}
 use Rattle.plan_model.specs.Offers.{Tally}
-use Rattle.plan_model.specs.Plans.{IsLawful, plan_cost, steps_of}
+use Rattle.plan_model.specs.Plans.{IsLawful, plan_cost}
 use Rattle.carp_engine.specs.declared.consulting.Heard.{Heard}
 use Rattle.carp_engine.specs.declared.consulting.Heard.TheVariants.{Better, Same, Foul}
 
@@ -25,9 +25,3 @@ Hears p best None heard = heard ≡ Same
 Hears p best (Some plan) Better = IsLawful p plan × (plan_cost p plan < plan_cost p best)
 Hears p best (Some plan) Same = IsLawful p plan × (plan_cost p best ≤ plan_cost p plan)
 Hears p best (Some plan) Foul = ¬ (IsLawful p plan)
-
--- a lawful plan of no more tours than there are required edges, and of at most 2,000,000 steps
-pub record IsShortPlan (p : Problem) (plan : List (List Step)) : Type 0 where
-  pub lawful : IsLawful p plan
-  pub few_tours : length plan ≤ p.required
-  pub few_steps : length (steps_of plan) ≤ 2000000

@@ -1,3 +1,3 @@
 pub mod Helpers
 pub mod Solutions
-pub mod Leaves
+pub mod Certifying

@@ -1,77 +1,49 @@
-// The certificate of a plan, with the bound that one price set shows.
-ghost use Rattle.std.specs.Prelude.{◌≡◌, ◌≤◌, All, IfOk, length, pos, ◌≤ℤ◌};
-ghost use Rattle.carp_base.specs.Problem.{IsValid};
+// The certificate of what a search found.
+ghost use Rattle.std.specs.Prelude.{◌≡◌, ◌≤◌, All, IfOk, length};
 ghost use Rattle.cut_pool.specs.Pools.{AreDifferent};
 ghost use Rattle.cut_pool.specs.Shores.{IsShore};
-ghost use Rattle.floor_prices.specs.Floors.{plain_value};
+ghost use Rattle.branch_rules.specs.Limits.{IsPriceSet};
+ghost use Rattle.branch_tree.specs.Founds.{IsFound, findings_of};
 ghost use Rattle.cert_format.specs.Certs.{certificate_in};
-ghost use Rattle.carp_engine.specs.Helpers.{IsShortPlan};
-ghost use Rattle.carp_engine.specs.Leaves.{IsGreatestShown, IsOfSet, IsRootSet};
+ghost use Rattle.carp_engine.specs.Certifying.{IsCertified};
 
 use crate::Solved;
-use branch_rules::{Branch, Node, PriceSet, Tree};
+use branch_rules::PriceSet;
+use branch_tree::{Found, short_plans_cost_little};
 use carp_base::{Instance, Memory};
 use cert_format::{Cert, counts_of};
 use cut_pool::ShorePool;
-use plan_model::Plan;
 use std::alloc::Global;
 use task_tours::lawful_cost;
 
-// The certificate of a tree of one leaf with this price set. Its bound is the greatest up to the plan's cost that the set shows.
+// The certificate of what was found, and the turns of its tree.
 pub(crate) fn certify(
     alloc: Global,
     inst: &Instance,
-    plan: Plan,
-    pool: ShorePool,
-    set: PriceSet,
+    found: Found,
+    turns: u64,
 ) -> Result<Solved, Memory>
-    requires short { IsShortPlan inst.now plan }
-    requires root { IsRootSet inst.now pool set }
-    ensures certified { IfOk result (λ solved. IsOfSet inst.now plan pool set (certificate_in solved.cert) solved.turns) }
-    ensures valid { IsValid inst.now }
+    requires { IsFound inst.now (findings_of found) turns }
+    ensures certified { IfOk result (λ solved. IsCertified inst.now (findings_of found) (certificate_in solved.cert)) }
+    ensures turns { IfOk result (λ solved. solved.turns ≡ turns) }
 {
+    short_plans_cost_little();
     let counts = Some(counts_of(inst));
-    let cost = lawful_cost(alloc, inst, &plan)? as u64;
-    let bound = shown_bound(alloc, inst, &pool, &set, cost);
-    look_at_shores(&pool);
-    let mut sets = Vec::with_capacity(alloc, 1)?;
-    sets.push(set)?;
-    let mut tree = Tree::new(alloc, 1)?;
-    tree.put_node(Node::Price { set: 1 });
+    let cost = lawful_cost(alloc, inst, &found.plan)? as u64;
+    look_at_shores(&found.shores);
+    look_at_sets(&found.sets);
     Ok(Solved {
         cert: Cert {
             cost,
-            bound,
-            plan,
-            shores: pool,
-            sets,
-            tree,
+            bound: found.bound,
+            plan: found.plan,
+            shores: found.shores,
+            sets: found.sets,
+            tree: found.tree,
             counts,
         },
-        turns: u64::from(bound == cost),
+        turns,
     })
-}
-
-// The greatest bound up to a cost that a price set shows without decisions.
-fn shown_bound(alloc: Global, inst: &Instance, pool: &ShorePool, set: &PriceSet, cost: u64) -> u64
-    requires root { IsRootSet inst.now pool.now set.now }
-    requires some { pos 0 ≤ℤ plain_value inst.now pool.now set.now }
-    ensures { IsGreatestShown set.now.unit (plain_value inst.now pool.now set.now) cost result }
-{
-    match Branch::new(alloc).value_at(inst, pool, set) {
-        Ok(value) => greatest_shown(value, set.unit(), cost),
-        Err(_) => unreachable!(),
-    }
-}
-
-// The value divided by the unit and rounded up, and the cost where that is less.
-fn greatest_shown(value: i128, unit: u64, cost: u64) -> u64
-    requires some { pos 0 ≤ℤ value }
-    requires unit { 1 ≤ unit }
-    ensures { IsGreatestShown unit value cost result }
-{
-    let shown = value.unsigned_abs().div_ceil(u128::from(unit));
-    shown.min(u128::from(cost)) as u64
 }
 
 // What is said of a pool and of each of its shores where they are read.
@@ -82,5 +54,14 @@ fn look_at_shores(pool: &ShorePool)
 {
     for number in 1..pool.len() + 1 {
         pool.shore(number).len();
+    }
+}
+
+// What is said of price sets where they are read.
+fn look_at_sets(sets: &[PriceSet])
+    ensures { All IsPriceSet sets.now }
+{
+    for set in sets {
+        set.unit();
     }
 }

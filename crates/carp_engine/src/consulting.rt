@@ -3,7 +3,8 @@ ghost use Rattle.std.specs.Prelude.{◌≡◌, ◌+◌, ◌<◌, ◌≤◌, ◌�
 ghost use Rattle.deadhead_paths.specs.Prices.{costs_of};
 ghost use Rattle.plan_model.specs.Offers.{smaller};
 ghost use Rattle.plan_model.specs.Plans.{IsLawful, plan_cost};
-ghost use Rattle.carp_engine.specs.Helpers.{Hears, IsShortPlan};
+ghost use Rattle.branch_tree.specs.Searches.{IsShortPlan};
+ghost use Rattle.carp_engine.specs.Helpers.{Hears};
 
 use carp_base::{Instance, Memory};
 use deadhead_paths::{Distances, tidy};

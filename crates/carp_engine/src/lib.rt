@@ -4,11 +4,11 @@
 //! rounds. No helper need be trusted: each offer is judged. [`dismiss`] drops those that offered an unlawful plan.
 #![tactic(auto)]
 
-mod bounding;
 mod certifying;
 mod consulting;
 mod dismissing;
 mod rounds;
+mod searching;
 mod solving;
 #[cfg(test)]
 mod tests;

@@ -2,7 +2,8 @@
 ghost use Rattle.std.specs.Prelude.{◌≡◌, ◌+◌, ◌%◌, ◌^◌, ◌<◌, ◌≤◌, All, EachIndex, None, OnOk, map, slice_index};
 ghost use Rattle.deadhead_paths.specs.Prices.{costs_of};
 ghost use Rattle.plan_model.specs.Plans.{IsLawful, plan_cost};
-ghost use Rattle.carp_engine.specs.Helpers.{IsAtMost, IsFit, IsShortPlan};
+ghost use Rattle.branch_tree.specs.Searches.{IsShortPlan};
+ghost use Rattle.carp_engine.specs.Helpers.{IsAtMost, IsFit};
 
 use crate::consulting::{Heard, hear};
 use carp_base::{Instance, Memory};

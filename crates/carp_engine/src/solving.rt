@@ -1,18 +1,17 @@
 // Finds a plan of an instance, and a bound on all its plans.
-ghost use Rattle.std.specs.Prelude.{◌≡◌, ◌+◌, ◌%◌, ◌^◌, ◌≤◌, All, EachIndex, IfOk, OnOk, map, slice_index};
+ghost use Rattle.std.specs.Prelude.{◌≡◌, ◌⊎◌, ◌+◌, ◌-◌, ◌*◌, ◌/◌, ◌%◌, ◌^◌, ◌≤◌, All, EachIndex, IfOk, OnOk, map, slice_index};
 ghost use Rattle.carp_base.specs.Problem.{IsValid, required_edges};
 ghost use Rattle.carp_engine.specs.Helpers.{IsAtMost};
 ghost use Rattle.cert_format.specs.Certs.{certificate_in};
 ghost use Rattle.carp_engine.specs.Solutions.{IsSound};
 
-use crate::bounding::root_set;
-use crate::certifying::certify;
 use crate::rounds::ask_all;
-use branch_rules::prices_bound;
+use crate::searching::search;
+use branch_rules::{lean_trees_are_small, tree_bounds};
+use branch_tree::short_plans_cost_little;
 use carp_base::{Instance, Memory};
 use cert_format::{Cert, counts_are_in_range};
 use cert_lines::{fine_is_spellable, shores_are_fine};
-use cut_pool::ShorePool;
 use deadhead_paths::{single_tours, tidy};
 use plan_model::Proposer;
 use std::alloc::Global;
@@ -32,32 +31,39 @@ pub struct Solved {
 ///
 /// Each helper is seeded with `seed` plus its place in the list, from 0, wrapping. Then the helpers are asked in order, in up to
 /// four rounds; a round in which no offer is better is the last, and after an unlawful offer a helper is not asked again.
-/// The list keeps all its helpers in their order. Without memory the answer is `Memory`. Of the budget of turns no use is
-/// made yet.
+/// The list keeps all its helpers in their order. Without memory the answer is `Memory`.
 ///
-/// Beside what the helpers take, it takes time in proportion to n (n + m) log n with n vertices and m edges.
+/// Then a tree of decisions is searched by turns (`branch_tree`), until it shows the cost of the best plan or its turns, its inner nodes and
+/// its leaves that show the cost by themselves, reach the budget, which is 1 to 1,048,576. So the bound is below the cost only where the
+/// budget is spent; a budget of `2^(m (m - 1) / 2 + 5)` with m required edges is never spent.
+///
+/// Beside what the helpers take, it takes time in proportion to n (n + m) log n with n vertices and m edges, and that of the turns.
 pub fn solve<P: Proposer>(
     alloc: Global,
     inst: &Instance,
-    _turns: u64,
+    turns: u64,
     seed: u64,
     helpers: &mut Vec<P>,
 ) -> Result<Solved, Memory>
+    requires some_turns { 1 ≤ turns }
+    requires turns_in_range { turns ≤ 1048576 }
     ensures same { map P.id helpers.new.items ≡ map P.id helpers.old.items }
     ensures seeds { OnOk result (EachIndex helpers.new.items (λ k. slice_index (map P.seed helpers.new.items) k ≡ (seed + k) % 2 ^ 64)) }
     ensures asked { OnOk result (All (λ helper. 1 ≤ P.asked helper) helpers.new.items) }
     ensures fouls { OnOk result (All (λ helper. (P.tally helper).fouls ≤ 1) helpers.new.items) }
     ensures least { IfOk result (λ solved. All (λ helper. IsAtMost solved.cert.cost (P.tally helper).least) helpers.new.items) }
     ensures sound { IfOk result (λ solved. IsSound inst.now (certificate_in solved.cert) solved.turns) }
+    ensures ended { IfOk result (λ solved. (solved.cert.bound ≡ solved.cert.cost) ⊎ (turns ≤ solved.turns)) }
+    ensures whole { 2 ^ (inst.now.required * (inst.now.required - 1) / 2 + 5) ≤ turns → IfOk result (λ solved. solved.cert.bound ≡ solved.cert.cost) }
 {
-    prices_bound();
+    tree_bounds();
+    lean_trees_are_small();
+    short_plans_cost_little();
     counts_are_in_range();
     fine_is_spellable();
     shores_are_fine();
     let dist = cost_distances(alloc, inst)?;
     let mut plan = tidy(alloc, inst, &dist, &single_tours(alloc, inst, &dist)?)?;
     ask_all(alloc, inst, &dist, &mut plan, helpers, seed)?;
-    let mut pool = ShorePool::new(alloc);
-    let set = root_set(alloc, inst, &dist, &mut pool)?;
-    certify(alloc, inst, plan, pool, set)
+    search(alloc, inst, turns, plan)
 }

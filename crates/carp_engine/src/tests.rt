@@ -1,5 +1,5 @@
 // What helpers do to a list, to each other and to the best plan.
-ghost use Rattle.std.specs.Prelude.{◌≡◌, ◌<◌, List, Ok, Some};
+ghost use Rattle.std.specs.Prelude.{◌≡◌, ◌<◌, ◌≤◌, List, Ok, Some};
 ghost use Rattle.carp_base.specs.Problem.{Problem};
 ghost use Rattle.plan_model.specs.declared.step.Step.{Step};
 ghost use Rattle.plan_model.specs.Offers.{AfterOffer};
@@ -263,11 +263,44 @@ fn single_tours_stand_without_helpers(rt: HostRuntime) -> Result<(), Fail> {
     let alloc = rt.alloc();
     let inst = triangle(alloc)?;
     let mut helpers: Vec<Actor> = Vec::new(alloc);
-    let solved = solve(alloc, &inst, 64, 1, &mut helpers)?;
+    let solved = solve(alloc, &inst, 1, 1, &mut helpers)?;
     assert_eq!(rt;
         (solved.cert.cost, solved.cert.bound, solved.cert.plan.len()),
         (34, 16, 3)
     );
+    Ok(())
+}
+
+// Five streets of cost 1 and demand 2 at the end of a way of cost 100, of which a vehicle serves two.
+fn star(alloc: Global) -> Result<Instance, Fail> {
+    let required = [
+        street(2, 3, 1, 2),
+        street(2, 4, 1, 2),
+        street(2, 5, 1, 2),
+        street(2, 6, 1, 2),
+        street(2, 7, 1, 2),
+    ];
+    Ok(Instance::build(alloc, 7, 1, 5, &required, &[street(1, 2, 100, 0)])?)
+}
+
+// The cost and the bound of the star by so many turns, without helpers.
+fn star_by(alloc: Global, turns: u64) -> Result<(u64, u64), Fail>
+    requires some_turns { 1 ≤ turns }
+    requires turns_in_range { turns ≤ 1048576 }
+{
+    let inst = star(alloc)?;
+    let mut helpers: Vec<Actor> = Vec::new(alloc);
+    let solved = solve(alloc, &inst, turns, 1, &mut helpers)?;
+    Ok((solved.cert.cost, solved.cert.bound))
+}
+
+// One turn leaves single tours and what one price set shows. Where as many turns are asked for as no tree of five streets has, the search
+// finds three tours by itself, and shows that none cost less.
+#[test]
+fn turns_close_the_gap(rt: HostRuntime) -> Result<(), Fail> {
+    let alloc = rt.alloc();
+    assert_eq!(rt; star_by(alloc, 1)?, (1010, 510));
+    assert_eq!(rt; star_by(alloc, 32_768)?, (610, 610));
     Ok(())
 }
 

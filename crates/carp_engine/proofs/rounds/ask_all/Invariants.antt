@@ -1,6 +1,7 @@
 use Rattle.std.proofs.Common.{◌≡◌, ◌≤◌, map, All}
 use Rattle.plan_model.specs.Plans.{plan_cost}
-use Rattle.carp_engine.specs.Helpers.{IsFit, IsShortPlan}
+use Rattle.branch_tree.specs.Searches.{IsShortPlan}
+use Rattle.carp_engine.specs.Helpers.{IsFit}
 use Rattle.carp_engine.proofs.rounds.ask_all.Given as goal
 
 abbrev pub invariant-loop-round : goal.invariant-loop-round

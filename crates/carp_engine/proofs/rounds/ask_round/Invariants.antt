@@ -1,6 +1,7 @@
 use Rattle.std.proofs.Common.{◌≡◌, ℕ, ◌+◌, ◌<◌, ◌≤◌, map, length, slice_index_or}
 use Rattle.plan_model.specs.Plans.{plan_cost}
-use Rattle.carp_engine.specs.Helpers.{IsFit, IsShortPlan}
+use Rattle.branch_tree.specs.Searches.{IsShortPlan}
+use Rattle.carp_engine.specs.Helpers.{IsFit}
 use Rattle.carp_engine.proofs.rounds.ask_round.Given as goal
 
 abbrev pub invariant-loop-i : goal.invariant-loop-i

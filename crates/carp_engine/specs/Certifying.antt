@@ -1,0 +1,45 @@
+-- The certificate of what a search found. No public contract speaks of this.
+use Rattle.std.specs.Prelude.{◌≡◌, ◌⊎◌, ℕ, ◌≤◌, List, length, Some}
+use Rattle.std.specs.List.{All}
+use Rattle.carp_base.specs.Problem.{Problem}
+use Rattle.plan_model.specs.Plans.{plan_cost}
+use Rattle.plan_model.specs.declared.step.Step.{Step}
+use Rattle.cut_pool.specs.Pools.{AreDifferent}
+use Rattle.cut_pool.specs.Shores.{IsShore}
+use Rattle.branch_rules.specs.Limits.{IsPriceSet}
+use Rattle.branch_rules.specs.Prices.{Prices}
+use Rattle.branch_tree.specs.Founds.{Findings, IsFound}
+use Rattle.cert_lines.specs.Certificates.{Certificate}
+use Rattle.cert_format.specs.Good.{counts_in}
+
+-- the certificate of what was found
+abbrev pub certificate_by : Problem → Findings → Certificate
+certificate_by p f = record {
+  counts = Some (counts_in p);
+  cost = plan_cost p f.plan;
+  bound = f.bound;
+  plan = f.plan;
+  shores = f.pool;
+  sets = f.sets;
+  nodes = f.nodes;
+}
+
+-- what a pool and price sets are within their limits
+pub record AreWithinLimits (pool : List (List ℕ)) (sets : List Prices) : Type 0 where
+  pub few : length pool ≤ 2000
+  pub different : AreDifferent pool
+  pub shores : All IsShore pool
+  pub fine : All IsPriceSet sets
+
+pub record IsCertified (p : Problem) (f : Findings) (c : Certificate) : Type 0 where
+  pub limits : AreWithinLimits f.pool f.sets
+  pub certificate : c ≡ certificate_by p f
+
+-- what a search from a plan on found, and its certificate: the plan costs no more, and the bound is below the cost only where the turns
+-- are at least the budget
+pub record IsSearched (p : Problem) (budget : ℕ) (plan : List (List Step)) (c : Certificate) (turns : ℕ) : Type 0 where
+  pub found : Findings
+  pub is_found : IsFound p found turns
+  pub certified : IsCertified p found c
+  pub no_dearer : plan_cost p found.plan ≤ plan_cost p plan
+  pub ended : (found.bound ≡ plan_cost p found.plan) ⊎ (budget ≤ turns)

@@ -1,0 +1,50 @@
+// Searches for a tree that shows the cost of a plan, within a budget of turns.
+ghost use Rattle.std.specs.Prelude.{◌≡◌, ◌⊎◌, ◌≤◌, IfOk, OnOk};
+ghost use Rattle.branch_tree.specs.Searches.{IsSearch, IsShortPlan, state_of};
+ghost use Rattle.branch_tree.specs.Steps.{AreClosed};
+ghost use Rattle.cert_format.specs.Certs.{certificate_in};
+ghost use Rattle.carp_engine.specs.Certifying.{IsSearched};
+
+use crate::Solved;
+use crate::certifying::certify;
+use branch_tree::{Search, Turn};
+use carp_base::{Instance, Memory};
+use plan_model::Plan;
+use std::alloc::Global;
+
+// The best plan that a search from this plan on finds, and its certificate.
+pub(crate) fn search(
+    alloc: Global,
+    inst: &Instance,
+    turns: u64,
+    plan: Plan,
+) -> Result<Solved, Memory>
+    requires some_turns { 1 ≤ turns }
+    requires turns_in_range { turns ≤ 1048576 }
+    requires short { IsShortPlan inst.now plan }
+    ensures { IfOk result (λ solved. IsSearched inst.now turns plan (certificate_in solved.cert) solved.turns) }
+{
+    let mut search = Search::begin(alloc, inst, turns, plan)?;
+    take_turns(inst, turns, &mut search)?;
+    let done = search.done();
+    let found = search.finish(alloc, inst)?;
+    let solved = certify(alloc, inst, found, done)?;
+    Ok(solved)
+}
+
+// Takes turns until each leaf is closed or the budget is spent.
+fn take_turns(inst: &Instance, turns: u64, search: &mut Search) -> Result<(), Memory>
+    requires search { IsSearch inst.now search.old }
+    requires turns { search.old.turns ≡ turns }
+    ensures search { IsSearch inst.now search.new }
+    ensures no_dearer { search.new.cost ≤ search.old.cost }
+    ensures ended { OnOk result (AreClosed (state_of search.new) ⊎ (turns ≤ search.new.done)) }
+{
+    while search.done() < turns {
+        let turn = search.step(inst)?;
+        if turn == Turn::Done {
+            return Ok(());
+        }
+    }
+    Ok(())
+}
