@@ -1,0 +1,87 @@
+-- What becomes of reading the files of a command: the contracts of this crate's calls.
+use Rattle.std.specs.Prelude.{◌≡◌, ℕ, ◌+◌, List, [], ◌∷◌, Bool, IsTrue, Option, Result, Ok, Err, IsOk, IfOk, IsErrOf, ◌⊎◌}
+use Rattle.std.specs.declared.alloc.Global.{Global}
+use Rattle.std.specs.declared.vec.Vec.{Vec}
+use Rattle.carp_base.specs.Problem.{Problem}
+use Rattle.carp_base.specs.declared.fail.Fail.{Fail}
+use Rattle.carp_base.specs.declared.fail.Fail.TheVariants.{Refused, Memory as NoMemory}
+use Rattle.carp_outside.specs.Causes.{Rose, RoseBy}
+use Rattle.cert_lines.specs.Certificates.{Certificate}
+use Rattle.cert_lines.specs.Spelling.{IsSpellable}
+use Rattle.cert_lines.specs.Texts as certificates
+use Rattle.cert_format.specs.Certs.{certificate_in}
+use Rattle.cert_format.specs.Good.{IsGood}
+use Rattle.cert_format.specs.declared.cert.Cert.{Cert}
+use Rattle.cert_checker.specs.declared.reason.Answer.TheVariants as answers
+use Rattle.cert_checker.specs.declared.reason.Answer.{Answer}
+use Rattle.cert_checker.specs.declared.streaming.Checked.{Checked}
+use Rattle.command_words.specs.Commands.{Source}
+use Rattle.command_files.specs.Files.{Holds, IsBadFile, HasLimit, RoseAtSome}
+use Rattle.command_files.specs.declared.status.Status.{Status}
+use Rattle.command_files.specs.declared.status.Status.TheVariants.{BadInstance, BadCertificate, Rejected, ReadFault, TooLong}
+
+-- an answer by which a file is refused, and one by which its bytes are
+abbrev pub IsOfBytes : Status → Type 0
+IsOfBytes (BadInstance fault) = Unit {0}
+IsOfBytes (BadCertificate fault) = Unit {0}
+IsOfBytes (Rejected reason) = Unit {0}
+IsOfBytes status = ⊥
+
+abbrev pub IsRefusal : Status → Type 0
+IsRefusal ReadFault = Unit {0}
+IsRefusal (TooLong limit) = Unit {0}
+IsRefusal status = IsOfBytes status
+
+-- what is made of bytes. `Is` says what it is, `Bad` how bytes are refused, and `Good` when they are not
+pub record IsParsed {X : Type 0} (bytes : List ℕ) (Is : List ℕ → X → Type 0) (Bad : List ℕ → Status → Type 0) (Good : List ℕ → Type 0) (result : Result X (Fail Status)) : Type 0 where
+  pub made : IfOk result (Is bytes)
+  pub refusal : (status : Status) → IsErrOf result (Refused status) → IsOfBytes status
+  pub refused : (status : Status) → IsErrOf result (Refused status) → Bad bytes status
+  pub bad : (status : Status) → Bad bytes status → IsErrOf result (Refused status) ⊎ IsErrOf result NoMemory
+  pub good : Good bytes → IsOk result ⊎ IsErrOf result NoMemory
+
+-- What becomes of reading these files: each refusal has its cause, and where no look failed, what is bad is refused and what is good is not.
+pub record IsTried {X : Type 0} (held : Bool) (sources : List Source) (looks_before looks_now : List ℕ → ℕ) (given_before given_now : ℕ)
+    (Bad : Status → Type 0) (Good : Type 0) (result : Result X (Fail Status)) : Type 0 where
+  pub refusal : (status : Status) → IsErrOf result (Refused status) → IsRefusal status
+  pub read : IsErrOf result (Refused ReadFault) → RoseAtSome sources looks_before looks_now
+  pub too_long : (limit : ℕ) → IsErrOf result (Refused (TooLong limit)) → HasLimit limit sources × RoseBy (limit + 1) given_before given_now
+  pub refused : IsTrue held → (status : Status) → IsErrOf result (Refused status) → (status ≡ ReadFault) ⊎ Bad status
+  pub bad : IsTrue held → (status : Status) → Bad status → ¬ (RoseAtSome sources looks_before looks_now) → IsErrOf result (Refused status) ⊎ IsErrOf result NoMemory
+  pub good : IsTrue held → Good → ¬ (RoseAtSome sources looks_before looks_now) → IsOk result ⊎ IsErrOf result NoMemory
+
+-- what the reading of a file gives
+pub record IsFileRead {X : Type 0} (held : Bool) (source : Source) (contents : List ℕ → Option (List ℕ)) (looks_before looks_now : List ℕ → ℕ) (given_before given_now : ℕ)
+    (Is : List ℕ → X → Type 0) (Bad : List ℕ → Status → Type 0) (Good : List ℕ → Type 0) (result : Result X (Fail Status)) : Type 0 where
+  pub made : IsTrue held → IfOk result (λ x. Holds source contents (λ bytes. Is bytes x))
+  pub some : IfOk result (λ x. (bytes : List ℕ) × Is bytes x)
+  pub tried : IsTried held (source ∷ []) looks_before looks_now given_before given_now (IsBadFile Bad source contents) (Holds source contents Good) result
+
+-- the bytes themselves, which nothing refuses
+abbrev pub AreBytes : List ℕ → Vec ℕ Global → Type 0
+AreBytes bytes list = list.items ≡ bytes
+
+abbrev pub NoneIsBad : List ℕ → Status → Type 0
+NoneIsBad bytes status = ⊥
+
+abbrev pub EachIsGood : List ℕ → Type 0
+EachIsGood bytes = Unit {0}
+
+-- what was checked is of a good certificate with this text
+pub record IsAcceptedText (p : Problem) (bytes : List ℕ) (checked : Checked) : Type 0 where
+  pub certificate : Certificate
+  pub text : certificates.IsTextOf bytes certificate
+  pub good : IsGood p certificate
+  pub cost : checked.cost ≡ certificate.cost
+  pub bound : checked.bound ≡ certificate.bound
+
+-- what was checked, or why it is rejected
+abbrev pub accepted_of : Checked → Answer → Result Checked (Fail Status)
+accepted_of checked answers.Accepted = Ok checked
+accepted_of checked (answers.Rejected reason) = Err (Refused (Rejected reason))
+
+-- a good certificate with this text
+pub record IsGoodCert (p : Problem) (bytes : List ℕ) (cert : Cert) : Type 0 where
+  pub text : certificates.IsTextOf bytes (certificate_in cert)
+  pub spellable : IsSpellable (certificate_in cert)
+  pub good : IsGood p (certificate_in cert)

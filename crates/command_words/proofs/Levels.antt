@@ -1,0 +1,83 @@
+-- What `clap` reads of the words after a verb.
+use Rattle.std.proofs.Common.{◌≡◌, true, List, [], ◌∷◌, refl, Some, codes, unwrap_or}
+use Rattle.std.specs.Prelude.{find}
+use Rattle.clap.proofs.OnLiterals.{clap_on_literals}
+use Rattle.clap.specs.Simple.{Shape, built, label_of, new_shape}
+use Rattle.clap.specs.Walk.{Row, Text, answers_to}
+use Rattle.clap.specs.Words.{one_of}
+use Rattle.command_words.specs.Grammar.{HasNumber, IsRead, grammar_app}
+use Rattle.command_words.specs.Commands.{Command, Solve, Check, Upgrade}
+use Rattle.command_words.specs.Words.{is_number, number_of}
+use Rattle.command_words.proofs.Walking.{IsPlainText, Reads, goes_end, goes_name, goes_on, goes_value, reads}
+
+-- the subcommand of a verb, as it is built
+abbrev pub leaf : Text → Shape
+leaf verb = unwrap_or (find (λ s. answers_to verb (label_of s)) (built grammar_app).subs) (new_shape [])
+
+-- the words after a verb are read as those of a command
+pub record IsReadAs (verb : Text) (words : List Text) (c : Command) : Type 0 where
+  pub rows : List Row
+  pub level : Reads (leaf verb) words rows
+  pub read : IsRead c verb rows
+
+-- a number that was given, and one that was not
+given : {rows : List Row} (id text : Text) → one_of id rows ≡ Some text → is_number text ≡ true → HasNumber id (number_of text) rows
+given id text read digits = record { text = text; read = read; digits = digits; number = refl }
+
+module _ (file cert : Text) (f : IsPlainText file) (g : IsPlainText cert) where
+  pub check_read : IsReadAs (codes "check") (file ∷ cert ∷ []) (Check file cert)
+  unfolding clap_on_literals
+  check_read = record {
+    rows = _;
+    level = reads (goes_name f refl (goes_name g refl goes_end)) refl;
+    read = (refl, refl, refl);
+  }
+
+  pub upgrade_read : (renewed : Text) → IsPlainText renewed → IsReadAs (codes "upgrade") (file ∷ cert ∷ renewed ∷ []) (Upgrade file cert renewed)
+  unfolding clap_on_literals
+  upgrade_read renewed h = record {
+    rows = _;
+    level = reads (goes_name f refl (goes_name g refl (goes_name h refl goes_end))) refl;
+    read = (refl, refl, refl, refl);
+  }
+
+  pub solve_read : IsReadAs (codes "solve") (file ∷ cert ∷ []) (Solve file cert 64 1)
+  unfolding clap_on_literals
+  solve_read = record {
+    rows = _;
+    level = reads (goes_name f refl (goes_name g refl goes_end)) refl;
+    read = (refl, refl, refl, given (codes "turns") (codes "64") refl refl, given (codes "seed") (codes "1") refl refl);
+  }
+
+  pub turns_read : (n : Text) → is_number n ≡ true → IsPlainText n → IsReadAs (codes "solve") (file ∷ cert ∷ codes "--turns" ∷ n ∷ []) (Solve file cert (number_of n) 1)
+  unfolding clap_on_literals
+  turns_read n digits h = record {
+    rows = _;
+    level = reads (goes_name f refl (goes_name g refl (goes_on refl refl (goes_value h goes_end)))) refl;
+    read = (refl, refl, refl, given (codes "turns") n refl digits, given (codes "seed") (codes "1") refl refl);
+  }
+
+  pub seed_read : (n : Text) → is_number n ≡ true → IsPlainText n → IsReadAs (codes "solve") (file ∷ cert ∷ codes "--seed" ∷ n ∷ []) (Solve file cert 64 (number_of n))
+  unfolding clap_on_literals
+  seed_read n digits h = record {
+    rows = _;
+    level = reads (goes_name f refl (goes_name g refl (goes_on refl refl (goes_value h goes_end)))) refl;
+    read = (refl, refl, refl, given (codes "turns") (codes "64") refl refl, given (codes "seed") n refl digits);
+  }
+
+  module _ (n k : Text) (d : is_number n ≡ true) (e : is_number k ≡ true) (h : IsPlainText n) (i : IsPlainText k) where
+    pub turns_first : IsReadAs (codes "solve") (file ∷ cert ∷ codes "--turns" ∷ n ∷ codes "--seed" ∷ k ∷ []) (Solve file cert (number_of n) (number_of k))
+    unfolding clap_on_literals
+    turns_first = record {
+      rows = _;
+      level = reads (goes_name f refl (goes_name g refl (goes_on refl refl (goes_value h (goes_on refl refl (goes_value i goes_end)))))) refl;
+      read = (refl, refl, refl, given (codes "turns") n refl d, given (codes "seed") k refl e);
+    }
+
+    pub seed_first : IsReadAs (codes "solve") (file ∷ cert ∷ codes "--seed" ∷ k ∷ codes "--turns" ∷ n ∷ []) (Solve file cert (number_of n) (number_of k))
+    unfolding clap_on_literals
+    seed_first = record {
+      rows = _;
+      level = reads (goes_name f refl (goes_name g refl (goes_on refl refl (goes_value i (goes_on refl refl (goes_value h goes_end)))))) refl;
+      read = (refl, refl, refl, given (codes "turns") n refl d, given (codes "seed") k refl e);
+    }

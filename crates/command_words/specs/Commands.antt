@@ -1,0 +1,59 @@
+-- The commands: what each reads, what it keeps, and whether it asks the helpers.
+use Rattle.std.specs.Prelude.{ℕ, Bool, true, false, List, [], ◌∷◌, Option, None, Some}
+
+pub data Command : Type 0 where
+  Solve : (file cert : List ℕ) (turns seed : ℕ) → Command
+  Check : (file cert : List ℕ) → Command
+  Upgrade : (file cert renewed : List ℕ) → Command
+
+-- a file that is read, and the most bytes that it may have
+pub record Source : Type 0 where
+  pub name : List ℕ
+  pub limit : ℕ
+
+abbrev pub instance_at : List ℕ → Source
+instance_at name = record { name = name; limit = 4194304 }
+
+abbrev pub certificate_at : List ℕ → Source
+certificate_at name = record { name = name; limit = 268435456 }
+
+-- the files that a command reads, in order
+abbrev pub reads : Command → List Source
+reads (Solve file cert turns seed) = instance_at file ∷ []
+reads (Check file cert) = instance_at file ∷ certificate_at cert ∷ []
+reads (Upgrade file cert renewed) = instance_at file ∷ certificate_at cert ∷ []
+
+-- the names that a command keeps where it is done, in order
+abbrev pub keeps : Command → List (List ℕ)
+keeps (Solve file cert turns seed) = cert ∷ []
+keeps (Check file cert) = []
+keeps (Upgrade file cert renewed) = renewed ∷ []
+
+-- whether a command asks the helpers
+abbrev pub asks_helpers : Command → Bool
+asks_helpers (Solve file cert turns seed) = true
+asks_helpers (Check file cert) = false
+asks_helpers (Upgrade file cert renewed) = false
+
+-- the seed with which a command asks them
+abbrev pub seed_of : Command → ℕ
+seed_of (Solve file cert turns seed) = seed
+seed_of (Check file cert) = 0
+seed_of (Upgrade file cert renewed) = 0
+
+-- words that are no command read nothing, keep nothing and ask no helper
+abbrev pub sources_of : Option Command → List Source
+sources_of None = []
+sources_of (Some c) = reads c
+
+abbrev pub kept_by : Option Command → List (List ℕ)
+kept_by None = []
+kept_by (Some c) = keeps c
+
+abbrev pub is_helped : Option Command → Bool
+is_helped None = false
+is_helped (Some c) = asks_helpers c
+
+abbrev pub seed_by : Option Command → ℕ
+seed_by None = 0
+seed_by (Some c) = seed_of c

@@ -1,0 +1,17 @@
+-- What the code holds: a command, and the form that follows a verb. No public contract speaks of forms.
+use Rattle.std.specs.Prelude.{◌≡◌, is_some}
+use Rattle.command_words.specs.Commands as commands
+use Rattle.command_words.specs.Words as words
+use Rattle.command_words.specs.declared.command.Command.{Command}
+use Rattle.command_words.specs.declared.command.Command.TheVariants as variants
+use Rattle.command_words.specs.declared.plain.Takes.{Takes}
+
+-- the command that the code holds
+abbrev pub command_in : Command → commands.Command
+command_in (variants.Solve file cert turns seed) = commands.Solve file.now cert.now turns seed
+command_in (variants.Check file cert) = commands.Check file.now cert.now
+command_in (variants.Upgrade file cert renewed) = commands.Upgrade file.now cert.now renewed.now
+
+-- the code's form is this row of the table
+abbrev pub IsForm : Takes → words.Form → Type 0
+IsForm f form = (f.names ≡ form.names) × (f.turns ≡ is_some form.turns) × (f.seed ≡ is_some form.seed)

@@ -1,0 +1,55 @@
+-- The grammar by which `clap` reads plain words, and what its matches say. No public contract speaks of this.
+use Rattle.std.specs.Prelude.{◌≡◌, ℕ, true, List, [], ◌∷◌, Some, codes}
+use Rattle.clap.specs.Simple.{on_top}
+use Rattle.clap.specs.Words.{App, Row, Rule, Text, first_of, new_app, new_rule, one_of, subcommand_rows_of, with_rule, with_subcommand}
+use Rattle.clap.specs.declared.parser.matches.ArgMatches.{ArgMatches}
+use Rattle.command_words.specs.Commands.{Command, Solve, Check, Upgrade}
+use Rattle.command_words.specs.Words.{is_number, number_of}
+
+abbrev pub name_rule : Text → Rule
+name_rule id = record (new_rule id) { required = true }
+
+abbrev pub option_rule : (id default : Text) → Rule
+option_rule id default = record (new_rule id) { long = Some id; defaults = default ∷ [] }
+
+abbrev pub two_names : Text → App
+two_names verb = with_rule (with_rule (new_app verb) (name_rule (codes "file"))) (name_rule (codes "cert"))
+
+abbrev pub solve_app : App
+solve_app = with_rule (with_rule (two_names (codes "solve")) (option_rule (codes "turns") (codes "64"))) (option_rule (codes "seed") (codes "1"))
+
+abbrev pub check_app : App
+check_app = two_names (codes "check")
+
+abbrev pub upgrade_app : App
+upgrade_app = with_rule (two_names (codes "upgrade")) (name_rule (codes "renewed"))
+
+abbrev pub without_name : App → App
+without_name = on_top (λ s. record s { no_binary_name = true })
+
+abbrev pub grammar_app : App
+grammar_app = with_subcommand (with_subcommand (with_subcommand (without_name (new_app (codes "carp"))) solve_app.top) check_app.top) upgrade_app.top
+
+-- the matches have a name, and a number
+abbrev pub HasName : Text → Text → List Row → Type 0
+HasName id name rows = first_of id rows ≡ Some name
+
+pub record HasNumber (id : Text) (n : ℕ) (rows : List Row) : Type 0 where
+  pub text : Text
+  pub read : one_of id rows ≡ Some text
+  pub digits : is_number text ≡ true
+  pub number : number_of text ≡ n
+
+-- the verb and the matches are those of a command
+abbrev pub IsRead : Command → Text → List Row → Type 0
+IsRead (Solve file cert turns seed) verb rows =
+    (verb ≡ codes "solve") × HasName (codes "file") file rows × HasName (codes "cert") cert rows × HasNumber (codes "turns") turns rows × HasNumber (codes "seed") seed rows
+IsRead (Check file cert) verb rows = (verb ≡ codes "check") × HasName (codes "file") file rows × HasName (codes "cert") cert rows
+IsRead (Upgrade file cert renewed) verb rows =
+    (verb ≡ codes "upgrade") × HasName (codes "file") file rows × HasName (codes "cert") cert rows × HasName (codes "renewed") renewed rows
+
+pub record AreMatchesOf (c : Command) (m : ArgMatches) : Type 0 where
+  pub verb : Text
+  pub rows : List Row
+  pub entered : subcommand_rows_of m ≡ Some (verb, rows)
+  pub read : IsRead c verb rows

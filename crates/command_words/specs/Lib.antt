@@ -1,0 +1,5 @@
+pub mod Commands
+pub mod Words
+pub mod Forms
+pub mod Grammar
+pub mod Laws

@@ -1,0 +1,150 @@
+// Reads plain words by `clap`.
+ghost use Rattle.std.specs.Prelude.{◌≡◌, ℕ, List, Some, IfOk, IsSomeAnd, true, false, codes};
+ghost use Rattle.clap.specs.Walk.{first_of, one_of, rows_of, rule_of};
+ghost use Rattle.clap.specs.Simple.{app_of};
+ghost use Rattle.clap.specs.Matches.{found_of};
+ghost use Rattle.clap.specs.declared.builder.command.Command.TheViews.{out-Command as fields_of};
+ghost use Rattle.command_words.specs.Commands as commands;
+ghost use Rattle.command_words.specs.Words.{texts_of, command_of, is_number, is_plain, number_of};
+ghost use Rattle.command_words.specs.Forms.{command_in};
+ghost use Rattle.command_words.specs.Grammar.{AreMatchesOf, HasName, HasNumber, check_app, grammar_app, name_rule, option_rule, solve_app, two_names, upgrade_app};
+
+use crate::command::Command;
+use carp_base::Memory;
+use clap::error::ErrorKind;
+use clap::{Arg, ArgMatches};
+use std::alloc::{AllocError, Global};
+
+/// The command of plain words.
+pub(crate) fn read_plain<'a>(alloc: Global, words: &'a [String]) -> Result<Command<'a>, Memory>
+    requires { is_plain (texts_of words.now) ≡ true }
+    ensures { IfOk result (λ c. command_of (texts_of words.now) ≡ Some (command_in c)) }
+{
+    match grammar(alloc)?.try_get_matches_from(words) {
+        Ok(matches) => match command_from(&matches) {
+            Some(command) => Ok(command),
+            None => unreachable!(),
+        },
+        Err(error) => match error.kind() {
+            ErrorKind::OutOfMemory => Err(Memory),
+            _ => unreachable!(),
+        },
+    }
+}
+
+// One level of subcommands, of which each is a verb.
+fn grammar<'a>(alloc: Global) -> Result<clap::Command<'a>, AllocError>
+    ensures { IfOk result (λ c. app_of c ≡ grammar_app) }
+{
+    clap::Command::new(alloc, "carp")
+        .no_binary_name(true)
+        .subcommand(solve(alloc)?)?
+        .subcommand(two_names(alloc, "check")?)?
+        .subcommand(upgrade(alloc)?)
+}
+
+fn solve<'a>(alloc: Global) -> Result<clap::Command<'a>, AllocError>
+    ensures app { IfOk result (λ c. app_of c ≡ solve_app) }
+    ensures local { IfOk result (λ c. (fields_of c).has_globals ≡ false) }
+{
+    two_names(alloc, "solve")?
+        .arg(option(alloc, "turns", "64"))?
+        .arg(option(alloc, "seed", "1"))
+}
+
+fn upgrade<'a>(alloc: Global) -> Result<clap::Command<'a>, AllocError>
+    ensures app { IfOk result (λ c. app_of c ≡ upgrade_app) }
+    ensures local { IfOk result (λ c. (fields_of c).has_globals ≡ false) }
+{
+    two_names(alloc, "upgrade")?.arg(name(alloc, "renewed"))
+}
+
+// A verb with an instance and a certificate.
+fn two_names<'a>(alloc: Global, verb: &'a str) -> Result<clap::Command<'a>, AllocError>
+    ensures app { IfOk result (λ c. app_of c ≡ two_names verb.now) }
+    ensures local { IfOk result (λ c. (fields_of c).has_globals ≡ false) }
+{
+    clap::Command::new(alloc, verb)
+        .arg(name(alloc, "file"))?
+        .arg(name(alloc, "cert"))
+}
+
+fn name<'a>(alloc: Global, id: &'a str) -> Arg<'a>
+    ensures rule { rule_of result ≡ name_rule id.now }
+    ensures local { result.global ≡ false }
+{
+    Arg::new(alloc, id).required(true)
+}
+
+fn option<'a>(alloc: Global, id: &'a str, default: &'a str) -> Arg<'a>
+    ensures rule { rule_of result ≡ option_rule id.now default.now }
+    ensures local { result.global ≡ false }
+{
+    Arg::new(alloc, id).long(id).default_value(default)
+}
+
+// The command that the matches say.
+fn command_from<'a>(matches: &ArgMatches<'a>) -> Option<Command<'a>>
+    ensures { (c : commands.Command) → AreMatchesOf c matches.now → IsSomeAnd result (λ r. command_in r ≡ c) }
+{
+    let (verb, inner) = matches.subcommand()?;
+    match verb {
+        "solve" => solve_from(inner),
+        "check" => check_from(inner),
+        "upgrade" => upgrade_from(inner),
+        _ => None,
+    }
+}
+
+fn solve_from<'a>(matches: &ArgMatches<'a>) -> Option<Command<'a>>
+    ensures { (file cert : List ℕ) (turns seed : ℕ) → HasName (codes "file") file (rows_of (found_of matches.now)) → HasName (codes "cert") cert (rows_of (found_of matches.now))
+        → HasNumber (codes "turns") turns (rows_of (found_of matches.now)) → HasNumber (codes "seed") seed (rows_of (found_of matches.now))
+        → IsSomeAnd result (λ r. command_in r ≡ commands.Solve file cert turns seed) }
+{
+    let file = name_in(matches, "file")?;
+    let cert = name_in(matches, "cert")?;
+    let turns = number_in(matches, "turns")?;
+    let seed = number_in(matches, "seed")?;
+    Some(Command::Solve {
+        file,
+        cert,
+        turns,
+        seed,
+    })
+}
+
+fn check_from<'a>(matches: &ArgMatches<'a>) -> Option<Command<'a>>
+    ensures { (file cert : List ℕ) → HasName (codes "file") file (rows_of (found_of matches.now)) → HasName (codes "cert") cert (rows_of (found_of matches.now))
+        → IsSomeAnd result (λ r. command_in r ≡ commands.Check file cert) }
+{
+    let file = name_in(matches, "file")?;
+    let cert = name_in(matches, "cert")?;
+    Some(Command::Check { file, cert })
+}
+
+fn upgrade_from<'a>(matches: &ArgMatches<'a>) -> Option<Command<'a>>
+    ensures { (file cert renewed : List ℕ) → HasName (codes "file") file (rows_of (found_of matches.now)) → HasName (codes "cert") cert (rows_of (found_of matches.now))
+        → HasName (codes "renewed") renewed (rows_of (found_of matches.now))
+        → IsSomeAnd result (λ r. command_in r ≡ commands.Upgrade file cert renewed) }
+{
+    let file = name_in(matches, "file")?;
+    let cert = name_in(matches, "cert")?;
+    let renewed = name_in(matches, "renewed")?;
+    Some(Command::Upgrade {
+        file,
+        cert,
+        renewed,
+    })
+}
+
+fn name_in<'a>(matches: &ArgMatches<'a>, id: &str) -> Option<&'a str>
+    ensures { (name : List ℕ) → HasName id.now name (rows_of (found_of matches.now)) → IsSomeAnd result (λ r. r.now ≡ name) }
+{
+    matches.get_str(id)
+}
+
+fn number_in(matches: &ArgMatches<'_>, id: &str) -> Option<u64>
+    ensures { (n : ℕ) → HasNumber id.now n (rows_of (found_of matches.now)) → IsSomeAnd result (λ r. r ≡ n) }
+{
+    matches.get_one::<u64>(id)
+}

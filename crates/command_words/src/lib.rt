@@ -1,0 +1,22 @@
+//! The words of a command line.
+//!
+//! [`read_words`] gives the [`Command`] that they name, where they are in plain form: a verb, its names, and then its options, each at most
+//! once and in any order. What each verb takes is the table `forms` of `specs/Words.antt`; what each command reads and keeps is told by
+//! `specs/Commands.antt`.
+//!
+//! Inside, `plain` tests the form, and `grammar` has plain words read by `clap`, whose reading is proved to be that of the table.
+#![tactic(auto)]
+
+mod command;
+#[cfg(test)]
+mod examples;
+mod grammar;
+mod laws;
+mod plain;
+#[cfg(test)]
+mod tests;
+mod words;
+
+pub use command::Command;
+pub use laws::budgets_are_in_range;
+pub use words::read_words;
