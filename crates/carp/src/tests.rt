@@ -31,6 +31,30 @@ LISTA_ARISTAS_REQ :
 DEPOSITO : 1
 ";
 
+// Two streets in a row, each of which fills a vehicle; one street; and nothing to serve.
+const FULL_STREETS: &str = "VERTICES : 3
+ARISTAS_REQ : 2
+CAPACIDAD : 2
+LISTA_ARISTAS_REQ :
+( 1, 2) coste 3 demanda 2
+( 2, 3) coste 4 demanda 2
+DEPOSITO : 1
+";
+
+const STREET: &str = "VERTICES : 2
+ARISTAS_REQ : 1
+CAPACIDAD : 1
+LISTA_ARISTAS_REQ :
+( 1, 2) coste 5 demanda 1
+DEPOSITO : 1
+";
+
+const NOTHING: &str = "VERTICES : 1
+ARISTAS_REQ : 0
+CAPACIDAD : 1
+DEPOSITO : 1
+";
+
 // Three streets round a far corner, of which a vehicle of capacity 3 serves one.
 const RING: &str = "VERTICES : 4
 ARISTAS_REQ : 3
@@ -88,34 +112,61 @@ LISTA_ARISTAS_REQ :
 DEPOSITO : 1
 ";
 
-// What is answered to a file, with helpers of ids 1 to 4, and the front of what is written.
-fn expect(
-    rt: &impl Abort,
-    alloc: Global,
-    file: &str,
-    status: Status,
-    front: &str,
-) -> Result<(), Fail> {
-    let mut shelf = MemShelf::new(alloc, 65_536, Vec::new(alloc), Vec::new(alloc));
-    shelf.place("file", file.as_bytes())?;
-    shelf.ready("cert", 16_777_216)?;
-    let mut out = MemSink::new(alloc, 1_048_576, 65_536, Vec::new(alloc))?;
-    let mut words = Vec::new(alloc);
-    for word in ["solve", "file", "cert"] {
-        words.push(String::from_str(alloc, word)?)?;
+// These words.
+fn words_of(alloc: Global, words: &[&str]) -> Result<Vec<String>, Fail> {
+    let mut list = Vec::new(alloc);
+    for word in words {
+        list.push(String::from_str(alloc, word)?)?;
     }
+    Ok(list)
+}
+
+// The four helpers, of ids 1 to 4.
+fn helpers(alloc: Global) -> Result<Vec<Box<dyn Proposer>>, Fail> {
     let mut helpers: Vec<Box<dyn Proposer>> = Vec::new(alloc);
     helpers.push(Box::new(alloc, Scanner::new(alloc, 1))?)?;
     helpers.push(Box::new(alloc, Merger::new(alloc, 2))?)?;
     helpers.push(Box::new(alloc, Splitter::new(alloc, 3))?)?;
     helpers.push(Box::new(alloc, Mover::new(alloc, 4))?)?;
-    assert_eq!(rt;
-        run(alloc, &words, &mut shelf, &mut out, &mut helpers),
-        status
-    );
-    assert!(rt; out.written().starts_with(front.as_bytes()));
+    Ok(helpers)
+}
+
+// What is answered to these words, and whether what is written begins so.
+fn answer(
+    alloc: Global,
+    words: &[&str],
+    shelf: &mut MemShelf,
+    front: &str,
+) -> Result<(Status, bool), Fail> {
+    let mut out = MemSink::new(alloc, 1_048_576, 65_536, Vec::new(alloc))?;
+    let words = words_of(alloc, words)?;
+    let mut helpers = helpers(alloc)?;
+    let status = run(alloc, &words, shelf, &mut out, &mut helpers);
     dismiss(&mut helpers);
-    assert_eq!(rt; helpers.len(), 4);
+    let as_said = helpers.len() == 4 && out.written().starts_with(front.as_bytes());
+    Ok((status, as_said))
+}
+
+// What is answered to a file with so many turns, and the front of what is written; the certificate is accepted with this cost and bound.
+fn expect(
+    rt: &impl Abort,
+    alloc: Global,
+    file: &str,
+    turns: &str,
+    status: Status,
+    front: &str,
+    accepted: &str,
+) -> Result<(), Fail> {
+    let mut shelf = MemShelf::new(alloc, 65_536, Vec::new(alloc), Vec::new(alloc));
+    shelf.place("file", file.as_bytes())?;
+    shelf.ready("cert", 16_777_216)?;
+    let words = ["solve", "file", "cert", "--turns", turns];
+    assert_eq!(rt; answer(alloc, &words, &mut shelf, front)?, (status, true));
+    let words = ["check", "file", "cert"];
+    assert_eq!(rt;
+        answer(alloc, &words, &mut shelf, accepted)?,
+        (Status::Accepted, true)
+    );
     Ok(())
 }
 
@@ -129,7 +180,7 @@ turns 1
 proven
 tours 1
 tour 1 load 3 cost 16 route 1=";
-    expect(&rt, alloc, TRIANGLE, Status::Proven, front)?;
+    expect(&rt, alloc, TRIANGLE, "64", Status::Proven, front, "accepted\ncost 16\nbound 16\n")?;
     let front = "instance vertices 2 edges 2 required 2 capacity 2 demand 2
 cost 7
 bound 7
@@ -138,7 +189,7 @@ proven
 tours 1
 tour 1 load 2 cost 7 route 1=2=1
 ";
-    expect(&rt, alloc, TWO_STREETS, Status::Proven, front)?;
+    expect(&rt, alloc, TWO_STREETS, "64", Status::Proven, front, "accepted\ncost 7\nbound 7\n")?;
     Ok(())
 }
 
@@ -153,7 +204,7 @@ turns 1
 proven
 tours 3
 ";
-    expect(&rt, alloc, RING, Status::Proven, front)?;
+    expect(&rt, alloc, RING, "64", Status::Proven, front, "accepted\ncost 67\nbound 67\n")?;
     let front = "instance vertices 4 edges 4 required 3 capacity 5 demand 6
 cost 45
 bound 45
@@ -161,20 +212,30 @@ turns 1
 proven
 tours 2
 ";
-    expect(&rt, alloc, WIDE_RING, Status::Proven, front)
+    expect(&rt, alloc, WIDE_RING, "64", Status::Proven, front, "accepted\ncost 45\nbound 45\n")
 }
 
-// Three vehicles drive there and back, which no price set shows without decisions.
+// Three vehicles drive there and back, which no price set shows without decisions. The first split is a cut, whose high child shows the
+// cost at once.
 #[test]
-fn a_star_has_a_gap(rt: HostRuntime) -> Result<(), Fail> {
+fn a_star_has_a_gap_after_one_turn(rt: HostRuntime) -> Result<(), Fail> {
     let front = "instance vertices 7 edges 6 required 5 capacity 5 demand 10
 cost 610
 bound 510
-turns 0
+turns 2
 open gap 100
 tours 3
 ";
-    expect(&rt, rt.alloc(), STAR, Status::Gap, front)
+    expect(&rt, rt.alloc(), STAR, "1", Status::Gap, front, "accepted\ncost 610\nbound 510\n")
+}
+
+#[test]
+fn a_star_is_proven_by_many_turns(rt: HostRuntime) -> Result<(), Fail> {
+    let front = "instance vertices 7 edges 6 required 5 capacity 5 demand 10
+cost 610
+bound 610
+";
+    expect(&rt, rt.alloc(), STAR, "32768", Status::Proven, front, "accepted\ncost 610\nbound 610\n")
 }
 
 #[test]
@@ -186,5 +247,41 @@ turns 1
 proven
 tours 1
 ";
-    expect(&rt, rt.alloc(), DEAD_ENDS, Status::Proven, front)
+    expect(&rt, rt.alloc(), DEAD_ENDS, "64", Status::Proven, front, "accepted\ncost 27\nbound 27\n")
+}
+
+#[test]
+fn full_vehicles_are_proven(rt: HostRuntime) -> Result<(), Fail> {
+    let front = "instance vertices 3 edges 2 required 2 capacity 2 demand 4
+cost 20
+bound 20
+turns 1
+proven
+tours 2
+";
+    let accepted = "accepted\ncost 20\nbound 20\n";
+    expect(&rt, rt.alloc(), FULL_STREETS, "64", Status::Proven, front, accepted)
+}
+
+#[test]
+fn one_street_and_none_are_proven(rt: HostRuntime) -> Result<(), Fail> {
+    let alloc = rt.alloc();
+    let front = "instance vertices 2 edges 1 required 1 capacity 1 demand 1
+cost 10
+bound 10
+turns 1
+proven
+tours 1
+tour 1 load 1 cost 10 route 1";
+    let accepted = "accepted\ncost 10\nbound 10\n";
+    expect(&rt, alloc, STREET, "64", Status::Proven, front, accepted)?;
+    let front = "instance vertices 1 edges 0 required 0 capacity 1 demand 0
+cost 0
+bound 0
+turns 1
+proven
+tours 0
+";
+    let accepted = "accepted\ncost 0\nbound 0\n";
+    expect(&rt, alloc, NOTHING, "64", Status::Proven, front, accepted)
 }

@@ -5,13 +5,13 @@ use Rattle.std.specs.List.{AllByRecursion}
 use Rattle.std.specs.Prelude.{◌⊎◌}
 use Rattle.carp_outside.specs.Causes.{Rose, RoseBy}
 use Rattle.carp_outside.specs.Told.{HoldsExactly, HoldsFront, SameContents, WroteFront}
-use Rattle.carp_cli.specs.Commands.{Command, Solve, Check, Upgrade, kept_by}
+use Rattle.command_words.specs.Commands.{Command, Solve, Check, Upgrade, kept_by}
 use Rattle.carp_cli.specs.Outside.{Outside, Kept, Work, found, AreKept, AreKeptInPart}
 use Rattle.carp_cli.specs.Answers.{IsDoneStatus}
 use Rattle.carp_cli.specs.Runs.{IsHelped, Leaves}
 use Rattle.carp_cli.specs.Steps.{IsPrepared}
-use Rattle.carp_cli.specs.declared.status.Status.{Status}
-use Rattle.carp_cli.specs.declared.status.Status.TheVariants.{BadUsage, ReadFault, WriteFault, Memory, TooLong}
+use Rattle.command_files.specs.declared.status.Status.{Status}
+use Rattle.command_files.specs.declared.status.Status.TheVariants.{BadUsage, ReadFault, WriteFault, Memory, TooLong}
 
 kept_elsewhere : (kept : List Kept) (before now : List ℕ → Option (List ℕ)) → AreKept kept before now → (other : List ℕ) → AllByRecursion (λ k. other ≢ k.name) kept → now other ≡ before other
 kept_elsewhere [] before now same other apart = same other
@@ -123,7 +123,14 @@ delivered {held} {told} {command} {before} {now} {looks} {given} {keeps} {conten
 -- helpers are asked by a command that is done
 pub cut_is_not_helped : (command : Option Command) → IsHelped command WriteFault → ⊥
 cut_is_not_helped None none = none
-cut_is_not_helped (Some (Solve file cert)) (is, inl e) = cc
-cut_is_not_helped (Some (Solve file cert)) (is, inr e) = cc
+cut_is_not_helped (Some (Solve file cert turns seed)) (is, inl e) = cc
+cut_is_not_helped (Some (Solve file cert turns seed)) (is, inr e) = cc
 cut_is_not_helped (Some (Check file cert)) (is, e) = cc
 cut_is_not_helped (Some (Upgrade file cert renewed)) (is, e) = cc
+
+pub memory_is_not_helped : (command : Option Command) → IsHelped command Memory → ⊥
+memory_is_not_helped None none = none
+memory_is_not_helped (Some (Solve file cert turns seed)) (is, inl e) = cc
+memory_is_not_helped (Some (Solve file cert turns seed)) (is, inr e) = cc
+memory_is_not_helped (Some (Check file cert)) (is, e) = cc
+memory_is_not_helped (Some (Upgrade file cert renewed)) (is, e) = cc

@@ -1,4 +1,3 @@
-pub mod FileReads
-pub mod Certificates
+pub mod Results
 pub mod Performed
 pub mod Delivered

@@ -1,5 +1,5 @@
 -- What becomes of a command, from what becomes of its files.
-use Rattle.std.proofs.Common.{◌≡◌, ◌≢◌, ℕ, ◌+◌, ◌≤◌, List, [], ◌∷◌, map, refl, sym, ap, ◌∙◌, subst, inl, inr, arith, IsTrue, Bool, Option, None, Some, All, codes}
+use Rattle.std.proofs.Common.{◌≡◌, ◌≢◌, ℕ, ◌+◌, ◌-◌, ◌*◌, ◌/◌, ◌^◌, ◌≤◌, List, [], ◌∷◌, map, refl, sym, ap, ◌∙◌, subst, inl, inr, arith, IsTrue, Bool, Option, None, Some, All, codes}
 use Rattle.std.specs.List.{AllByRecursion}
 use Rattle.std.specs.Prelude.{◌⊎◌, Result, Ok, Err, IsOk, IsErr, IfOk, OnOk, IsErrOf, IsSomeAnd}
 use Rattle.carp_base.specs.Problem.{Problem, IsValid}
@@ -20,17 +20,18 @@ use Rattle.carp_engine.specs.Solutions.{IsSound}
 use Rattle.plan_print.specs.Report.{report_text}
 use Rattle.carp_cli.specs.Checking.{answer_text, IsRenewed}
 use Rattle.carp_cli.specs.Solving.{IsEnding, IsSolvedBy}
-use Rattle.carp_cli.specs.Commands.{Command, Solve, Check, Upgrade, Source, RoseAtSome, instance_at, certificate_at, reads, keeps, kept_by}
-use Rattle.carp_cli.specs.Files.{Holds, IsInstance, IsBadInstance, IsGoodText, IsBadCertificate, IsBadFile}
+use Rattle.command_words.specs.Commands.{Command, Solve, Check, Upgrade, Source, instance_at, certificate_at, reads, keeps, kept_by}
+use Rattle.command_files.specs.Files.{RoseAtSome, Holds, IsInstance, IsBadInstance, IsGoodText, IsBadCertificate, IsBadFile}
 use Rattle.carp_cli.specs.Outside.{Finding, Kept, Work}
 use Rattle.carp_cli.specs.Answers.{IsBadPair, IsGoodPair, IsDone, IsDoneStatus, IsRefused, CanBeDone, refusal_work}
 use Rattle.carp_cli.specs.Refusals.{HasReport}
 use Rattle.carp_cli.specs.Runs.{IsHelped}
-use Rattle.carp_cli.specs.Steps.{IsTried, IsFileRead, IsAcceptedText, IsGoodCert, IsPerformed, IsPrepared, IsRefusal, IsSettled, whole_of, work_in}
+use Rattle.command_files.specs.Reads.{IsTried, IsFileRead, IsAcceptedText, IsGoodCert, IsRefusal}
+use Rattle.carp_cli.specs.Steps.{IsPerformed, IsPrepared, IsSettled, whole_of, work_in}
 use Rattle.carp_cli.specs.declared.delivering.Delivery.{Delivery}
-use Rattle.carp_cli.specs.declared.status.Status.{Status}
-use Rattle.carp_cli.specs.declared.status.Status.TheVariants.{Proven, Gap, Accepted, Done, BadUsage, ReadFault, WriteFault, Memory, TooLong}
-use Rattle.carp_cli.proofs.FileReads.{again, failed, made, of_both, of_ok, of_some, same_refusal}
+use Rattle.command_files.specs.declared.status.Status.{Status}
+use Rattle.command_files.specs.declared.status.Status.TheVariants.{Proven, Gap, Accepted, Done, BadUsage, ReadFault, WriteFault, Memory, TooLong}
+use Rattle.carp_cli.proofs.Results.{again, failed, made, of_both, of_ok, of_some, same_refusal}
 
 -- counts that rose later rose
 rose_since : (n before mid now : ℕ) → before ≤ mid → RoseBy n mid now → RoseBy n before now
@@ -188,13 +189,13 @@ done_or_out {held} {found} {gb} {gn} c q r is of tried = subst (IsPerformed held
   by (Ok d) (status, names, done) = record { status = status; names = names; done = done; tried = tried d }
   by (Err e) of = record { status = tt; names = tt; done = λ told. tt; tried = tried_out }
 
-pub solve_performed : {held : Bool} {contents : List ℕ → Option (List ℕ)} {lb ln : List ℕ → ℕ} {gb gn : ℕ} {file cert : List ℕ} {offered : List (Option ℕ)} (p : Problem)
+pub solve_performed : {held : Bool} {contents : List ℕ → Option (List ℕ)} {lb ln : List ℕ → ℕ} {gb gn : ℕ} {file cert : List ℕ} {turns seed : ℕ} {offered : List (Option ℕ)} (p : Problem)
     (q : Result Delivery Want) (r : Result Delivery (Fail Status)) → r ≡ whole_of q
     → IsFileRead held (instance_at file) contents lb ln gb gn IsTextOf IsBadInstance IsInstance (made Problem p)
-    → IfOk q (λ d. IsDoneStatus (Solve file cert) d.status × IsSolvedBy p cert offered d.status (work_in d))
-    → IsPerformed held (Solve file cert) (record { contents = contents; looks_before = lb; looks_now = ln; offered = offered }) gb gn r
-solve_performed {held} {contents} {file = file} {cert = cert} {offered = offered} p q r is read solved =
-    done_or_out (Solve file cert) q r is
+    → IfOk q (λ d. IsDoneStatus (Solve file cert turns seed) d.status × IsSolvedBy p cert turns offered d.status (work_in d))
+    → IsPerformed held (Solve file cert turns seed) (record { contents = contents; looks_before = lb; looks_now = ln; offered = offered }) gb gn r
+solve_performed {held} {contents} {file = file} {cert = cert} {turns = turns} {seed = seed} {offered = offered} p q r is read solved =
+    done_or_out (Solve file cert turns seed) q r is
     (of_ok q solved (λ d of. (of.0, ap (map (λ k. k.name)) of.1.keeps, λ told. record { instance = p; read = read.made told; solution = of.1 })))
     (λ d. tried_made p d read.tried)
 
@@ -247,17 +248,18 @@ upgrade_performed {held} {contents} {file = file} {cert = cert} {renewed = renew
     (λ d. tried_made good d tried)
 
 -- what was solved is delivered
-pub solved_by : {p : Problem} {cert : List ℕ} {offered : List (Option ℕ)} (c : Certificate) (turns : ℕ) (kept_text text : List ℕ) (status : Status)
-    → IsSound p c turns → IsEnding c status → (status ≡ Proven) ⊎ (status ≡ Gap) → All (IsAtMost c.cost) offered → certificates.IsTextOf kept_text c → text ≡ report_text p c turns
+pub solved_by : {p : Problem} {cert : List ℕ} {offered : List (Option ℕ)} (c : Certificate) (asked turns : ℕ) (kept_text text : List ℕ) (status : Status)
+    → IsSound p c turns → IsEnding c asked turns status → (2 ^ (p.required * (p.required - 1) / 2 + 5) ≤ asked → status ≡ Proven) → (status ≡ Proven) ⊎ (status ≡ Gap) → All (IsAtMost c.cost) offered → certificates.IsTextOf kept_text c → text ≡ report_text p c turns
     → (d : Delivery) → (work_in d ≡ record { kept = record { name = cert; bytes = kept_text } ∷ []; text = text }) × (d.status ≡ status)
-    → ((d.status ≡ Proven) ⊎ (d.status ≡ Gap)) × IsSolvedBy p cert offered d.status (work_in d)
-solved_by c turns kept_text text status sound ending ends helped kept_is text_is d made = (
+    → ((d.status ≡ Proven) ⊎ (d.status ≡ Gap)) × IsSolvedBy p cert asked offered d.status (work_in d)
+solved_by c asked turns kept_text text status sound ending whole ends helped kept_is text_is d made = (
   subst (λ s. (s ≡ Proven) ⊎ (s ≡ Gap)) (sym made.1) ends,
   record {
     certificate = c;
     turns = turns;
     sound = sound;
-    ending = subst (IsEnding c) (sym made.1) ending;
+    ending = subst (IsEnding c asked turns) (sym made.1) ending;
+    whole = λ enough. made.1 ∙ whole enough;
     helped = helped;
     kept_text = kept_text;
     kept_is = kept_is;
@@ -269,8 +271,8 @@ solved_by c turns kept_text text status sound ending ends helped kept_is text_is
 -- Answers that are settled.
 
 done_reports : (c : Command) (status : Status) → IsDoneStatus c status → HasReport status
-done_reports (Solve file cert) status (inl is) = subst HasReport (sym is) tt
-done_reports (Solve file cert) status (inr is) = subst HasReport (sym is) tt
+done_reports (Solve file cert turns seed) status (inl is) = subst HasReport (sym is) tt
+done_reports (Solve file cert turns seed) status (inr is) = subst HasReport (sym is) tt
 done_reports (Check file cert) status is = subst HasReport (sym is) tt
 done_reports (Upgrade file cert renewed) status is = subst HasReport (sym is) tt
 
@@ -342,8 +344,8 @@ helped P (Err NoMemory) (Err e) so performed is = tt
 helped P {c = c} (Err (Refused status)) (Ok d) so performed is =
     λ helped. absurd (not_both c status (performed.tried.refusal status refl) (subst (IsDoneStatus c) is.0 helped.1)) where
       not_both : (c : Command) (status : Status) → IsRefusal status → IsDoneStatus c status → ⊥
-      not_both (Solve file cert) status refusal (inl e) = subst IsRefusal e refusal
-      not_both (Solve file cert) status refusal (inr e) = subst IsRefusal e refusal
+      not_both (Solve file cert turns seed) status refusal (inl e) = subst IsRefusal e refusal
+      not_both (Solve file cert turns seed) status refusal (inr e) = subst IsRefusal e refusal
       not_both (Check file cert) status refusal e = subst IsRefusal e refusal
       not_both (Upgrade file cert renewed) status refusal e = subst IsRefusal e refusal
 helped P (Err (Refused status)) (Err e) so performed is = tt

@@ -6,8 +6,8 @@ use Rattle.cert_lines.specs.Certificates.{Certificate}
 use Rattle.cert_lines.specs.Texts as certificates
 use Rattle.cert_format.specs.Good.{IsGood, IsProof, with_counts}
 use Rattle.number_texts.specs.Lines.{number_line}
-use Rattle.carp_cli.specs.Commands.{instance_at, certificate_at}
-use Rattle.carp_cli.specs.Files.{Holds}
+use Rattle.command_words.specs.Commands.{instance_at, certificate_at}
+use Rattle.command_files.specs.Files.{Holds}
 use Rattle.carp_cli.specs.Outside.{Kept, Work}
 
 -- a word, and the cost and the bound that are stated

@@ -2,7 +2,7 @@
 use Rattle.std.specs.Prelude.{ℕ, [], ◌∷◌, None, List, Option, codes}
 use Rattle.carp_base.specs.Problem.{Problem}
 use Rattle.cert_lines.specs.Certificates.{Certificate}
-use Rattle.carp_cli.specs.Commands.{Command, Solve, Check}
+use Rattle.command_words.specs.Commands.{Command, Solve, Check}
 use Rattle.carp_cli.specs.Outside.{Outside}
 
 -- an instance with nothing to serve
@@ -14,7 +14,7 @@ abbrev pub stating : ℕ → ℕ → Certificate
 stating cost bound = record { counts = None; cost = cost; bound = bound; plan = []; shores = []; sets = []; nodes = [] }
 
 abbrev pub solving : Command
-solving = Solve (codes "f") (codes "c")
+solving = Solve (codes "f") (codes "c") 64 1
 
 abbrev pub checking : Command
 checking = Check (codes "f") (codes "c")

@@ -1,9 +1,5 @@
-pub mod Commands
-pub mod Words
 pub mod Outside
-pub mod Files
 pub mod Refusals
-pub mod Codes
 pub mod Solving
 pub mod Checking
 pub mod Answers

@@ -1,11 +1,11 @@
 -- What is written for an answer that has no report.
 use Rattle.std.specs.Prelude.{ℕ, ◌++◌, List, [], codes, decimal}
 use Rattle.refusal_texts.specs.Lines.{instance_fault_line, certificate_fault_line, rejection_line}
-use Rattle.carp_cli.specs.declared.status.Status.{Status}
-use Rattle.carp_cli.specs.declared.status.Status.TheVariants.{Proven, Gap, Accepted, Done, Rejected, BadUsage, BadInstance, BadCertificate, ReadFault, WriteFault, Memory, TooLong}
+use Rattle.command_files.specs.declared.status.Status.{Status}
+use Rattle.command_files.specs.declared.status.Status.TheVariants.{Proven, Gap, Accepted, Done, Rejected, BadUsage, BadInstance, BadCertificate, ReadFault, WriteFault, Memory, TooLong}
 
 unfoldable pub usage_text : List ℕ
-usage_text = codes "usage: carp solve FILE CERT\n       carp check FILE CERT\n       carp upgrade FILE CERT NEWCERT\n"
+usage_text = codes "usage: carp solve FILE CERT [--turns N] [--seed N]\n       carp check FILE CERT\n       carp upgrade FILE CERT NEWCERT\n"
 
 unfoldable pub limit_line : ℕ → List ℕ
 limit_line limit = codes "too long: more than " ++ decimal limit ++ codes " bytes\n"

@@ -3,12 +3,13 @@ use Rattle.std.specs.Prelude.{◌≡◌, ◌≢◌, ℕ, ◌+◌, ◌++◌, List
 use Rattle.std.specs.List.{AllByRecursion}
 use Rattle.carp_outside.specs.Causes.{Rose, RoseBy}
 use Rattle.carp_outside.specs.Told.{SameContents, WroteFront}
-use Rattle.carp_cli.specs.Commands.{Command, asks_helpers, sources_of, kept_by, RoseAtSome, HasLimit}
+use Rattle.command_words.specs.Commands.{Command, asks_helpers, sources_of, kept_by}
+use Rattle.command_files.specs.Files.{RoseAtSome, HasLimit}
 use Rattle.carp_cli.specs.Outside.{Outside, Work, found, AreKept, AreKeptInPart}
 use Rattle.carp_cli.specs.Answers.{IsRefused, CanBeDone, IsDoneStatus, IsRightOf, refusal_work}
 use Rattle.carp_cli.specs.Refusals.{HasReport}
-use Rattle.carp_cli.specs.declared.status.Status.{Status}
-use Rattle.carp_cli.specs.declared.status.Status.TheVariants.{BadUsage, ReadFault, WriteFault, Memory, TooLong}
+use Rattle.command_files.specs.declared.status.Status.{Status}
+use Rattle.command_files.specs.declared.status.Status.TheVariants.{BadUsage, ReadFault, WriteFault, Memory, TooLong}
 
 -- an answer with its work; where contents are told, it is right for what was found
 pub record IsAnswer (held : Bool) (command : Option Command) (before now : Outside) (status : Status) (work : Work) : Type 0 where

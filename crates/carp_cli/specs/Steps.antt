@@ -17,23 +17,16 @@ use Rattle.cert_format.specs.declared.cert.Cert.{Cert}
 use Rattle.cert_checker.specs.declared.reason.Answer.TheVariants as answers
 use Rattle.cert_checker.specs.declared.reason.Answer.{Answer}
 use Rattle.cert_checker.specs.declared.streaming.Checked.{Checked}
-use Rattle.carp_cli.specs.Commands.{Command, Solve, Check, Upgrade, Source, reads, keeps, sources_of, kept_by, RoseAtSome, HasLimit}
+use Rattle.command_words.specs.Commands.{Command, Solve, Check, Upgrade, Source, reads, keeps, sources_of, kept_by}
+use Rattle.command_files.specs.Files.{RoseAtSome, HasLimit}
+use Rattle.command_files.specs.Reads.{IsTried}
 use Rattle.carp_cli.specs.Outside.{Finding, Kept, Work}
-use Rattle.carp_cli.specs.Files.{Holds, IsBadFile}
 use Rattle.carp_cli.specs.Answers.{IsRefused, CanBeDone, IsDone, IsDoneStatus, IsRightOf, refusal_work}
 use Rattle.carp_cli.specs.Refusals.{HasReport}
-use Rattle.carp_cli.specs.declared.words.Command as words
-use Rattle.carp_cli.specs.declared.words.Command.TheVariants as commands
 use Rattle.carp_cli.specs.declared.delivering.Kept as files
 use Rattle.carp_cli.specs.declared.delivering.Delivery.{Delivery}
-use Rattle.carp_cli.specs.declared.status.Status.{Status}
-use Rattle.carp_cli.specs.declared.status.Status.TheVariants.{BadUsage, BadInstance, BadCertificate, Rejected, ReadFault, WriteFault, Memory, TooLong}
-
--- the command that the code holds
-abbrev pub command_in : words.Command → Command
-command_in (commands.Solve file cert) = Solve file.now cert.now
-command_in (commands.Check file cert) = Check file.now cert.now
-command_in (commands.Upgrade file cert renewed) = Upgrade file.now cert.now renewed.now
+use Rattle.command_files.specs.declared.status.Status.{Status}
+use Rattle.command_files.specs.declared.status.Status.TheVariants.{BadUsage, BadInstance, BadCertificate, Rejected, ReadFault, WriteFault, Memory, TooLong}
 
 -- the work that the code holds
 abbrev pub kept_in : files.Kept → Kept
@@ -41,72 +34,6 @@ kept_in k = record { name = k.name.now; bytes = k.bytes.items }
 
 abbrev pub work_in : Delivery → Work
 work_in d = record { kept = map kept_in d.kept.items; text = d.text.items }
-
--- an answer by which a file is refused, and one by which its bytes are
-abbrev pub IsOfBytes : Status → Type 0
-IsOfBytes (BadInstance fault) = Unit {0}
-IsOfBytes (BadCertificate fault) = Unit {0}
-IsOfBytes (Rejected reason) = Unit {0}
-IsOfBytes status = ⊥
-
-abbrev pub IsRefusal : Status → Type 0
-IsRefusal ReadFault = Unit {0}
-IsRefusal (TooLong limit) = Unit {0}
-IsRefusal status = IsOfBytes status
-
--- what is made of bytes. `Is` says what it is, `Bad` how bytes are refused, and `Good` when they are not
-pub record IsParsed {X : Type 0} (bytes : List ℕ) (Is : List ℕ → X → Type 0) (Bad : List ℕ → Status → Type 0) (Good : List ℕ → Type 0) (result : Result X (Fail Status)) : Type 0 where
-  pub made : IfOk result (Is bytes)
-  pub refusal : (status : Status) → IsErrOf result (Refused status) → IsOfBytes status
-  pub refused : (status : Status) → IsErrOf result (Refused status) → Bad bytes status
-  pub bad : (status : Status) → Bad bytes status → IsErrOf result (Refused status) ⊎ IsErrOf result NoMemory
-  pub good : Good bytes → IsOk result ⊎ IsErrOf result NoMemory
-
--- What becomes of reading these files: each refusal has its cause, and where no look failed, what is bad is refused and what is good is not.
-pub record IsTried {X : Type 0} (held : Bool) (sources : List Source) (looks_before looks_now : List ℕ → ℕ) (given_before given_now : ℕ)
-    (Bad : Status → Type 0) (Good : Type 0) (result : Result X (Fail Status)) : Type 0 where
-  pub refusal : (status : Status) → IsErrOf result (Refused status) → IsRefusal status
-  pub read : IsErrOf result (Refused ReadFault) → RoseAtSome sources looks_before looks_now
-  pub too_long : (limit : ℕ) → IsErrOf result (Refused (TooLong limit)) → HasLimit limit sources × RoseBy (limit + 1) given_before given_now
-  pub refused : IsTrue held → (status : Status) → IsErrOf result (Refused status) → (status ≡ ReadFault) ⊎ Bad status
-  pub bad : IsTrue held → (status : Status) → Bad status → ¬ (RoseAtSome sources looks_before looks_now) → IsErrOf result (Refused status) ⊎ IsErrOf result NoMemory
-  pub good : IsTrue held → Good → ¬ (RoseAtSome sources looks_before looks_now) → IsOk result ⊎ IsErrOf result NoMemory
-
--- what the reading of a file gives
-pub record IsFileRead {X : Type 0} (held : Bool) (source : Source) (contents : List ℕ → Option (List ℕ)) (looks_before looks_now : List ℕ → ℕ) (given_before given_now : ℕ)
-    (Is : List ℕ → X → Type 0) (Bad : List ℕ → Status → Type 0) (Good : List ℕ → Type 0) (result : Result X (Fail Status)) : Type 0 where
-  pub made : IsTrue held → IfOk result (λ x. Holds source contents (λ bytes. Is bytes x))
-  pub some : IfOk result (λ x. (bytes : List ℕ) × Is bytes x)
-  pub tried : IsTried held (source ∷ []) looks_before looks_now given_before given_now (IsBadFile Bad source contents) (Holds source contents Good) result
-
--- the bytes themselves, which nothing refuses
-abbrev pub AreBytes : List ℕ → Vec ℕ Global → Type 0
-AreBytes bytes list = list.items ≡ bytes
-
-abbrev pub NoneIsBad : List ℕ → Status → Type 0
-NoneIsBad bytes status = ⊥
-
-abbrev pub EachIsGood : List ℕ → Type 0
-EachIsGood bytes = Unit {0}
-
--- what was checked is of a good certificate with this text
-pub record IsAcceptedText (p : Problem) (bytes : List ℕ) (checked : Checked) : Type 0 where
-  pub certificate : Certificate
-  pub text : certificates.IsTextOf bytes certificate
-  pub good : IsGood p certificate
-  pub cost : checked.cost ≡ certificate.cost
-  pub bound : checked.bound ≡ certificate.bound
-
--- what was checked, or why it is rejected
-abbrev pub accepted_of : Checked → Answer → Result Checked (Fail Status)
-accepted_of checked answers.Accepted = Ok checked
-accepted_of checked (answers.Rejected reason) = Err (Refused (Rejected reason))
-
--- a good certificate with this text
-pub record IsGoodCert (p : Problem) (bytes : List ℕ) (cert : Cert) : Type 0 where
-  pub text : certificates.IsTextOf bytes (certificate_in cert)
-  pub spellable : IsSpellable (certificate_in cert)
-  pub good : IsGood p (certificate_in cert)
 
 -- what a command has made, or why it has not
 pub record IsPerformed (held : Bool) (c : Command) (found : Finding) (given_before given_now : ℕ) (result : Result Delivery (Fail Status)) : Type 0 where
@@ -141,3 +68,9 @@ pub record IsPrepared (held : Bool) (command : Option Command) (found : Finding)
       → ¬ (RoseAtSome (sources_of command) found.looks_before found.looks_now) → status ≡ wanted
   pub done : IsTrue held → (c : Command) → command ≡ Some c → CanBeDone c found.contents
       → ¬ (RoseAtSome (sources_of command) found.looks_before found.looks_now) → IsDoneStatus c status
+
+-- a command asks for turns in their range, if for any
+abbrev pub HasBudget : Command → Type 0
+HasBudget (Solve file cert turns seed) = (1 ≤ turns) × (turns ≤ 1048576)
+HasBudget (Check file cert) = Unit {0}
+HasBudget (Upgrade file cert renewed) = Unit {0}

@@ -3,7 +3,7 @@ ghost use Rattle.std.specs.Prelude.{◌<◌};
 
 use crate::Status;
 use crate::tests::{REPORT_ROOM, run_words, shelf_with};
-use carp_outside::MemSink;
+use carp_outside::{MemShelf, MemSink};
 use std::alloc::Global;
 use std::process::Abort;
 use std::test::Fail;
@@ -139,51 +139,68 @@ fn changed_lines_are_named(rt: HostRuntime) -> Result<(), Fail> {
     expect_rows(&rt, rt.alloc(), ROW, rows)
 }
 
-// One tour for both streets, an empty text, and texts that stop: at each byte of the last line, after one more line feed, and with a bound
-// that is too high, which is not told since the text has not ended.
+// The certificate of the row of streets.
+fn row_certificate(alloc: Global) -> Result<String, Fail> {
+    let (_, cert) = ROW.split_once('\n').unwrap_or(("", ""));
+    Ok(cert.replace(alloc, "~", "\n")?)
+}
+
+// Whether a text gets this code and this text for the row of streets.
+fn is_row_checked(alloc: Global, cert: &[u8], code: &str, text: &str) -> Result<bool, Fail> {
+    let (file, _) = ROW.split_once('\n').unwrap_or(("", ""));
+    let file = file.replace(alloc, "~", "\n")?;
+    is_checked(alloc, file.as_bytes(), cert, code, text)
+}
+
+const STOPS: &str = "bad certificate: ends before line 15 is complete\n";
+
+// The texts stop at each byte of the last line.
 #[test]
 fn texts_that_stop_are_bad(rt: HostRuntime) -> Result<(), Fail> {
     let alloc = rt.alloc();
-    let (file, cert) = ROW.split_once('\n').unwrap_or(("", ""));
-    let file = file.replace(alloc, "~", "\n")?;
-    let whole = cert.replace(alloc, "~", "\n")?;
-    let stops = "bad certificate: ends before line 15 is complete\n";
+    let whole = row_certificate(alloc)?;
     for end in 163..167 {
         let part = whole.as_bytes().get(..end).unwrap_or(b"");
-        assert!(rt;
-            is_checked(alloc, file.as_bytes(), part, "5", stops)?,
-            "{end}"
-        );
+        assert!(rt; is_row_checked(alloc, part, "5", STOPS)?, "{end}");
     }
-    let more = format!(in alloc; "{}\n", whole)?;
-    assert!(rt;
-        is_checked(
-            alloc,
-            file.as_bytes(),
-            more.as_bytes(),
-            "5",
-            "bad certificate: line 16 cannot be read\n"
-        )?
-    );
+    Ok(())
+}
+
+#[test]
+fn a_line_feed_after_the_end_is_bad(rt: HostRuntime) -> Result<(), Fail> {
+    let alloc = rt.alloc();
+    let mut more = row_certificate(alloc)?;
+    more.push('\n')?;
+    let bad = "bad certificate: line 16 cannot be read\n";
+    assert!(rt; is_row_checked(alloc, more.as_bytes(), "5", bad)?);
+    Ok(())
+}
+
+// That the bound is too high is not told, since the text has not ended.
+#[test]
+fn a_high_bound_in_a_text_that_stops_is_not_told(rt: HostRuntime) -> Result<(), Fail> {
+    let alloc = rt.alloc();
+    let (_, cert) = ROW.split_once('\n').unwrap_or(("", ""));
     let high = with_line(alloc, cert, 3, "bound 21")?;
-    let high = high.as_bytes().strip_suffix(b"\n").unwrap_or(b"");
-    assert!(rt; is_checked(alloc, file.as_bytes(), high, "5", stops)?);
+    let part = high.as_bytes().strip_suffix(b"\n").unwrap_or(b"");
+    assert!(rt; is_row_checked(alloc, part, "5", STOPS)?);
+    Ok(())
+}
+
+#[test]
+fn an_empty_text_is_bad(rt: HostRuntime) -> Result<(), Fail> {
     let empty = "bad certificate: ends before line 1 is complete\n";
-    assert!(rt; is_checked(alloc, file.as_bytes(), b"", "5", empty)?);
-    let one = whole.replace(
-        alloc,
-        "tours 2\ntour 2 +1 <1\ntour 4 >1 +2 <2 <1",
-        "tours 1\ntour 4 +1 +2 <2 <1",
-    )?;
-    assert!(rt;
-        is_checked(
-            alloc,
-            file.as_bytes(),
-            one.as_bytes(),
-            "2",
-            "rejected: tour 1 has load 4\n"
-        )?
-    );
+    assert!(rt; is_row_checked(rt.alloc(), b"", "5", empty)?);
+    Ok(())
+}
+
+#[test]
+fn one_tour_for_both_streets_is_too_heavy(rt: HostRuntime) -> Result<(), Fail> {
+    let alloc = rt.alloc();
+    let two = "tours 2\ntour 2 +1 <1\ntour 4 >1 +2 <2 <1";
+    let one = row_certificate(alloc)?.replace(alloc, two, "tours 1\ntour 4 +1 +2 <2 <1")?;
+    let heavy = "rejected: tour 1 has load 4\n";
+    assert!(rt; is_row_checked(alloc, one.as_bytes(), "2", heavy)?);
     Ok(())
 }
 
@@ -246,44 +263,68 @@ fn a_tour_may_serve_a_street_again(rt: HostRuntime) -> Result<(), Fail> {
 #[test]
 fn a_bad_instance_is_named_first(rt: HostRuntime) -> Result<(), Fail> {
     let alloc = rt.alloc();
-    let mut blanks = vec![in alloc; b' '; 4_194_304]?;
+    let blanks = vec![in alloc; b' '; 4_194_304]?;
     let missing = "bad instance: key VERTICES is missing\n";
     let (status, written) = checked(alloc, &blanks, b"", 65_536)?;
     assert!(rt; status.code() == 4 && written.as_slice() == missing.as_bytes());
-    blanks.push(b' ')?;
+    Ok(())
+}
+
+#[test]
+fn a_long_instance_is_named_first(rt: HostRuntime) -> Result<(), Fail> {
+    let alloc = rt.alloc();
+    let blanks = vec![in alloc; b' '; 4_194_305]?;
     let (status, written) = checked(alloc, &blanks, b"", 65_536)?;
     assert_eq!(rt; status, Status::TooLong(4_194_304));
-    assert_eq!(rt;
-        written.as_slice(),
-        b"too long: more than 4194304 bytes\n".as_slice()
-    );
+    let long = "too long: more than 4194304 bytes\n";
+    assert!(rt; written.as_slice() == long.as_bytes());
     Ok(())
 }
 
 const RENEWED: &str =
     "carp-certificate 2~instance 3 2 2 2 4~cost 20~bound 20~tours 2~tour 2 +1 <1~tour 4 >1 +2 <2 <1~shores 2~shore 2 2 3~shore 1 3~sets 1~prices 1 2 3 4~weights 2 1 3 2 4~nodes 1~price 1~end~";
 
+// The row of streets with this certificate, and room for another.
+fn upgrade_shelf(alloc: Global, cert: &str) -> Result<MemShelf, Fail> {
+    let (file, _) = ROW.split_once('\n').unwrap_or(("", ""));
+    let file = file.replace(alloc, "~", "\n")?;
+    let mut shelf = shelf_with(alloc, file.as_bytes(), 65_536, &[], &[])?;
+    shelf.place("cert", cert.as_bytes())?;
+    shelf.ready("new", 1_000)?;
+    Ok(shelf)
+}
+
+// The code of an upgrade, and what it writes.
+fn upgraded(alloc: Global, shelf: &mut MemShelf) -> Result<(u8, Vec<u8>), Fail> {
+    let mut out = MemSink::new(alloc, REPORT_ROOM, 65_536, Vec::new(alloc))?;
+    let words = ["upgrade", "file", "cert", "new"];
+    let status = run_words(alloc, &words, shelf, &mut out)?;
+    Ok((status.code(), out.written().to_vec(alloc)?))
+}
+
+// Whether a certificate is upgraded to the renewed one, and stays.
+fn is_renewed(alloc: Global, cert: &str) -> Result<bool, Fail> {
+    let mut shelf = upgrade_shelf(alloc, cert)?;
+    let (code, written) = upgraded(alloc, &mut shelf)?;
+    let renewed = RENEWED.replace(alloc, "~", "\n")?;
+    let same_files = shelf.held("new").unwrap_or(b"") == renewed.as_bytes()
+        && shelf.held("cert").unwrap_or(b"") == cert.as_bytes();
+    Ok(code == 0 && same_files && written.as_slice() == b"upgraded\ncost 20\nbound 20\n".as_slice())
+}
+
 // An upgraded certificate names its instance, is accepted, and is upgraded to itself.
 #[test]
 fn a_certificate_is_upgraded(rt: HostRuntime) -> Result<(), Fail> {
     let alloc = rt.alloc();
-    let (file, cert) = ROW.split_once('\n').unwrap_or(("", ""));
-    let file = file.replace(alloc, "~", "\n")?;
-    let cert = cert.replace(alloc, "~", "\n")?;
-    let renewed = RENEWED.replace(alloc, "~", "\n")?;
-    assert_eq!(rt; renewed.len(), 186);
-    for text in [&cert, &renewed] {
-        let mut shelf = shelf_with(alloc, file.as_bytes(), 65_536, &[], &[])?;
-        shelf.place("cert", text.as_bytes())?;
-        shelf.ready("new", 1_000)?;
-        let mut out = MemSink::new(alloc, REPORT_ROOM, 65_536, Vec::new(alloc))?;
-        let words = ["upgrade", "file", "cert", "new"];
-        let status = run_words(alloc, &words, &mut shelf, &mut out)?;
-        assert_eq!(rt; status, Status::Done);
-        assert_eq!(rt; out.written(), b"upgraded\ncost 20\nbound 20\n".as_slice());
-        assert!(rt; shelf.held("new").unwrap_or(b"") == renewed.as_bytes());
-        assert!(rt; shelf.held("cert").unwrap_or(b"") == text.as_bytes());
-    }
+    assert!(rt; is_renewed(alloc, row_certificate(alloc)?.as_str())?);
+    Ok(())
+}
+
+#[test]
+fn an_upgraded_certificate_is_upgraded_to_itself(rt: HostRuntime) -> Result<(), Fail> {
+    let alloc = rt.alloc();
+    assert_eq!(rt; RENEWED.len(), 186);
+    assert!(rt; is_renewed(alloc, RENEWED.replace(alloc, "~", "\n")?.as_str())?);
     Ok(())
 }
 
@@ -291,17 +332,11 @@ fn a_certificate_is_upgraded(rt: HostRuntime) -> Result<(), Fail> {
 #[test]
 fn a_rejected_certificate_is_not_upgraded(rt: HostRuntime) -> Result<(), Fail> {
     let alloc = rt.alloc();
-    let (file, cert) = ROW.split_once('\n').unwrap_or(("", ""));
-    let file = file.replace(alloc, "~", "\n")?;
+    let (_, cert) = ROW.split_once('\n').unwrap_or(("", ""));
     let high = with_line(alloc, cert, 3, "bound 21")?;
-    let mut shelf = shelf_with(alloc, file.as_bytes(), 65_536, &[], &[])?;
-    shelf.place("cert", high.as_bytes())?;
-    shelf.ready("new", 1_000)?;
-    let mut out = MemSink::new(alloc, REPORT_ROOM, 65_536, Vec::new(alloc))?;
-    let words = ["upgrade", "file", "cert", "new"];
-    let status = run_words(alloc, &words, &mut shelf, &mut out)?;
-    assert_eq!(rt; status.code(), 2);
-    assert!(rt; shelf.held("new").is_none());
-    assert!(rt; out.written() == b"rejected: node 1 has value 20, not above 20\n".as_slice());
+    let mut shelf = upgrade_shelf(alloc, high.as_str())?;
+    let (code, written) = upgraded(alloc, &mut shelf)?;
+    assert!(rt; code == 2 && shelf.held("new").is_none());
+    assert!(rt; written.as_slice() == b"rejected: node 1 has value 20, not above 20\n".as_slice());
     Ok(())
 }

@@ -5,8 +5,8 @@ ghost use Rattle.carp_outside.specs.Told.{WroteFront};
 ghost use Rattle.carp_cli.specs.Outside.{AreKept, AreKeptInPart};
 ghost use Rattle.carp_cli.specs.Steps.{kept_in, work_in};
 
-use crate::status::Status;
 use carp_outside::{Shelf, ShelfFault, Sink, put_all};
+use command_files::Status;
 
 /// A name, and the bytes that are to be kept there.
 #[derive(Drop)]

@@ -1,7 +1,8 @@
 // Small data at which the facts of a run hold, and small data at which they do not.
 ghost use Rattle.std.specs.Prelude.{ℕ, ◌≢◌, [], ◌∷◌, None, Some, true, codes};
 ghost use Rattle.carp_engine.specs.Solutions.{IsSound};
-ghost use Rattle.carp_cli.specs.Commands.{RoseAtSome, HasLimit, reads};
+ghost use Rattle.command_files.specs.Files.{RoseAtSome, HasLimit};
+ghost use Rattle.command_words.specs.Commands.{reads};
 ghost use Rattle.carp_cli.specs.Outside.{AreKept, AreKeptInPart};
 ghost use Rattle.carp_cli.specs.Answers.{IsDoneStatus};
 ghost use Rattle.carp_cli.specs.Solving.{IsEnding};
@@ -11,8 +12,8 @@ ghost use Rattle.carp_cli.specs.Examples.{idle, stating, solving, checking, outs
 use crate::Status;
 
 fn facts_of_a_run_hold()
-    ensures proven { IsEnding (stating 5 5) Status.Proven }
-    ensures gap { IsEnding (stating 5 4) Status.Gap }
+    ensures proven { IsEnding (stating 5 5) 64 0 Status.Proven }
+    ensures gap { IsEnding (stating 5 4) 64 64 Status.Gap }
     ensures kept_none { AreKept [] (λ _. None) (λ _. None) }
     ensures rose { RoseAtSome (reads checking) (λ _. 0) (λ _. 1) }
     ensures limit { HasLimit 268435456 (reads checking) }
@@ -22,8 +23,9 @@ fn facts_of_a_run_hold()
 fn facts_of_a_run_fail()
     ensures cost { IsSound idle (stating 1 0) 0 → ⊥ }
     ensures bound { IsSound idle (stating 0 1) 0 → ⊥ }
-    ensures proven { IsEnding (stating 5 4) Status.Proven → ⊥ }
-    ensures gap { IsEnding (stating 5 5) Status.Gap → ⊥ }
+    ensures proven { IsEnding (stating 5 4) 64 64 Status.Proven → ⊥ }
+    ensures gap { IsEnding (stating 5 5) 64 64 Status.Gap → ⊥ }
+    ensures too_early { IsEnding (stating 5 4) 64 63 Status.Gap → ⊥ }
     ensures kept_none { AreKept [] (λ _. None) (λ _. Some []) → ⊥ }
     ensures no_part { AreKeptInPart [] (λ _. None) (λ _. None) → ⊥ }
     ensures rose { RoseAtSome (reads checking) (λ _. 1) (λ _. 1) → ⊥ }

@@ -5,11 +5,12 @@ use carp_outside::MemSink;
 use std::alloc::Global;
 use std::test::Fail;
 
-// What is answered for a file, and what is written.
+// What is answered for a file by one turn, and what is written.
 fn solved(alloc: Global, file: &[u8]) -> Result<(Status, Vec<u8>), Fail> {
     let mut shelf = shelf_with(alloc, file, 65_536, &[], &[])?;
     let mut out = MemSink::new(alloc, REPORT_ROOM, 65_536, Vec::new(alloc))?;
-    let status = run_words(alloc, &["solve", "file", "cert"], &mut shelf, &mut out)?;
+    let words = ["solve", "file", "cert", "--turns", "1"];
+    let status = run_words(alloc, &words, &mut shelf, &mut out)?;
     Ok((status, out.written().to_vec(alloc)?))
 }
 

@@ -4,9 +4,10 @@
 //! keeps files there, writes texts to a [`carp_outside::Sink`] and answers a [`Status`]. [`DirShelf`] and [`StdSink`] make
 //! the files of the system and a writer, such as the standard output, into these.
 //!
-//! Inside, `words` reads a command, `reading` the files that it names, `performing` makes what it asks for, `refusals` spells the answers
-//! that have no report, and `delivering` keeps and writes what was made. So all that is kept or written goes through one function, and a
-//! command is a variant of `Command`, its rows in `specs/Commands.antt` and `specs/Answers.antt`, and a function of `performing`.
+//! A command is read by `command_words`, and the files that it names by `command_files`. Inside, `performing` makes what it asks for, `refusals`
+//! spells the answers that have no report, and `delivering` keeps and writes what was made. So all that is kept or written goes through one
+//! function, and a command is a variant of [`command_words::Command`], its rows in the tables of that crate and in `specs/Answers.antt`, and a function of
+//! `performing`.
 #![tactic(auto)]
 
 #[cfg(test)]
@@ -18,16 +19,13 @@ mod examples;
 #[cfg(test)]
 mod file_tests;
 mod performing;
-mod reading;
 mod refusals;
 mod running;
-mod status;
 mod std_sink;
 #[cfg(test)]
 mod tests;
-mod words;
 
+pub use command_files::Status;
 pub use dir_shelf::DirShelf;
 pub use running::run;
-pub use status::Status;
 pub use std_sink::StdSink;

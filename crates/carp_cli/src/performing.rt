@@ -3,7 +3,7 @@ ghost use Rattle.std.specs.Prelude.{◌≡◌, ◌⊎◌, ◌≢◌, ℕ, ◌≤
 ghost use Rattle.carp_outside.specs.Told.{SameContents};
 ghost use Rattle.number_texts.specs.Lines.{number_line};
 ghost use Rattle.cert_format.specs.Certs.{certificate_in};
-ghost use Rattle.carp_cli.specs.Commands.{Solve, Check, Upgrade};
+ghost use Rattle.command_words.specs.Commands.{Solve, Check, Upgrade};
 ghost use Rattle.carp_cli.specs.Checking.{answer_text, IsRenewed};
 ghost use Rattle.carp_cli.specs.Outside.{Finding};
 ghost use Rattle.carp_cli.specs.Solving.{IsSolvedBy};
@@ -12,42 +12,40 @@ ghost use Rattle.cert_lines.specs.Spelling.{IsSpellable};
 ghost use Rattle.cert_format.specs.Good.{IsGood};
 
 use crate::delivering::{Delivery, Kept};
-use crate::reading::{check_file, read_good, read_instance};
-use crate::status::Status;
 use carp_base::{Fail, Instance, Memory};
 use carp_engine::solve;
 use carp_outside::Shelf;
 use cert_format::{Cert, counts_keep_good, counts_of, good_is_proof, write_cert};
+use command_files::{Status, check_file, read_good, read_instance};
 use dat_text::readings_are_unique;
 use number_texts::push_line;
 use plan_model::Proposer;
 use plan_print::report;
 use std::alloc::Global;
 
-/// The budget of turns, and the seed.
-const TURNS: u64 = 64;
-
-const SEED: u64 = 1;
-
-/// Solves the instance of a file with the aid of the helpers.
+/// Solves the instance of a file with so many turns, and with the aid of the helpers, which are seeded from the seed on.
 pub(crate) fn perform_solve<'a, H: Shelf, P: Proposer>(
     alloc: Global,
     file: &str,
     cert: &'a str,
+    turns: u64,
+    seed: u64,
     shelf: &mut H,
     helpers: &mut Vec<P>,
 ) -> Result<Delivery<'a>, Fail<Status>>
+    requires some_turns { 1 ≤ turns }
+    requires turns_in_range { turns ≤ 1048576 }
     ensures performed { let finding : Finding = record { contents = H.contents shelf.old; looks_before = H.failed_looks shelf.old; looks_now = H.failed_looks shelf.new; offered = map (λ helper. (P.tally helper).least) helpers.new.items } in
-        IsPerformed H.tells (Solve file.now cert.now) finding (H.given shelf.old) (H.given shelf.new) result }
+        IsPerformed H.tells (Solve file.now cert.now turns seed) finding (H.given shelf.old) (H.given shelf.new) result }
     ensures contents { IsTrue H.tells → SameContents (H.contents shelf.old) (H.contents shelf.new) }
     ensures keeps { H.failed_keeps shelf.new ≡ H.failed_keeps shelf.old }
     ensures same { map P.id helpers.new.items ≡ map P.id helpers.old.items }
-    ensures seeds { OnOk result (EachIndex helpers.new.items (λ k. slice_index (map P.seed helpers.new.items) k ≡ (1 + k) % 2 ^ 64)) }
+    ensures seeds { OnOk result (EachIndex helpers.new.items (λ k. slice_index (map P.seed helpers.new.items) k ≡ (seed + k) % 2 ^ 64)) }
     ensures asked { OnOk result (All (λ helper. 1 ≤ P.asked helper) helpers.new.items) }
     ensures fouls { OnOk result (All (λ helper. (P.tally helper).fouls ≤ 1) helpers.new.items) }
 {
     match read_instance(alloc, shelf, file) {
-        Ok(inst) => whole(solve_instance(alloc, &inst, cert, helpers)),
+        Ok(inst) => whole(solve_instance(alloc, &inst, cert, turns, seed, helpers)),
         Err(fail) => Err(fail),
     }
 }
@@ -67,15 +65,19 @@ fn solve_instance<'a, P: Proposer>(
     alloc: Global,
     inst: &Instance,
     cert: &'a str,
+    turns: u64,
+    seed: u64,
     helpers: &mut Vec<P>,
 ) -> Result<Delivery<'a>, Memory>
-    ensures solved { IfOk result (λ d. ((d.status ≡ Status.Proven) ⊎ (d.status ≡ Status.Gap)) × IsSolvedBy inst.now cert.now (map (λ helper. (P.tally helper).least) helpers.new.items) d.status (work_in d)) }
+    requires some_turns { 1 ≤ turns }
+    requires turns_in_range { turns ≤ 1048576 }
+    ensures solved { IfOk result (λ d. ((d.status ≡ Status.Proven) ⊎ (d.status ≡ Status.Gap)) × IsSolvedBy inst.now cert.now turns (map (λ helper. (P.tally helper).least) helpers.new.items) d.status (work_in d)) }
     ensures same { map P.id helpers.new.items ≡ map P.id helpers.old.items }
-    ensures seeds { OnOk result (EachIndex helpers.new.items (λ k. slice_index (map P.seed helpers.new.items) k ≡ (1 + k) % 2 ^ 64)) }
+    ensures seeds { OnOk result (EachIndex helpers.new.items (λ k. slice_index (map P.seed helpers.new.items) k ≡ (seed + k) % 2 ^ 64)) }
     ensures asked { OnOk result (All (λ helper. 1 ≤ P.asked helper) helpers.new.items) }
     ensures fouls { OnOk result (All (λ helper. (P.tally helper).fouls ≤ 1) helpers.new.items) }
 {
-    let solved = solve(alloc, inst, TURNS, SEED, helpers)?;
+    let solved = solve(alloc, inst, turns, seed, helpers)?;
     let bytes = write_cert(alloc, &solved.cert)?;
     let text = report(alloc, inst, &solved.cert, solved.turns)?;
     let status = ending(solved.cert.bound, solved.cert.cost);

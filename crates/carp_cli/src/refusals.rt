@@ -2,8 +2,8 @@
 ghost use Rattle.std.specs.Prelude.{◌≡◌, IfOk};
 ghost use Rattle.carp_cli.specs.Refusals.{refusal_text, usage_text, limit_line};
 
-use crate::status::Status;
 use carp_base::Memory;
+use command_files::Status;
 use number_texts::push_words;
 use refusal_texts::{certificate_fault_line, instance_fault_line, rejection_line};
 use std::alloc::Global;
@@ -16,7 +16,7 @@ pub(crate) fn refusal(alloc: Global, status: &Status) -> Result<Vec<u8>, Memory>
     match status {
         Status::BadUsage => Ok(Vec::from_slice(
             alloc,
-            b"usage: carp solve FILE CERT\n       carp check FILE CERT\n       carp upgrade FILE CERT NEWCERT\n",
+            b"usage: carp solve FILE CERT [--turns N] [--seed N]\n       carp check FILE CERT\n       carp upgrade FILE CERT NEWCERT\n",
         )?),
         Status::BadInstance(fault) => instance_fault_line(alloc, fault),
         Status::BadCertificate(fault) => certificate_fault_line(alloc, fault),

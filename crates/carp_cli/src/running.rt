@@ -1,37 +1,38 @@
 // The top call.
-ghost use Rattle.std.specs.Prelude.{◌≡◌, ◌⊎◌, ℕ, ◌≤◌, ◌%◌, ◌^◌, ◌+◌, List, Option, map, slice_index, All, EachIndex, IsTrue, IfOk, OnOk, false};
+ghost use Rattle.std.specs.Prelude.{◌≡◌, ◌⊎◌, ℕ, ◌≤◌, ◌%◌, ◌^◌, ◌+◌, List, Option, Some, map, slice_index, All, EachIndex, IsTrue, IfOk, OnOk, false};
 ghost use Rattle.carp_outside.specs.Told.{SameContents};
-ghost use Rattle.carp_cli.specs.Commands.{Command, is_helped};
-ghost use Rattle.carp_cli.specs.Words.{command_of};
+ghost use Rattle.command_words.specs.Commands.{asks_helpers, is_helped, seed_by, seed_of};
+ghost use Rattle.command_words.specs.Words.{command_of, texts_of};
 ghost use Rattle.carp_cli.specs.Outside.{Outside, Finding};
 ghost use Rattle.carp_cli.specs.Answers.{IsDoneStatus, refusal_work};
 ghost use Rattle.carp_cli.specs.Runs.{Leaves, IsHelped};
-ghost use Rattle.carp_cli.specs.Steps.{IsPrepared, IsSettled, command_in, work_in};
+ghost use Rattle.carp_cli.specs.Steps.{HasBudget, IsPrepared, IsSettled, work_in};
+ghost use Rattle.command_words.specs.Forms.{command_in};
 
 use crate::delivering::{Delivery, deliver};
 use crate::performing::{perform_check, perform_solve, perform_upgrade};
 use crate::refusals::refusal;
-use crate::status::Status;
-use crate::words::{Command, read_words};
 use carp_base::{Fail, Memory};
 use carp_outside::{Shelf, Sink};
+use command_files::Status;
+use command_words::{Command, budgets_are_in_range, read_words};
 use plan_model::Proposer;
 use std::alloc::Global;
 
 /// Runs the command that the words name.
 ///
-/// - `solve FILE CERT` reads the instance of FILE, solves it with the aid of the helpers, keeps a certificate at CERT and writes a
-///   report. It ends `Proven` where the bound is the cost, and else `Gap`. The helpers are used as [`carp_engine::solve`] does, with seed
-///   1. None of them need be trusted.
+/// - `solve FILE CERT [--turns N] [--seed N]` reads the instance of FILE, solves it with the aid of the helpers, keeps a certificate at
+///   CERT and writes a report. It ends `Proven` where the bound is the cost, and else `Gap`. Turns and seed are those of
+///   [`carp_engine::solve`], and are 64 and 1 where they are not given. None of the helpers need be trusted.
 /// - `check FILE CERT` reads the instance of FILE and then the certificate of CERT, whose nodes it does not hold, and writes whether it
 ///   is good: `Accepted`, with its cost and its bound, or `Rejected`, with the first reason.
 /// - `upgrade FILE CERT NEWCERT` does as `check`, but holds the certificate, and where it is good keeps it at NEWCERT with the numbers of
 ///   the instance, and ends `Done`.
 ///
-/// All other words are bad usage. The names of a command are not empty, do not begin with `-`, and differ. All texts are built before
-/// anything is kept or written.
+/// All other words are bad usage; [`command_words::read_words`] says which are plain. All texts are built before anything is kept or
+/// written.
 ///
-/// The contract is said once for all commands, by the tables of `specs/Commands.antt` and `specs/Answers.antt`: [`Status`] says when
+/// The contract is said once for all commands, by the tables of `command_words` and of `specs/Answers.antt`: [`Status`] says when
 /// each answer comes, and `Leaves` what stands after it. What it says of the contents of names and of what was written holds where the
 /// shelf and the sink tell it, as [`carp_outside::MemShelf`] and [`carp_outside::MemSink`] do. Over [`crate::DirShelf`] and
 /// [`crate::StdSink`] it says which count rose where an answer is a fault, and what becomes of the helpers.
@@ -44,14 +45,14 @@ pub fn run<H: Shelf, O: Sink>(
 ) -> Status
     ensures leaves { let before : Outside = record { contents = H.contents shelf.old; failed_looks = H.failed_looks shelf.old; failed_keeps = H.failed_keeps shelf.old; given = H.given shelf.old; written = O.written out.old; failed_puts = O.faults out.old; offered = map (λ helper. (tally helper).least) helpers.old.items } in
         let now : Outside = record { contents = H.contents shelf.new; failed_looks = H.failed_looks shelf.new; failed_keeps = H.failed_keeps shelf.new; given = H.given shelf.new; written = O.written out.new; failed_puts = O.faults out.new; offered = map (λ helper. (tally helper).least) helpers.new.items } in
-        Leaves H.tells O.tells (command_of words.now) before now result }
+        Leaves H.tells O.tells (command_of (texts_of words.now)) before now result }
 
     // The helpers are those that came, in their order, and are left as they are but by a command that asks them.
     ensures helpers { map id helpers.new.items ≡ map id helpers.old.items }
-    ensures unasked { is_helped (command_of words.now) ≡ false → helpers.new.items ≡ helpers.old.items }
-    ensures seeds { IsHelped (command_of words.now) result → EachIndex helpers.new.items (λ k. slice_index (map seed helpers.new.items) k ≡ (1 + k) % 2 ^ 64) }
-    ensures asked { IsHelped (command_of words.now) result → All (λ helper. 1 ≤ asked helper) helpers.new.items }
-    ensures fouls { IsHelped (command_of words.now) result → All (λ helper. (tally helper).fouls ≤ 1) helpers.new.items }
+    ensures unasked { is_helped (command_of (texts_of words.now)) ≡ false → helpers.new.items ≡ helpers.old.items }
+    ensures seeds { IsHelped (command_of (texts_of words.now)) result → EachIndex helpers.new.items (λ k. slice_index (map seed helpers.new.items) k ≡ (seed_by (command_of (texts_of words.now)) + k) % 2 ^ 64) }
+    ensures asked { IsHelped (command_of (texts_of words.now)) result → All (λ helper. 1 ≤ asked helper) helpers.new.items }
+    ensures fouls { IsHelped (command_of (texts_of words.now)) result → All (λ helper. (tally helper).fouls ≤ 1) helpers.new.items }
 {
     match prepare(alloc, words, shelf, helpers) {
         Ok(delivery) => deliver(shelf, out, &delivery),
@@ -67,30 +68,57 @@ fn prepare<'a, H: Shelf, P: Proposer>(
     helpers: &mut Vec<P>,
 ) -> Result<Delivery<'a>, Memory>
     ensures prepared { let finding : Finding = record { contents = H.contents shelf.old; looks_before = H.failed_looks shelf.old; looks_now = H.failed_looks shelf.new; offered = map (λ helper. (P.tally helper).least) helpers.new.items } in
-        IfOk result (λ d. IsPrepared H.tells (command_of words.now) finding (H.given shelf.old) (H.given shelf.new) d.status (work_in d)) }
+        IfOk result (λ d. IsPrepared H.tells (command_of (texts_of words.now)) finding (H.given shelf.old) (H.given shelf.new) d.status (work_in d)) }
     ensures contents { IsTrue H.tells → SameContents (H.contents shelf.old) (H.contents shelf.new) }
     ensures keeps { H.failed_keeps shelf.new ≡ H.failed_keeps shelf.old }
     ensures helpers { map P.id helpers.new.items ≡ map P.id helpers.old.items }
-    ensures unasked { is_helped (command_of words.now) ≡ false → helpers.new.items ≡ helpers.old.items }
-    ensures seeds { IfOk result (λ d. IsHelped (command_of words.now) d.status → EachIndex helpers.new.items (λ k. slice_index (map P.seed helpers.new.items) k ≡ (1 + k) % 2 ^ 64)) }
-    ensures asked { IfOk result (λ d. IsHelped (command_of words.now) d.status → All (λ helper. 1 ≤ P.asked helper) helpers.new.items) }
-    ensures fouls { IfOk result (λ d. IsHelped (command_of words.now) d.status → All (λ helper. (P.tally helper).fouls ≤ 1) helpers.new.items) }
+    ensures unasked { is_helped (command_of (texts_of words.now)) ≡ false → helpers.new.items ≡ helpers.old.items }
+    ensures seeds { IfOk result (λ d. IsHelped (command_of (texts_of words.now)) d.status → EachIndex helpers.new.items (λ k. slice_index (map P.seed helpers.new.items) k ≡ (seed_by (command_of (texts_of words.now)) + k) % 2 ^ 64)) }
+    ensures asked { IfOk result (λ d. IsHelped (command_of (texts_of words.now)) d.status → All (λ helper. 1 ≤ P.asked helper) helpers.new.items) }
+    ensures fouls { IfOk result (λ d. IsHelped (command_of (texts_of words.now)) d.status → All (λ helper. (P.tally helper).fouls ≤ 1) helpers.new.items) }
 {
-    match read_words(words) {
-        None => refuse(alloc, Status::BadUsage),
-        Some(Command::Solve { file, cert }) => {
-            settle(alloc, perform_solve(alloc, file, cert, shelf, helpers))
-        }
-        Some(Command::Check { file, cert }) => {
-            settle(alloc, perform_check(alloc, file, cert, shelf))
-        }
-        Some(
-            Command::Upgrade {
-                file,
-                cert,
-                renewed,
-            },
-        ) => settle(alloc, perform_upgrade(alloc, file, cert, renewed, shelf)),
+    budgets_are_in_range();
+    match read_words(alloc, words) {
+        Ok(None) => refuse(alloc, Status::BadUsage),
+        Ok(Some(command)) => perform(alloc, command, shelf, helpers),
+        Err(Memory) => Err(Memory),
+    }
+}
+
+// What a command asks to be kept, written and answered.
+fn perform<'a, H: Shelf, P: Proposer>(
+    alloc: Global,
+    command: Command<'a>,
+    shelf: &mut H,
+    helpers: &mut Vec<P>,
+) -> Result<Delivery<'a>, Memory>
+    requires { HasBudget (command_in command) }
+    ensures prepared { let finding : Finding = record { contents = H.contents shelf.old; looks_before = H.failed_looks shelf.old; looks_now = H.failed_looks shelf.new; offered = map (λ helper. (P.tally helper).least) helpers.new.items } in
+        IfOk result (λ d. IsPrepared H.tells (Some (command_in command.entry)) finding (H.given shelf.old) (H.given shelf.new) d.status (work_in d)) }
+    ensures contents { IsTrue H.tells → SameContents (H.contents shelf.old) (H.contents shelf.new) }
+    ensures keeps { H.failed_keeps shelf.new ≡ H.failed_keeps shelf.old }
+    ensures helpers { map P.id helpers.new.items ≡ map P.id helpers.old.items }
+    ensures unasked { asks_helpers (command_in command.entry) ≡ false → helpers.new.items ≡ helpers.old.items }
+    ensures seeds { IfOk result (λ d. IsHelped (Some (command_in command.entry)) d.status → EachIndex helpers.new.items (λ k. slice_index (map P.seed helpers.new.items) k ≡ (seed_of (command_in command.entry) + k) % 2 ^ 64)) }
+    ensures asked { IfOk result (λ d. IsHelped (Some (command_in command.entry)) d.status → All (λ helper. 1 ≤ P.asked helper) helpers.new.items) }
+    ensures fouls { IfOk result (λ d. IsHelped (Some (command_in command.entry)) d.status → All (λ helper. (P.tally helper).fouls ≤ 1) helpers.new.items) }
+{
+    match command {
+        Command::Solve {
+            file,
+            cert,
+            turns,
+            seed,
+        } => settle(
+            alloc,
+            perform_solve(alloc, file, cert, turns, seed, shelf, helpers),
+        ),
+        Command::Check { file, cert } => settle(alloc, perform_check(alloc, file, cert, shelf)),
+        Command::Upgrade {
+            file,
+            cert,
+            renewed,
+        } => settle(alloc, perform_upgrade(alloc, file, cert, renewed, shelf)),
     }
 }
 

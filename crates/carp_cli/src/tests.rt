@@ -3,9 +3,6 @@ ghost use Rattle.std.specs.Prelude.{◌<◌};
 
 use crate::{Status, run};
 use carp_outside::{MemShelf, MemSink, Shelf};
-use cert_checker::Reason;
-use cert_format::CertFault;
-use dat_text::DatFault;
 use plan_model::Proposer;
 use std::alloc::Global;
 use std::test::Fail;
@@ -50,7 +47,7 @@ tours 1
 tour 1 load 1 cost 10 route 1=2-1
 ";
 
-const USAGE: &str = "usage: carp solve FILE CERT
+const USAGE: &str = "usage: carp solve FILE CERT [--turns N] [--seed N]
        carp check FILE CERT
        carp upgrade FILE CERT NEWCERT
 ";
@@ -227,6 +224,8 @@ const CALLS: &str = "\
     solve file cert | | | 1 | 7 | yes |\n\
     solve file cert | | | 2 | 7 | yes | instance vertice\n\
     solve none cert | | | | 6 | no | read fault~\n\
+    solve file cert --turns 9 --seed 7 | | | | 0 | yes | report\n\
+    solve file cert --seed 0 --turns 1 | | | 1 | 7 | yes |\n\
     solve | | | 1 | 7 | no |\n\
     solve | | | 2 | 7 | no | usage: carp solv\n\
     | | | | 3 | no | usage\n\
@@ -238,6 +237,9 @@ const CALLS: &str = "\
     solve file cert --turns 0 | | | | 3 | no | usage\n\
     solve file cert --turns 1048577 | | | | 3 | no | usage\n\
     solve file cert --turns=9 | | | | 3 | no | usage\n\
+    solve file cert --seed 1 --seed 1 | | | | 3 | no | usage\n\
+    solve --seed 1 file cert | | | | 3 | no | usage\n\
+    check file cert --seed 1 | | | | 3 | no | usage\n\
     Solve file cert | | | | 3 | no | usage\n\
     check file cert | | | | 6 | no | read fault~\n\
     check file file | | | | 3 | no | usage\n\
@@ -307,17 +309,4 @@ fn bad_usage_calls_for_no_file(rt: HostRuntime) -> Result<(), Fail> {
     assert!(rt; shelf.look("file", 0, &mut [0; 4]).is_err());
     assert!(rt; shelf.keep("cert", b"").is_err());
     Ok(())
-}
-
-#[test]
-fn each_status_has_its_code(rt: HostRuntime) {
-    assert!(rt; Status::Proven.code() == 0 && Status::Gap.code() == 1);
-    assert!(rt; Status::Accepted.code() == 0 && Status::Done.code() == 0);
-    assert!(rt; Status::Rejected(Reason::NotLean { node: 1 }).code() == 2);
-    assert!(rt; Status::BadCertificate(CertFault::Syntax(1)).code() == 5);
-    assert!(rt;
-        Status::BadUsage.code() == 3 && Status::BadInstance(DatFault::Syntax(1)).code() == 4
-    );
-    assert!(rt; Status::ReadFault.code() == 6 && Status::WriteFault.code() == 7);
-    assert!(rt; Status::Memory.code() == 8 && Status::TooLong(9).code() == 9);
 }

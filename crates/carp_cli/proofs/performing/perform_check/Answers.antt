@@ -1,6 +1,6 @@
 use Rattle.std.proofs.Common.{sym}
 use Rattle.std.proofs.Math.Path.{fun_ext}
-use Rattle.carp_cli.specs.Commands.{Check}
+use Rattle.command_words.specs.Commands.{Check}
 use Rattle.carp_cli.proofs.Performed.{by_contents, check_performed, first_stops, second_decides, stopped, tried_again}
 use Rattle.carp_cli.proofs.performing.perform_check.Goals as goal
 

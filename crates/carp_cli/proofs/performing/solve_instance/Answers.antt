@@ -1,16 +1,23 @@
-use Rattle.std.proofs.Common.{rules}
+use Rattle.std.proofs.Common.{rules, ◌≡◌, ◌≢◌, ℕ, ◌≤◌, ◌⊎◌, inl, inr}
 use Rattle.std.proofs.lemmas.List.Elements.{All-map}
 use Rattle.carp_engine.specs.Helpers.{IsAtMost}
 use Rattle.cert_lines.specs.Certificates.{Certificate}
 use Rattle.cert_format.specs.Certs.{certificate_in}
-use Rattle.carp_cli.proofs.FileReads.{of_ok}
+use Rattle.carp_cli.proofs.Results.{of_ok}
 use Rattle.carp_cli.proofs.Performed.{solved_by}
 use Rattle.carp_cli.proofs.performing.solve_instance.Goals as goal
+
+-- a bound that is not the cost is so only where the turns were spent
+spent : (bound cost asked turns : ℕ) → (bound ≡ cost) ⊎ (asked ≤ turns) → bound ≢ cost → asked ≤ turns
+spent bound cost asked turns (inl same) other = absurd (other same)
+spent bound cost asked turns (inr more) other = more
 
 pub returns-clause-solved : goal.returns-clause-solved
 returns-clause-solved g c =
     let certificate : Certificate = certificate_in c.in_ok-solved.solved.cert in
     let helped = All-map (IsAtMost certificate.cost) (λ helper. (g.P.Proposer.tally helper).least) _ c.in_ok-solved.ensures.least in
     of_ok c.deliver_one.result c.deliver_one.ensures (λ d made.
-    solved_by certificate c.in_ok-solved.solved.turns _ _ c.ending-status.result c.in_ok-solved.ensures.sound (record { proven = c.ending-status.ensures.is_proven; gap = c.ending-status.ensures.is_gap })
+    solved_by certificate c.args.turns c.in_ok-solved.solved.turns _ _ c.ending-status.result c.in_ok-solved.ensures.sound
+    (record { proven = c.ending-status.ensures.is_proven; gap = λ gap. (c.ending-status.ensures.is_gap gap, spent certificate.bound certificate.cost c.args.turns c.in_ok-solved.solved.turns c.in_ok-solved.ensures.ended (c.ending-status.ensures.is_gap gap)) })
+    (λ enough. c.ending-status.ensures.proven (c.in_ok-solved.ensures.whole enough))
     (search rules) helped c.in_ok-bytes.ensures.read c.in_ok-text.ensures d made)

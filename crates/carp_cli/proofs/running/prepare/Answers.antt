@@ -1,24 +1,19 @@
-use Rattle.carp_cli.proofs.Performed.{helped, settled}
+use Rattle.std.proofs.Common.{◌≡◌, ℕ, List, Some}
+use Rattle.command_words.specs.Commands.{Command, Solve, Check, Upgrade}
+use Rattle.command_words.specs.Laws.{BudgetsAreInRange}
+use Rattle.command_words.specs.Forms.{command_in}
+use Rattle.command_words.specs.Words.{command_of, texts_of}
+use Rattle.carp_cli.specs.Steps.{HasBudget}
 use Rattle.carp_cli.proofs.running.prepare.Goals as goal
 
-pub returns-in-Some-Solve-clause-prepared : goal.returns-in-Some-Solve-clause-prepared
-returns-in-Some-Solve-clause-prepared g c = rw (c.in-Some-Solve.ensures, c.in-Some-Solve.field-0-is) (settled c.perform_solve.result c.settle.result c.perform_solve.ensures.performed c.settle.ensures)
+has_budget : BudgetsAreInRange → (words : List (List ℕ)) (command : Command) → command_of words ≡ Some command → HasBudget command
+has_budget law words (Solve file cert turns seed) is = law words file cert turns seed is
+has_budget law words (Check file cert) is = tt
+has_budget law words (Upgrade file cert renewed) is = tt
 
-pub returns-in-Some-Solve-clause-seeds : goal.returns-in-Some-Solve-clause-seeds
-returns-in-Some-Solve-clause-seeds g c =
-    rw (c.in-Some-Solve.ensures, c.in-Some-Solve.field-0-is) (helped _ c.perform_solve.result c.settle.result c.perform_solve.ensures.seeds c.perform_solve.ensures.performed c.settle.ensures)
-
-pub returns-in-Some-Solve-clause-asked : goal.returns-in-Some-Solve-clause-asked
-returns-in-Some-Solve-clause-asked g c =
-    rw (c.in-Some-Solve.ensures, c.in-Some-Solve.field-0-is) (helped _ c.perform_solve.result c.settle.result c.perform_solve.ensures.asked c.perform_solve.ensures.performed c.settle.ensures)
-
-pub returns-in-Some-Solve-clause-fouls : goal.returns-in-Some-Solve-clause-fouls
-returns-in-Some-Solve-clause-fouls g c =
-    rw (c.in-Some-Solve.ensures, c.in-Some-Solve.field-0-is) (helped _ c.perform_solve.result c.settle.result c.perform_solve.ensures.fouls c.perform_solve.ensures.performed c.settle.ensures)
-
-pub returns-in-Some-Check-clause-prepared : goal.returns-in-Some-Check-clause-prepared
-returns-in-Some-Check-clause-prepared g c = rw (c.in-Some-Check.ensures, c.in-Some-Check.field-0-is) (settled c.perform_check.result c.settle-in-Some-Check.result (c.perform_check.ensures.performed _) c.settle-in-Some-Check.ensures)
-
-pub returns-in-Some-Upgrade-clause-prepared : goal.returns-in-Some-Upgrade-clause-prepared
-returns-in-Some-Upgrade-clause-prepared g c =
-    rw (c.in-Some-Upgrade.ensures, c.in-Some-Upgrade.field-0-is) (settled c.perform_upgrade.result c.settle-in-Some-Upgrade.result (c.perform_upgrade.ensures.performed _) c.settle-in-Some-Upgrade.ensures)
+pub perform-requires : goal.perform-requires
+perform-requires g c =
+    let words = texts_of c.args.words.now in
+    let command = command_in c.in-Ok-Some.command in
+    let is : command_of words ≡ Some command = rw c.in-Ok-Some.field-0-is at c.in-Ok-Some.ensures in
+    has_budget c.budgets_are_in_range.ensures words command is
