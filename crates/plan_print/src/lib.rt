@@ -3,6 +3,10 @@
 
 mod reporting;
 #[cfg(test)]
+mod sheet_tests;
+mod sheets;
+#[cfg(test)]
 mod tests;
 
 pub use reporting::report;
+pub use sheets::sheet;

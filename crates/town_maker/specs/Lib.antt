@@ -1,0 +1,4 @@
+pub mod Streets
+pub mod Draws
+pub mod Towns
+pub mod Laws

@@ -1,0 +1,14 @@
+//! Towns that a number determines: a hundred crossings on a grid, with streets whose costs and demands are drawn.
+//!
+//! A town serves to try the solver on an instance that anyone can make again. [`town`] makes it, and it is valid for every number.
+#![tactic(auto)]
+
+mod draws;
+mod grid;
+mod laws;
+mod maker;
+#[cfg(test)]
+mod tests;
+
+pub use laws::towns_are_valid;
+pub use maker::town;
