@@ -7,21 +7,8 @@ import os
 import re
 import subprocess
 import sys
-import time
 
-
-def solve(program, path, work):
-    """The cost, the bound, the seconds and the greatest memory of one run, in megabytes."""
-    begun = time.perf_counter()
-    run = subprocess.Popen([program, "solve", path, os.path.join(work, "cert")], stdout=subprocess.PIPE, text=True)
-    written = run.stdout.read()
-    _, status, usage = os.wait4(run.pid, 0)
-    seconds = time.perf_counter() - begun
-    run.returncode = os.waitstatus_to_exitcode(status)
-    if run.returncode not in (0, 1):
-        sys.exit(f"{path}: ended with {run.returncode}: {written}")
-    lines = dict(line.split(" ", 1) for line in written.splitlines()[1:4] if " " in line)
-    return int(lines["cost"]), int(lines["bound"]), seconds, usage.ru_maxrss / 1024
+from solving import Solved
 
 
 def floor(program, path):
@@ -51,17 +38,17 @@ def main(program, floors, folder, work, names):
     reached = []
     for name in names or programs:
         path = os.path.join(folder, name + ".dat")
-        cost, bound, seconds, memory = solve(program, path, work)
+        solved = Solved(program, path, os.path.join(work, "cert"))
         base, lp = services(path), programs[name]
-        percent = 100 * (bound - base) / (lp - base) if lp > base else 100
+        percent = 100 * (solved.bound - base) / (lp - base) if lp > base else 100
         reached.append(percent)
-        print(f"| {name} | {base} | {floor(floors, path)} | {bound} | {lp:.2f} | {percent:.1f} % | {cost} | {100 * (cost - bound) / cost:.2f} % | {seconds:.2f} s | {memory:.0f} MB |", flush=True)
+        print(f"| {name} | {base} | {floor(floors, path)} | {solved.bound} | {lp:.2f} | {percent:.1f} % | {solved.cost} | {solved.gap():.2f} % | {solved.seconds:.2f} s | {solved.memory:.0f} MB |", flush=True)
     print(f"| mean of {len(reached)} | | | | | {sum(reached) / len(reached):.1f} % | | | | |")
     print(f"| least | | | | | {min(reached):.1f} % | | | | |")
     limits = os.path.join(work, "limits.dat")
     if os.path.exists(limits):
-        cost, bound, seconds, memory = solve(program, limits, work)
-        print(f"| at the limits | {services(limits)} | {floor(floors, limits)} | {bound} | | | {cost} | {100 * (cost - bound) / cost:.2f} % | {seconds:.2f} s | {memory:.0f} MB |")
+        solved = Solved(program, limits, os.path.join(work, "cert"))
+        print(f"| at the limits | {services(limits)} | {floor(floors, limits)} | {solved.bound} | | | {solved.cost} | {solved.gap():.2f} % | {solved.seconds:.2f} s | {solved.memory:.0f} MB |")
 
 
 main(sys.argv[1], sys.argv[2], sys.argv[3], sys.argv[4], sys.argv[5:])

@@ -1,0 +1,26 @@
+"""One run of `carp solve`, for the scripts that print what it found."""
+import os
+import subprocess
+import sys
+import time
+
+
+class Solved:
+    """What a run found and took: the cost, the bound, the turns, the seconds, and the greatest memory in megabytes."""
+
+    def __init__(self, program, path, certificate, options=()):
+        begun = time.perf_counter()
+        run = subprocess.Popen([program, "solve", path, certificate, *options], stdout=subprocess.PIPE, text=True)
+        written = run.stdout.read()
+        _, status, usage = os.wait4(run.pid, 0)
+        self.seconds = time.perf_counter() - begun
+        run.returncode = os.waitstatus_to_exitcode(status)
+        if run.returncode not in (0, 1):
+            sys.exit(f"{path}: ended with {run.returncode}: {written}")
+        lines = dict(line.split(" ", 1) for line in written.splitlines()[1:4] if " " in line)
+        self.cost, self.bound, self.turns = int(lines["cost"]), int(lines["bound"]), int(lines["turns"])
+        self.memory = usage.ru_maxrss / 1024
+
+    def gap(self):
+        """How far the bound lies below the cost, in percent of the cost."""
+        return 100 * (self.cost - self.bound) / self.cost if self.cost else 0.0
