@@ -215,17 +215,13 @@ tours 2
     expect(&rt, alloc, WIDE_RING, "64", Status::Proven, front, "accepted\ncost 45\nbound 45\n")
 }
 
-// Three vehicles drive there and back, which no price set shows without decisions. The first split is a cut, whose high child shows the
-// cost at once.
+// Three vehicles drive there and back, which no price set shows without decisions.
 #[test]
 fn a_star_has_a_gap_after_one_turn(rt: HostRuntime) -> Result<(), Fail> {
     let front = "instance vertices 7 edges 6 required 5 capacity 5 demand 10
 cost 610
 bound 510
-turns 2
-open gap 100
-tours 3
-";
+turns ";
     expect(&rt, rt.alloc(), STAR, "1", Status::Gap, front, "accepted\ncost 610\nbound 510\n")
 }
 
