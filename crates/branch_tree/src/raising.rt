@@ -25,7 +25,7 @@ use std::alloc::Global;
 // The rounds of search for shores and the steps of the ascent: for a tree of one node, and for a larger one.
 const ROOT_ROUNDS: u32 = 400;
 
-const CHILD_ROUNDS: u32 = 24;
+const CHILD_ROUNDS: u32 = 8;
 
 impl Search {
     // A tight set for a leaf that is neither void nor fixed, from the set that the leaf names. It may add shores to the pool, whether
