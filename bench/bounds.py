@@ -1,4 +1,4 @@
-"""Solves instances, and prints their bounds beside the linear program over all shores and relaxed tours.
+"""Solves instances by one turn, and prints their bounds beside the linear program over all shores and relaxed tours.
 
 usage: bounds.py PROGRAM FLOORS FOLDER WORK [NAME ..]
 """
@@ -38,7 +38,7 @@ def main(program, floors, folder, work, names):
     reached = []
     for name in names or programs:
         path = os.path.join(folder, name + ".dat")
-        solved = Solved(program, path, os.path.join(work, "cert"))
+        solved = Solved(program, path, os.path.join(work, "cert"), ["--turns", "1"])
         base, lp = services(path), programs[name]
         percent = 100 * (solved.bound - base) / (lp - base) if lp > base else 100
         reached.append(percent)
@@ -47,7 +47,7 @@ def main(program, floors, folder, work, names):
     print(f"| least | | | | | {min(reached):.1f} % | | | | |")
     limits = os.path.join(work, "limits.dat")
     if os.path.exists(limits):
-        solved = Solved(program, limits, os.path.join(work, "cert"))
+        solved = Solved(program, limits, os.path.join(work, "cert"), ["--turns", "1"])
         print(f"| at the limits | {services(limits)} | {floor(floors, limits)} | {solved.bound} | | | {solved.cost} | {solved.gap():.2f} % | {solved.seconds:.2f} s | {solved.memory:.0f} MB |")
 
 

@@ -1,4 +1,4 @@
-"""Solves instances, and prints what their tours cost beside the best costs known.
+"""Solves instances by one turn, and prints what their tours cost beside the best costs known.
 
 usage: tours.py PROGRAM FOLDER WORK [NAME ..]
 """
@@ -14,7 +14,7 @@ def main(program, folder, work, names):
         best = {row["name"]: int(row["cost"]) for row in csv.DictReader(file)}
     over = []
     for name in names or best:
-        solved = Solved(program, os.path.join(folder, name + ".dat"), os.path.join(work, "cert"))
+        solved = Solved(program, os.path.join(folder, name + ".dat"), os.path.join(work, "cert"), ["--turns", "1"])
         percent = 100 * (solved.cost - best[name]) / best[name]
         over.append(percent)
         print(f"| {name} | {solved.cost} | {best[name]} | {percent:.2f} % | {solved.seconds:.2f} s |", flush=True)
@@ -22,7 +22,7 @@ def main(program, folder, work, names):
     print(f"| greatest | | | {max(over):.2f} % | |")
     limits = os.path.join(work, "limits.dat")
     if os.path.exists(limits):
-        solved = Solved(program, limits, os.path.join(work, "cert"))
+        solved = Solved(program, limits, os.path.join(work, "cert"), ["--turns", "1"])
         print(f"| at the limits | {solved.cost} | | | {solved.seconds:.2f} s |")
 
 
