@@ -180,7 +180,15 @@ turns 1
 proven
 tours 1
 tour 1 load 3 cost 16 route 1=";
-    expect(&rt, alloc, TRIANGLE, "64", Status::Proven, front, "accepted\ncost 16\nbound 16\n")?;
+    expect(
+        &rt,
+        alloc,
+        TRIANGLE,
+        "64",
+        Status::Proven,
+        front,
+        "accepted\ncost 16\nbound 16\n",
+    )?;
     let front = "instance vertices 2 edges 2 required 2 capacity 2 demand 2
 cost 7
 bound 7
@@ -189,7 +197,15 @@ proven
 tours 1
 tour 1 load 2 cost 7 route 1=2=1
 ";
-    expect(&rt, alloc, TWO_STREETS, "64", Status::Proven, front, "accepted\ncost 7\nbound 7\n")?;
+    expect(
+        &rt,
+        alloc,
+        TWO_STREETS,
+        "64",
+        Status::Proven,
+        front,
+        "accepted\ncost 7\nbound 7\n",
+    )?;
     Ok(())
 }
 
@@ -204,7 +220,15 @@ turns 1
 proven
 tours 3
 ";
-    expect(&rt, alloc, RING, "64", Status::Proven, front, "accepted\ncost 67\nbound 67\n")?;
+    expect(
+        &rt,
+        alloc,
+        RING,
+        "64",
+        Status::Proven,
+        front,
+        "accepted\ncost 67\nbound 67\n",
+    )?;
     let front = "instance vertices 4 edges 4 required 3 capacity 5 demand 6
 cost 45
 bound 45
@@ -212,7 +236,15 @@ turns 1
 proven
 tours 2
 ";
-    expect(&rt, alloc, WIDE_RING, "64", Status::Proven, front, "accepted\ncost 45\nbound 45\n")
+    expect(
+        &rt,
+        alloc,
+        WIDE_RING,
+        "64",
+        Status::Proven,
+        front,
+        "accepted\ncost 45\nbound 45\n",
+    )
 }
 
 // Three vehicles drive there and back, which no price set shows without decisions.
@@ -222,7 +254,15 @@ fn a_star_has_a_gap_after_one_turn(rt: HostRuntime) -> Result<(), Fail> {
 cost 610
 bound 510
 turns ";
-    expect(&rt, rt.alloc(), STAR, "1", Status::Gap, front, "accepted\ncost 610\nbound 510\n")
+    expect(
+        &rt,
+        rt.alloc(),
+        STAR,
+        "1",
+        Status::Gap,
+        front,
+        "accepted\ncost 610\nbound 510\n",
+    )
 }
 
 #[test]
@@ -231,7 +271,15 @@ fn a_star_is_proven_by_many_turns(rt: HostRuntime) -> Result<(), Fail> {
 cost 610
 bound 610
 ";
-    expect(&rt, rt.alloc(), STAR, "32768", Status::Proven, front, "accepted\ncost 610\nbound 610\n")
+    expect(
+        &rt,
+        rt.alloc(),
+        STAR,
+        "32768",
+        Status::Proven,
+        front,
+        "accepted\ncost 610\nbound 610\n",
+    )
 }
 
 #[test]
@@ -243,7 +291,15 @@ turns 1
 proven
 tours 1
 ";
-    expect(&rt, rt.alloc(), DEAD_ENDS, "64", Status::Proven, front, "accepted\ncost 27\nbound 27\n")
+    expect(
+        &rt,
+        rt.alloc(),
+        DEAD_ENDS,
+        "64",
+        Status::Proven,
+        front,
+        "accepted\ncost 27\nbound 27\n",
+    )
 }
 
 #[test]
@@ -256,7 +312,15 @@ proven
 tours 2
 ";
     let accepted = "accepted\ncost 20\nbound 20\n";
-    expect(&rt, rt.alloc(), FULL_STREETS, "64", Status::Proven, front, accepted)
+    expect(
+        &rt,
+        rt.alloc(),
+        FULL_STREETS,
+        "64",
+        Status::Proven,
+        front,
+        accepted,
+    )
 }
 
 #[test]
