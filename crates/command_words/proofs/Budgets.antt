@@ -1,11 +1,11 @@
 -- The turns that plain words ask for.
 use Rattle.std.proofs.Common.{◌≡◌, ℕ, ◌≤◌, ◌&&◌, ◌||◌, Bool, true, false, not, List, [], ◌∷◌, length, drop, take, refl, sym, ap, ◌∙◌, arith, true≢false, codes, nat_le, Option, Some, None, subst}
-use Rattle.std.specs.Prelude.{if◌then◌else◌, find, is_some, option_and_then}
+use Rattle.std.specs.Prelude.{if◌then◌else◌, option_and_then}
 use Rattle.std.specs.Str.{bytes_eq}
 use Rattle.std.proofs.lemmas.Bool.{leb-true}
 use Rattle.std.proofs.lemmas.Slice.Eq.{bytes_eq-Decides}
 use Rattle.command_words.specs.Commands.{Command, Solve, Check, Upgrade}
-use Rattle.command_words.specs.Words.{Form, are_names, are_options, are_turns, command_of, command_with, forms, given, is_followed, is_given, is_number, is_option, number_of, seed_word, solve, check, upgrade, turns_word}
+use Rattle.command_words.specs.Words.{Form, are_names, are_options, are_turns, command_of, command_with, given, is_followed, is_given, is_number, is_option, number_of, seed_word, solve, check, upgrade, turns_word}
 use Rattle.command_words.proofs.Numbers.{both}
 
 abbrev IsBudget : ℕ → Type 0

@@ -1,5 +1,5 @@
 -- A support that gains price sets leaves each node sound.
-use Rattle.std.proofs.Common.{◌≡◌, ℕ, zero, suc, ◌<◌, ◌≤◌, ◌↔◌, List, ◌++◌, length, refl, sym, subst, arith, pos, ◌*ℤ◌, ◌≤ℤ◌, length-append}
+use Rattle.std.proofs.Common.{◌≡◌, ℕ, zero, suc, ◌≤◌, ◌↔◌, List, ◌++◌, length, refl, sym, subst, arith, pos, ◌*ℤ◌, ◌≤ℤ◌, length-append}
 use Rattle.std.proofs.lemmas.List.{get_or_append_left}
 use Rattle.decision_chains.specs.declared.decision.Decision.{Decision}
 use Rattle.branch_rules.specs.declared.node.Node.{Node}
