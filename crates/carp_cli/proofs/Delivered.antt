@@ -1,17 +1,16 @@
 -- What is left of an answer that was given whole or in part.
-use Rattle.std.proofs.Common.{◌≡◌, ◌≢◌, ℕ, ◌+◌, ◌++◌, List, [], ◌∷◌, refl, sym, ◌∙◌, subst, inl, inr, IsTrue, Bool, Option, None, Some}
+use Rattle.std.proofs.Common.{◌≡◌, ◌≢◌, ℕ, ◌++◌, List, [], ◌∷◌, refl, sym, ◌∙◌, subst, inl, inr, IsTrue, Bool, Option, None, Some}
 use Rattle.std.proofs.Math.Path.{fun_ext}
 use Rattle.std.specs.List.{AllByRecursion}
 use Rattle.std.specs.Prelude.{◌⊎◌}
-use Rattle.carp_outside.specs.Causes.{Rose, RoseBy}
-use Rattle.carp_outside.specs.Told.{HoldsExactly, HoldsFront, SameContents, WroteFront}
-use Rattle.command_words.specs.Commands.{Command, Solve, Check, Upgrade, kept_by}
+use Rattle.carp_outside.specs.Causes.{Rose}
+use Rattle.carp_outside.specs.Told.{SameContents, WroteFront}
+use Rattle.command_words.specs.Commands.{Command, Solve, Check, Upgrade}
 use Rattle.carp_cli.specs.Outside.{Outside, Kept, Work, found, AreKept, AreKeptInPart}
-use Rattle.carp_cli.specs.Answers.{IsDoneStatus}
 use Rattle.carp_cli.specs.Runs.{IsHelped, Leaves}
 use Rattle.carp_cli.specs.Steps.{IsPrepared}
 use Rattle.command_files.specs.declared.status.Status.{Status}
-use Rattle.command_files.specs.declared.status.Status.TheVariants.{BadUsage, ReadFault, WriteFault, Memory, TooLong}
+use Rattle.command_files.specs.declared.status.Status.TheVariants.{WriteFault, Memory}
 
 kept_elsewhere : (kept : List Kept) (before now : List ℕ → Option (List ℕ)) → AreKept kept before now → (other : List ℕ) → AllByRecursion (λ k. other ≢ k.name) kept → now other ≡ before other
 kept_elsewhere [] before now same other apart = same other

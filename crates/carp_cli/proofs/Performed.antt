@@ -1,7 +1,7 @@
 -- What becomes of a command, from what becomes of its files.
 use Rattle.std.proofs.Common.{◌≡◌, ◌≢◌, ℕ, ◌+◌, ◌-◌, ◌*◌, ◌/◌, ◌^◌, ◌≤◌, List, [], ◌∷◌, map, refl, sym, ap, ◌∙◌, subst, inl, inr, arith, IsTrue, Bool, Option, None, Some, All, codes}
 use Rattle.std.specs.List.{AllByRecursion}
-use Rattle.std.specs.Prelude.{◌⊎◌, Result, Ok, Err, IsOk, IsErr, IfOk, OnOk, IsErrOf, IsSomeAnd}
+use Rattle.std.specs.Prelude.{◌⊎◌, Result, Ok, Err, IsOk, IfOk, OnOk, IsErrOf, IsSomeAnd}
 use Rattle.carp_base.specs.Problem.{Problem, IsValid}
 use Rattle.carp_base.specs.declared.fail.Fail.{Fail}
 use Rattle.carp_base.specs.declared.fail.Fail.TheVariants.{Refused, Memory as NoMemory}
@@ -20,8 +20,8 @@ use Rattle.carp_engine.specs.Solutions.{IsSound}
 use Rattle.plan_print.specs.Report.{report_text}
 use Rattle.carp_cli.specs.Checking.{answer_text, IsRenewed}
 use Rattle.carp_cli.specs.Solving.{IsEnding, IsSolvedBy}
-use Rattle.command_words.specs.Commands.{Command, Solve, Check, Upgrade, Source, instance_at, certificate_at, reads, keeps, kept_by}
-use Rattle.command_files.specs.Files.{RoseAtSome, Holds, IsInstance, IsBadInstance, IsGoodText, IsBadCertificate, IsBadFile}
+use Rattle.command_words.specs.Commands.{Command, Solve, Check, Upgrade, Source, instance_at, certificate_at, reads, keeps}
+use Rattle.command_files.specs.Files.{Holds, IsInstance, IsBadInstance, IsGoodText, IsBadCertificate, IsBadFile}
 use Rattle.carp_cli.specs.Outside.{Finding, Kept, Work}
 use Rattle.carp_cli.specs.Answers.{IsBadPair, IsGoodPair, IsDone, IsDoneStatus, IsRefused, CanBeDone, refusal_work}
 use Rattle.carp_cli.specs.Refusals.{HasReport}
@@ -30,7 +30,7 @@ use Rattle.command_files.specs.Reads.{IsTried, IsFileRead, IsAcceptedText, IsGoo
 use Rattle.carp_cli.specs.Steps.{IsPerformed, IsPrepared, IsSettled, whole_of, work_in}
 use Rattle.carp_cli.specs.declared.delivering.Delivery.{Delivery}
 use Rattle.command_files.specs.declared.status.Status.{Status}
-use Rattle.command_files.specs.declared.status.Status.TheVariants.{Proven, Gap, Accepted, Done, BadUsage, ReadFault, WriteFault, Memory, TooLong}
+use Rattle.command_files.specs.declared.status.Status.TheVariants.{Proven, Gap, Accepted, Done, BadUsage, ReadFault}
 use Rattle.carp_cli.proofs.Results.{again, failed, made, of_both, of_ok, of_some, same_refusal}
 
 -- counts that rose later rose

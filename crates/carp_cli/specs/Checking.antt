@@ -8,7 +8,7 @@ use Rattle.cert_format.specs.Good.{IsGood, IsProof, with_counts}
 use Rattle.number_texts.specs.Lines.{number_line}
 use Rattle.command_words.specs.Commands.{instance_at, certificate_at}
 use Rattle.command_files.specs.Files.{Holds}
-use Rattle.carp_cli.specs.Outside.{Kept, Work}
+use Rattle.carp_cli.specs.Outside.{Work}
 
 -- a word, and the cost and the bound that are stated
 unfoldable pub answer_text : List ℕ → (cost bound : ℕ) → List ℕ

@@ -1,5 +1,5 @@
 -- Small data for the examples beside the tests.
-use Rattle.std.specs.Prelude.{ℕ, [], ◌∷◌, None, List, Option, codes}
+use Rattle.std.specs.Prelude.{ℕ, [], None, List, codes}
 use Rattle.carp_base.specs.Problem.{Problem}
 use Rattle.cert_lines.specs.Certificates.{Certificate}
 use Rattle.command_words.specs.Commands.{Command, Solve, Check}

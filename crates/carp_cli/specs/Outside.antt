@@ -1,5 +1,5 @@
 -- What the outside of a run holds and counts at one moment, and what of it a command finds.
-use Rattle.std.specs.Prelude.{◌≡◌, ◌≢◌, ℕ, List, [], ◌∷◌, ◌++◌, Option, ◌⊎◌}
+use Rattle.std.specs.Prelude.{ℕ, List, [], ◌∷◌, Option, ◌⊎◌}
 use Rattle.carp_outside.specs.Told.{HoldsExactly, HoldsFront, SameContents}
 
 -- what each name holds and what was written, as they are told, how many looks at each name, keeps and puts failed, how many bytes were

@@ -1,5 +1,5 @@
 -- What a run leaves, by its answer: each clause is said once for all commands.
-use Rattle.std.specs.Prelude.{◌≡◌, ◌≢◌, ℕ, ◌+◌, ◌++◌, List, [], ◌∷◌, Bool, IsTrue, Option, None, Some, ◌⊎◌}
+use Rattle.std.specs.Prelude.{◌≡◌, ◌≢◌, ℕ, ◌+◌, ◌++◌, List, Bool, IsTrue, Option, None, Some, ◌⊎◌}
 use Rattle.std.specs.List.{AllByRecursion}
 use Rattle.carp_outside.specs.Causes.{Rose, RoseBy}
 use Rattle.carp_outside.specs.Told.{SameContents, WroteFront}

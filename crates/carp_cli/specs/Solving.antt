@@ -9,7 +9,7 @@ use Rattle.carp_engine.specs.Helpers.{IsAtMost}
 use Rattle.carp_engine.specs.Solutions.{IsSound}
 use Rattle.command_words.specs.Commands.{instance_at}
 use Rattle.command_files.specs.Files.{Holds}
-use Rattle.carp_cli.specs.Outside.{Finding, Kept, Work}
+use Rattle.carp_cli.specs.Outside.{Finding, Work}
 use Rattle.command_files.specs.declared.status.Status.{Status}
 use Rattle.command_files.specs.declared.status.Status.TheVariants.{Proven, Gap}
 

@@ -1,23 +1,11 @@
 -- What reading and building leave, before anything is kept or written. No public contract speaks of this.
-use Rattle.std.specs.Prelude.{◌≡◌, ◌≢◌, ℕ, ◌+◌, ◌≤◌, List, [], ◌∷◌, map, Bool, IsTrue, Option, Result, Ok, Err, None, Some, IsOk, IsErr, IfOk, IsErrOf, ◌⊎◌}
+use Rattle.std.specs.Prelude.{◌≡◌, ◌≢◌, ℕ, ◌+◌, ◌≤◌, List, map, Bool, IsTrue, Option, Result, Ok, Err, None, Some, IsErr, IfOk}
 use Rattle.std.specs.List.{AllByRecursion}
-use Rattle.std.specs.declared.alloc.Global.{Global}
-use Rattle.std.specs.declared.vec.Vec.{Vec}
-use Rattle.carp_base.specs.Problem.{Problem}
 use Rattle.carp_base.specs.declared.fail.Fail.{Fail}
 use Rattle.carp_base.specs.declared.fail.Memory.{Memory as Want}
 use Rattle.carp_base.specs.declared.fail.Fail.TheVariants.{Refused, Memory as NoMemory}
-use Rattle.carp_outside.specs.Causes.{Rose, RoseBy}
-use Rattle.cert_lines.specs.Certificates.{Certificate}
-use Rattle.cert_lines.specs.Spelling.{IsSpellable}
-use Rattle.cert_lines.specs.Texts as certificates
-use Rattle.cert_format.specs.Certs.{certificate_in}
-use Rattle.cert_format.specs.Good.{IsGood}
-use Rattle.cert_format.specs.declared.cert.Cert.{Cert}
-use Rattle.cert_checker.specs.declared.reason.Answer.TheVariants as answers
-use Rattle.cert_checker.specs.declared.reason.Answer.{Answer}
-use Rattle.cert_checker.specs.declared.streaming.Checked.{Checked}
-use Rattle.command_words.specs.Commands.{Command, Solve, Check, Upgrade, Source, reads, keeps, sources_of, kept_by}
+use Rattle.carp_outside.specs.Causes.{RoseBy}
+use Rattle.command_words.specs.Commands.{Command, Solve, Check, Upgrade, reads, keeps, sources_of, kept_by}
 use Rattle.command_files.specs.Files.{RoseAtSome, HasLimit}
 use Rattle.command_files.specs.Reads.{IsTried}
 use Rattle.carp_cli.specs.Outside.{Finding, Kept, Work}
@@ -26,7 +14,7 @@ use Rattle.carp_cli.specs.Refusals.{HasReport}
 use Rattle.carp_cli.specs.declared.delivering.Kept as files
 use Rattle.carp_cli.specs.declared.delivering.Delivery.{Delivery}
 use Rattle.command_files.specs.declared.status.Status.{Status}
-use Rattle.command_files.specs.declared.status.Status.TheVariants.{BadUsage, BadInstance, BadCertificate, Rejected, ReadFault, WriteFault, Memory, TooLong}
+use Rattle.command_files.specs.declared.status.Status.TheVariants.{BadUsage, ReadFault, WriteFault, Memory, TooLong}
 
 -- the work that the code holds
 abbrev pub kept_in : files.Kept → Kept

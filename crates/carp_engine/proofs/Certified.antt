@@ -1,22 +1,20 @@
 -- The certificate of what a search found: it can be spelled, and it is good.
-use Rattle.std.proofs.Common.{◌≡◌, ℕ, zero, suc, ◌+◌, ◌*◌, ◌^◌, ◌≤◌, ◌<◌, ℤ, pos, negsuc, ◌*ℤ◌, ◌≤ℤ◌, List, [], ◌∷◌, length, get_or, refl, sym, subst, arith, All, sum_by, inl, inr}
-use Rattle.std.specs.List.{AllByRecursion}
+use Rattle.std.proofs.Common.{◌≡◌, ℕ, zero, suc, ◌+◌, ◌*◌, ◌^◌, ◌≤◌, ◌<◌, ℤ, pos, negsuc, ◌*ℤ◌, ◌≤ℤ◌, List, [], ◌∷◌, length, get_or, refl, sym, subst, arith, All, inl, inr}
 use Rattle.std.proofs.Math.Nat.{mul-le-mul_left}
 use Rattle.std.proofs.lemmas.Bool.{cases_lt}
 use Rattle.std.proofs.lemmas.Int.{ints}
 use Rattle.std.proofs.lemmas.List.Concat.{length-flat_map}
 use Rattle.std.proofs.lemmas.List.Elements.{All-weaker, All-tail, All-head}
-use Rattle.carp_base.specs.Problem.{Problem, IsValid, required_cost, total_demand}
-use Rattle.plan_model.specs.declared.step.Step.{Step}
+use Rattle.carp_base.specs.Problem.{Problem, required_cost, total_demand}
 use Rattle.plan_model.specs.Plans.{plan_cost}
 use Rattle.plan_model.specs.Laws.{IsLowerBound}
 use Rattle.cut_pool.specs.Pools.{IsShoreNumber}
 use Rattle.cut_pool.specs.Shores.{Belongs, IsShore}
-use Rattle.branch_rules.specs.Laws.{NoDepot, TreeBounds, LeanIsSmall}
+use Rattle.branch_rules.specs.Laws.{NoDepot, TreeBounds}
 use Rattle.branch_rules.specs.Limits.{IsNodeIn, IsPriceSet, IsShoreOf}
 use Rattle.branch_rules.specs.Prices.{Prices}
 use Rattle.branch_rules.specs.Refusals.{NoneTooHeavy}
-use Rattle.branch_rules.specs.Trees.{IsSoundSupport, set_at, no_prices}
+use Rattle.branch_rules.specs.Trees.{set_at, no_prices}
 use Rattle.branch_rules.specs.declared.node.Node.{Node}
 use Rattle.branch_rules.specs.declared.node.Node.TheVariants as nodes
 use Rattle.branch_rules.specs.declared.weight.Weight.{Weight}

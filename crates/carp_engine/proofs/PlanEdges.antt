@@ -1,5 +1,5 @@
 -- The steps of a lawful plan are on edges of the instance.
-use Rattle.std.proofs.Common.{◌≡◌, ℕ, ◌≤◌, List, [], ◌∷◌, arith, All}
+use Rattle.std.proofs.Common.{ℕ, List, [], ◌∷◌, arith, All}
 use Rattle.std.specs.List.{AllByRecursion}
 use Rattle.std.proofs.lemmas.List.Elements.{All-nil, All-cons}
 use Rattle.carp_base.specs.Problem.{Problem, IsValid}

@@ -1,10 +1,10 @@
 -- What is found is sound.
-use Rattle.std.proofs.Common.{◌≡◌, ℕ, ◌+◌, ◌-◌, ◌*◌, ◌/◌, ◌^◌, ◌≤◌, ◌<◌, ◌⊎◌, List, refl, sym, subst, arith, inl, inr}
+use Rattle.std.proofs.Common.{◌≡◌, ℕ, ◌+◌, ◌-◌, ◌*◌, ◌/◌, ◌^◌, ◌≤◌, ◌⊎◌, List, refl, sym, subst, arith, inl, inr}
 use Rattle.carp_base.specs.Problem.{Problem, required_cost}
 use Rattle.plan_model.specs.declared.step.Step.{Step}
 use Rattle.plan_model.specs.Plans.{plan_cost}
 use Rattle.branch_rules.specs.Laws.{LeanIsSmall}
-use Rattle.branch_tree.specs.Founds.{Findings, IsFound, support_found}
+use Rattle.branch_tree.specs.Founds.{support_found}
 use Rattle.cert_lines.specs.Certificates.{Certificate}
 use Rattle.carp_engine.specs.Certifying.{IsSearched, certificate_by}
 use Rattle.carp_engine.specs.Solutions.{IsAtMostSingles, IsSound}

@@ -1,4 +1,3 @@
-use Rattle.std.proofs.Common.{sym}
 use Rattle.std.proofs.Math.Path.{fun_ext}
 use Rattle.command_words.specs.Commands.{Check}
 use Rattle.carp_cli.proofs.Performed.{by_contents, check_performed, first_stops, second_decides, stopped, tried_again}

@@ -1,4 +1,4 @@
-use Rattle.std.proofs.Common.{◌≡◌, ◌≤◌, arith, List, ◌⊎◌, ◌^◌, ◌*◌, ◌-◌, ◌/◌, ◌+◌}
+use Rattle.std.proofs.Common.{arith}
 use Rattle.std.proofs.lemmas.Result.{IfOk-weaker}
 use Rattle.plan_model.specs.Plans.{plan_cost}
 use Rattle.carp_engine.specs.Solutions.{IsAtMostSingles}
