@@ -40,7 +40,7 @@ impl Search {
     ///
     /// The plan is lawful and has at most a tour for each required edge and 2,000,000 steps. The tree is one leaf with the best set of
     /// the floors (`dual_master::floors`), and the pool is as `floors` leaves it. Memory for all nodes that the budget can make is taken
-    /// here, 32 bytes for each of up to `2 * turns + 1`, so that no step lacks it.
+    /// here, 24 bytes for each of up to `2 * turns + 1`, so that no step lacks it.
     ///
     /// The one error is want of memory. It takes the time of least paths between all pairs of vertices and of the floors.
     pub fn begin(alloc: Global, inst: &Instance, turns: u64, best: Plan) -> Result<Search, Memory>
