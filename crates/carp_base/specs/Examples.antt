@@ -23,6 +23,16 @@ two_streets = record {
   edges = record { u = 1; v = 2; cost = 5; demand = 1; service = 5 } ∷ record { u = 2; v = 3; cost = 5; demand = 0; service = 0 } ∷ [];
 }
 
+-- the same two streets, both to be served by vehicles that carry 1
+abbrev pub two_tasks : Problem
+two_tasks = record {
+  vertices = 3;
+  depot = 1;
+  capacity = 1;
+  required = 2;
+  edges = record { u = 1; v = 2; cost = 5; demand = 1; service = 5 } ∷ record { u = 2; v = 3; cost = 5; demand = 1; service = 5 } ∷ [];
+}
+
 abbrev pub first_forward : Task
 first_forward = record { edge = 1; forward = true }
 

@@ -5,5 +5,6 @@ pub mod Drafts
 pub mod Search
 pub mod Refusals
 pub mod Allowed
+pub mod Packings
 pub mod Laws
 pub mod Examples

@@ -4,7 +4,8 @@ ghost use Rattle.carp_base.specs.declared.fault.InstanceFault.TheVariants.{Capac
 ghost use Rattle.carp_base.specs.Problem.{IsEdgeNumber, IsIdle, IsRequired, TasksLead, edge_at, no_edge};
 ghost use Rattle.carp_base.specs.Faults.{FaultNoLater, IsFirstFault};
 ghost use Rattle.carp_base.specs.Allowed.{IsOf, IsRelation, IsSamePair, TakesOut, allows};
-ghost use Rattle.carp_base.specs.Examples.{busy_edge, first_forward, nothing, one_order, pair_in, pair_out, second_backward, second_forward, two_streets};
+ghost use Rattle.carp_base.specs.Packings.{IsGroup, IsPacking, group_load, group_of};
+ghost use Rattle.carp_base.specs.Examples.{busy_edge, first_forward, nothing, one_order, pair_in, pair_out, second_backward, second_forward, two_streets, two_tasks};
 
 fn an_idle_edge()
     ensures idle { IsIdle no_edge }
@@ -66,4 +67,27 @@ fn a_pair_taken_out()
     ensures out { TakesOut pair_in pair_out 1 2 }
     ensures stays { ¬ (TakesOut pair_in pair_in 1 2) }
     ensures one_order { ¬ (TakesOut pair_in one_order 1 2) }
+{}
+
+fn a_group_of_an_edge()
+    ensures first { group_of (5 ∷ 7 ∷ []) 1 ≡ 5 }
+    ensures last { group_of (5 ∷ 7 ∷ []) 2 ≡ 7 }
+    ensures zero { group_of (5 ∷ 7 ∷ []) 0 ≡ 0 }
+    ensures group { IsGroup 2 2 }
+    ensures no_group { ¬ (IsGroup 2 0) }
+    ensures past { ¬ (IsGroup 2 3) }
+{}
+
+fn a_load_of_a_group()
+    ensures one { group_load two_tasks (1 ∷ 2 ∷ []) 2 ≡ 1 }
+    ensures both { group_load two_tasks (1 ∷ 1 ∷ []) 1 ≡ 2 }
+    ensures other_edges_do_not_count { group_load two_streets (1 ∷ []) 1 ≡ 1 }
+{}
+
+fn a_packing()
+    ensures packing { IsPacking two_tasks (2 ∷ 1 ∷ []) 2 }
+    ensures overload { ¬ (IsPacking two_tasks (1 ∷ 1 ∷ []) 1) }
+    ensures empty { ¬ (IsPacking two_tasks (1 ∷ 2 ∷ []) 3) }
+    ensures out_of_range { ¬ (IsPacking two_tasks (1 ∷ 2 ∷ []) 1) }
+    ensures one_missing { ¬ (IsPacking two_tasks (1 ∷ []) 1) }
 {}
