@@ -5,8 +5,9 @@ use Rattle.std.specs.List.{AllByRecursion}
 use Rattle.std.specs.Prelude.{◌⊎◌}
 use Rattle.carp_outside.specs.Causes.{Rose}
 use Rattle.carp_outside.specs.Told.{SameContents, WroteFront}
-use Rattle.command_words.specs.Commands.{Command, Solve, Check, Upgrade}
-use Rattle.carp_cli.specs.Outside.{Outside, Kept, Work, found, AreKept, AreKeptInPart}
+use Rattle.command_words.specs.Commands.{Command, Solve, Check, Sheet, Make, Drill, Upgrade}
+use Rattle.command_works.specs.Works.{Kept, Work}
+use Rattle.carp_cli.specs.Outside.{Outside, found, AreKept, AreKeptInPart}
 use Rattle.carp_cli.specs.Runs.{IsHelped, Leaves}
 use Rattle.carp_cli.specs.Steps.{IsPrepared}
 use Rattle.command_files.specs.declared.status.Status.{Status}
@@ -125,6 +126,9 @@ cut_is_not_helped None none = none
 cut_is_not_helped (Some (Solve file cert turns seed)) (is, inl e) = cc
 cut_is_not_helped (Some (Solve file cert turns seed)) (is, inr e) = cc
 cut_is_not_helped (Some (Check file cert)) (is, e) = cc
+cut_is_not_helped (Some (Sheet file cert)) (is, e) = cc
+cut_is_not_helped (Some (Make file seed)) (is, e) = cc
+cut_is_not_helped (Some (Drill turns seed)) (is, e) = cc
 cut_is_not_helped (Some (Upgrade file cert renewed)) (is, e) = cc
 
 pub memory_is_not_helped : (command : Option Command) → IsHelped command Memory → ⊥
@@ -132,4 +136,7 @@ memory_is_not_helped None none = none
 memory_is_not_helped (Some (Solve file cert turns seed)) (is, inl e) = cc
 memory_is_not_helped (Some (Solve file cert turns seed)) (is, inr e) = cc
 memory_is_not_helped (Some (Check file cert)) (is, e) = cc
+memory_is_not_helped (Some (Sheet file cert)) (is, e) = cc
+memory_is_not_helped (Some (Make file seed)) (is, e) = cc
+memory_is_not_helped (Some (Drill turns seed)) (is, e) = cc
 memory_is_not_helped (Some (Upgrade file cert renewed)) (is, e) = cc

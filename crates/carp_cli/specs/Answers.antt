@@ -1,54 +1,40 @@
 -- What a command answers, from what it finds.
-use Rattle.std.specs.Prelude.{◌≡◌, ℕ, List, [], Option, None, Some, ◌⊎◌}
-use Rattle.carp_base.specs.Problem.{Problem}
-use Rattle.dat_text.specs.Text.{IsTextOf}
-use Rattle.command_words.specs.Commands.{Command, Solve, Check, Upgrade, instance_at, certificate_at, reads}
-use Rattle.command_files.specs.Files.{RoseAtSome, Holds, IsInstance, IsBadInstance, IsGoodText, IsBadCertificate, IsBadFile}
-use Rattle.carp_cli.specs.Outside.{Finding, Work}
+use Rattle.std.specs.Prelude.{◌≡◌, ℕ, List, [], ◌∷◌, Option, None, Some, ◌⊎◌}
+use Rattle.dat_text.specs.DatText.{dat_of}
+use Rattle.town_maker.specs.Towns.{town_of}
+use Rattle.command_words.specs.Commands.{Command, Solve, Check, Sheet, Make, Drill, Upgrade, reads}
+use Rattle.command_files.specs.Files.{RoseAtSome}
+use Rattle.command_jobs.specs.Inputs.{IsRefused}
+use Rattle.command_works.specs.Drills.{IsDrilled}
+use Rattle.command_works.specs.Texts.{made_text}
+use Rattle.command_works.specs.Works.{Work}
+use Rattle.carp_cli.specs.Outside.{Finding}
 use Rattle.carp_cli.specs.Refusals.{refusal_text}
 use Rattle.carp_cli.specs.Solving.{IsSolved}
-use Rattle.carp_cli.specs.Checking.{IsChecked, IsUpgraded}
+use Rattle.carp_cli.specs.Checking.{IsChecked, IsSpelledOut, IsUpgraded}
 use Rattle.command_files.specs.declared.status.Status.{Status}
 use Rattle.command_files.specs.declared.status.Status.TheVariants.{Proven, Gap, Accepted, Done, BadUsage, ReadFault}
-
--- the first file is the text of an instance, and the second is refused so for it
-pub record IsBadSecond (file cert : List ℕ) (contents : List ℕ → Option (List ℕ)) (status : Status) : Type 0 where
-  pub instance : Problem
-  pub read : Holds (instance_at file) contents (λ bytes. IsTextOf bytes instance)
-  pub bad : IsBadFile (IsBadCertificate instance) (certificate_at cert) contents status
-
--- the instance file is refused so, or, where it is the text of an instance, the certificate
-abbrev pub IsBadPair : (file cert : List ℕ) → (List ℕ → Option (List ℕ)) → Status → Type 0
-IsBadPair file cert contents status = IsBadFile IsBadInstance (instance_at file) contents status ⊎ IsBadSecond file cert contents status
-
--- the first file is the text of an instance, and the second of a certificate that is good for it
-pub record IsGoodPair (file cert : List ℕ) (contents : List ℕ → Option (List ℕ)) : Type 0 where
-  pub instance : Problem
-  pub read : Holds (instance_at file) contents (λ bytes. IsTextOf bytes instance)
-  pub good : Holds (certificate_at cert) contents (IsGoodText instance)
-
--- what names hold has a command refuse so
-abbrev pub IsRefused : Command → (List ℕ → Option (List ℕ)) → Status → Type 0
-IsRefused (Solve file cert turns seed) contents status = IsBadFile IsBadInstance (instance_at file) contents status
-IsRefused (Check file cert) contents status = IsBadPair file cert contents status
-IsRefused (Upgrade file cert renewed) contents status = IsBadPair file cert contents status
-
--- what names hold lets a command be done
-abbrev pub CanBeDone : Command → (List ℕ → Option (List ℕ)) → Type 0
-CanBeDone (Solve file cert turns seed) contents = Holds (instance_at file) contents IsInstance
-CanBeDone (Check file cert) contents = IsGoodPair file cert contents
-CanBeDone (Upgrade file cert renewed) contents = IsGoodPair file cert contents
 
 -- the answers of a command that is done
 abbrev pub IsDoneStatus : Command → Status → Type 0
 IsDoneStatus (Solve file cert turns seed) status = (status ≡ Proven) ⊎ (status ≡ Gap)
 IsDoneStatus (Check file cert) status = status ≡ Accepted
+IsDoneStatus (Sheet file cert) status = status ≡ Done
+IsDoneStatus (Make file seed) status = status ≡ Done
+IsDoneStatus (Drill turns seed) status = status ≡ Done
 IsDoneStatus (Upgrade file cert renewed) status = status ≡ Done
+
+-- the text of the town of a number is to be kept, and its numbers are to be written
+abbrev pub IsTownKept : (file : List ℕ) (seed : ℕ) → Work → Type 0
+IsTownKept file seed work = work ≡ record { kept = record { name = file; bytes = dat_of (town_of seed) } ∷ []; text = made_text (town_of seed) }
 
 -- a command is done with this answer and this work
 abbrev pub IsDone : Command → Finding → Status → Work → Type 0
 IsDone (Solve file cert turns seed) found status work = IsSolved file cert turns found status work
 IsDone (Check file cert) found status work = IsChecked file cert found.contents work
+IsDone (Sheet file cert) found status work = IsSpelledOut file cert found.contents work
+IsDone (Make file seed) found status work = IsTownKept file seed work
+IsDone (Drill turns seed) found status work = IsDrilled seed turns found.offered work
 IsDone (Upgrade file cert renewed) found status work = IsUpgraded file cert renewed found.contents work
 
 -- a refusal keeps nothing, and writes its text

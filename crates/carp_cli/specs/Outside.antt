@@ -1,6 +1,7 @@
 -- What the outside of a run holds and counts at one moment, and what of it a command finds.
 use Rattle.std.specs.Prelude.{ℕ, List, [], ◌∷◌, Option, ◌⊎◌}
 use Rattle.carp_outside.specs.Told.{HoldsExactly, HoldsFront, SameContents}
+use Rattle.command_works.specs.Works.{Kept}
 
 -- what each name holds and what was written, as they are told, how many looks at each name, keeps and puts failed, how many bytes were
 -- given, and the least cost of the lawful plans that each helper offered
@@ -27,16 +28,6 @@ found before now = record {
   looks_now = now.failed_looks;
   offered = now.offered;
 }
-
--- a name, and the bytes that are kept there
-pub record Kept : Type 0 where
-  pub name : List ℕ
-  pub bytes : List ℕ
-
--- what an answer keeps, in order, and writes
-pub record Work : Type 0 where
-  pub kept : List Kept
-  pub text : List ℕ
 
 -- these names hold these bytes, kept one after another, and all others what they held
 abbrev pub AreKept : List Kept → (List ℕ → Option (List ℕ)) → (List ℕ → Option (List ℕ)) → Type 0

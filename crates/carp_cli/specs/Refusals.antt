@@ -5,7 +5,7 @@ use Rattle.command_files.specs.declared.status.Status.{Status}
 use Rattle.command_files.specs.declared.status.Status.TheVariants.{Proven, Gap, Accepted, Done, Rejected, BadUsage, BadInstance, BadCertificate, ReadFault, WriteFault, Memory, TooLong}
 
 unfoldable pub usage_text : List ℕ
-usage_text = codes "usage: carp solve FILE CERT [--turns N] [--seed N]\n       carp check FILE CERT\n       carp upgrade FILE CERT NEWCERT\n"
+usage_text = codes "usage: carp solve FILE CERT [--turns N] [--seed N]\n       carp check FILE CERT\n       carp sheet FILE CERT\n       carp make FILE [--seed N]\n       carp drill [--turns N] [--seed N]\n       carp upgrade FILE CERT NEWCERT\n"
 
 unfoldable pub limit_line : ℕ → List ℕ
 limit_line limit = codes "too long: more than " ++ decimal limit ++ codes " bytes\n"

@@ -5,8 +5,10 @@ use Rattle.carp_outside.specs.Causes.{Rose, RoseBy}
 use Rattle.carp_outside.specs.Told.{SameContents, WroteFront}
 use Rattle.command_words.specs.Commands.{Command, asks_helpers, sources_of, kept_by}
 use Rattle.command_files.specs.Files.{RoseAtSome, HasLimit}
-use Rattle.carp_cli.specs.Outside.{Outside, Work, found, AreKept, AreKeptInPart}
-use Rattle.carp_cli.specs.Answers.{IsRefused, CanBeDone, IsDoneStatus, IsRightOf, refusal_work}
+use Rattle.command_jobs.specs.Inputs.{IsRefused, CanBeDone}
+use Rattle.command_works.specs.Works.{Work}
+use Rattle.carp_cli.specs.Outside.{Outside, found, AreKept, AreKeptInPart}
+use Rattle.carp_cli.specs.Answers.{IsDoneStatus, IsRightOf, refusal_work}
 use Rattle.carp_cli.specs.Refusals.{HasReport}
 use Rattle.command_files.specs.declared.status.Status.{Status}
 use Rattle.command_files.specs.declared.status.Status.TheVariants.{BadUsage, ReadFault, WriteFault, Memory, TooLong}

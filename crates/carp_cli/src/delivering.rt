@@ -3,25 +3,11 @@ ghost use Rattle.std.specs.Prelude.{◌≡◌, ◌≢◌, ℕ, ◌++◌, ◌≤�
 ghost use Rattle.carp_outside.specs.Causes.{Rose, HasCause};
 ghost use Rattle.carp_outside.specs.Told.{WroteFront};
 ghost use Rattle.carp_cli.specs.Outside.{AreKept, AreKeptInPart};
-ghost use Rattle.carp_cli.specs.Steps.{kept_in, work_in};
+ghost use Rattle.command_works.specs.Works.{kept_in, work_in};
 
 use carp_outside::{Shelf, ShelfFault, Sink, put_all};
 use command_files::Status;
-
-/// A name, and the bytes that are to be kept there.
-#[derive(Drop)]
-pub(crate) struct Kept<'a> {
-    pub(crate) name: &'a str,
-    pub(crate) bytes: Vec<u8>,
-}
-
-/// What an answer keeps, in order, and writes.
-#[derive(Drop)]
-pub(crate) struct Delivery<'a> {
-    pub(crate) kept: Vec<Kept<'a>>,
-    pub(crate) text: Vec<u8>,
-    pub(crate) status: Status,
-}
+use command_works::{Delivery, Kept};
 
 /// Keeps what is to be kept, and then writes the text: the answer, or the first failure.
 pub(crate) fn deliver<H: Shelf, O: Sink>(

@@ -4,10 +4,8 @@
 //! keeps files there, writes texts to a [`carp_outside::Sink`] and answers a [`Status`]. [`DirShelf`] and [`StdSink`] make
 //! the files of the system and a writer, such as the standard output, into these.
 //!
-//! A command is read by `command_words`, and the files that it names by `command_files`. Inside, `performing` makes what it asks for, `refusals`
-//! spells the answers that have no report, and `delivering` keeps and writes what was made. So all that is kept or written goes through one
-//! function, and a command is a variant of [`command_words::Command`], its rows in the tables of that crate and in `specs/Answers.antt`, and a function of
-//! `performing`.
+//! A command is read by `command_words`, its files by `command_jobs`, and what it asks for is made by `command_works`. Here `refusals` spells the
+//! answers that have no report, and `delivering` keeps and writes what was made: all that is kept or written goes through one function.
 #![tactic(auto)]
 
 #[cfg(test)]
@@ -18,7 +16,6 @@ mod dir_shelf;
 mod examples;
 #[cfg(test)]
 mod file_tests;
-mod performing;
 mod refusals;
 mod running;
 mod std_sink;

@@ -6,16 +6,19 @@ ghost use Rattle.command_words.specs.Words.{command_of, texts_of};
 ghost use Rattle.carp_cli.specs.Outside.{Outside, Finding};
 ghost use Rattle.carp_cli.specs.Answers.{IsDoneStatus, refusal_work};
 ghost use Rattle.carp_cli.specs.Runs.{Leaves, IsHelped};
-ghost use Rattle.carp_cli.specs.Steps.{HasBudget, IsPrepared, IsSettled, work_in};
+ghost use Rattle.carp_cli.specs.Steps.{IsPrepared};
+ghost use Rattle.command_words.specs.Laws.{HasBudget};
+ghost use Rattle.command_works.specs.Works.{work_in};
 ghost use Rattle.command_words.specs.Forms.{command_in};
 
-use crate::delivering::{Delivery, deliver};
-use crate::performing::{perform_check, perform_solve, perform_upgrade};
+use crate::delivering::deliver;
 use crate::refusals::refusal;
 use carp_base::{Fail, Memory};
 use carp_outside::{Shelf, Sink};
 use command_files::Status;
+use command_jobs::gather;
 use command_words::{Command, budgets_are_in_range, read_words};
+use command_works::{Delivery, make};
 use plan_model::Proposer;
 use std::alloc::Global;
 
@@ -26,6 +29,10 @@ use std::alloc::Global;
 ///   [`carp_engine::solve`], and are 64 and 1 where they are not given. None of the helpers need be trusted.
 /// - `check FILE CERT` reads the instance of FILE and then the certificate of CERT, whose nodes it does not hold, and writes whether it
 ///   is good: `Accepted`, with its cost and its bound, or `Rejected`, with the first reason.
+/// - `sheet FILE CERT` does as `check`, and where the certificate is good writes the street sheet of its plan, and ends `Done`.
+/// - `make FILE [--seed N]` keeps the town of a number ([`town_maker::town`]) at FILE, and writes its numbers. The number is 1 where it is not given.
+/// - `drill [--turns N] [--seed N]` solves the town of a number as `solve` does, checks the certificate, keeps nothing, and writes a summary. The
+///   turns are 4 and the number is 1 where they are not given. It ends `Done`.
 /// - `upgrade FILE CERT NEWCERT` does as `check`, but holds the certificate, and where it is good keeps it at NEWCERT with the numbers of
 ///   the instance, and ends `Done`.
 ///
@@ -85,7 +92,7 @@ fn prepare<'a, H: Shelf, P: Proposer>(
     }
 }
 
-// What a command asks to be kept, written and answered.
+// What a command asks to be kept, written and answered: its files are read, and then it is done.
 fn perform<'a, H: Shelf, P: Proposer>(
     alloc: Global,
     command: Command<'a>,
@@ -103,34 +110,8 @@ fn perform<'a, H: Shelf, P: Proposer>(
     ensures asked { IfOk result (λ d. IsHelped (Some (command_in command.entry)) d.status → All (λ helper. 1 ≤ P.asked helper) helpers.new.items) }
     ensures fouls { IfOk result (λ d. IsHelped (Some (command_in command.entry)) d.status → All (λ helper. (P.tally helper).fouls ≤ 1) helpers.new.items) }
 {
-    match command {
-        Command::Solve {
-            file,
-            cert,
-            turns,
-            seed,
-        } => settle(
-            alloc,
-            perform_solve(alloc, file, cert, turns, seed, shelf, helpers),
-        ),
-        Command::Check { file, cert } => settle(alloc, perform_check(alloc, file, cert, shelf)),
-        Command::Upgrade {
-            file,
-            cert,
-            renewed,
-        } => settle(alloc, perform_upgrade(alloc, file, cert, renewed, shelf)),
-    }
-}
-
-// What was made, or the text by which it is refused.
-fn settle(
-    alloc: Global,
-    performed: Result<Delivery<'_>, Fail<Status>>,
-) -> Result<Delivery<'_>, Memory>
-    ensures { IsSettled performed.entry result }
-{
-    match performed {
-        Ok(delivery) => Ok(delivery),
+    match gather(alloc, command, shelf) {
+        Ok(job) => make(alloc, &job, helpers),
         Err(Fail::Memory) => Err(Memory),
         Err(Fail::Refused(status)) => refuse(alloc, status),
     }

@@ -103,12 +103,12 @@ file_checked {held} {source} {contents} {lb} {ln} {gb} {gn} {p} laws checked r i
       parsed bytes of = by checked.answer of.answer where
         by : (a : Answer) → IsAnswer p of.certificate a → IsParsed bytes (IsAcceptedText p) (IsBadCertificate p) (IsGoodText p) (accepted_of checked a)
         by answers.Accepted good =
-            accepted laws bytes of.certificate checked of.text good (record { certificate = of.certificate; text = of.text; good = good; cost = of.cost; bound = of.bound })
+            accepted laws bytes of.certificate checked of.text good (record { certificate = of.certificate; text = of.text; good = good; cost = of.cost; bound = of.bound; plan = of.plan })
         by (answers.Rejected reason) first = rejected laws bytes of.certificate reason of.text first
 
       some_of : (a : Answer) → IsAnswer p some.is.certificate a → IfOk (accepted_of checked a) (λ x. (bytes : List ℕ) × IsAcceptedText p bytes x)
       some_of answers.Accepted good =
-          (some.bytes, record { certificate = some.is.certificate; text = some.is.text; good = good; cost = some.is.cost; bound = some.is.bound })
+          (some.bytes, record { certificate = some.is.certificate; text = some.is.text; good = good; cost = some.is.cost; bound = some.is.bound; plan = some.is.plan })
       some_of (answers.Rejected reason) first = tt
 
       refusal : (a : Answer) (status : Status) → IsErrOf (accepted_of checked a) (Refused status) → IsOfBytes status

@@ -74,6 +74,7 @@ pub record IsAcceptedText (p : Problem) (bytes : List ℕ) (checked : Checked) :
   pub good : IsGood p certificate
   pub cost : checked.cost ≡ certificate.cost
   pub bound : checked.bound ≡ certificate.bound
+  pub plan : checked.plan ≡ certificate.plan
 
 -- what was checked, or why it is rejected
 abbrev pub accepted_of : Checked → Answer → Result Checked (Fail Status)

@@ -1,11 +1,13 @@
 -- The turns that plain words ask for.
 use Rattle.std.proofs.Common.{◌≡◌, ℕ, ◌≤◌, ◌&&◌, ◌||◌, Bool, true, false, not, List, [], ◌∷◌, length, drop, take, refl, sym, ap, ◌∙◌, arith, true≢false, codes, nat_le, Option, Some, None, subst}
-use Rattle.std.specs.Prelude.{if◌then◌else◌, option_and_then}
+use Rattle.std.specs.List.{AllByRecursion}
+use Rattle.std.specs.Prelude.{IfSome, find, if◌then◌else◌, option_and_then}
 use Rattle.std.specs.Str.{bytes_eq}
 use Rattle.std.proofs.lemmas.Bool.{leb-true}
 use Rattle.std.proofs.lemmas.Slice.Eq.{bytes_eq-Decides}
-use Rattle.command_words.specs.Commands.{Command, Solve, Check, Upgrade}
-use Rattle.command_words.specs.Words.{Form, are_names, are_options, are_turns, command_of, command_with, given, is_followed, is_given, is_number, is_option, number_of, seed_word, solve, check, upgrade, turns_word}
+use Rattle.command_words.specs.Commands.{Command}
+use Rattle.command_words.specs.Laws.{HasBudget}
+use Rattle.command_words.specs.Words.{Form, are_names, are_names_and_options, are_options, are_turns, check, command_of, command_with, drill, forms, given, is_followed, is_given, is_number, is_option, make, number_of, seed_word, sheet, solve, turns_word, upgrade}
 use Rattle.command_words.proofs.Numbers.{both}
 
 abbrev IsBudget : ℕ → Type 0
@@ -27,98 +29,99 @@ option_turns word number same is =
       by true are shown = refl
       by false are shown = shown
 
-given_in : (words : List (List ℕ)) → are_options true true words ≡ true → IsBudget (given turns_word 64 words)
-given_in [] are = (omega arith, omega arith)
-given_in (word ∷ []) are = absurd (true≢false (sym are))
-given_in (word ∷ number ∷ words) are =
+given_in : (default : ℕ) → IsBudget default → (words : List (List ℕ)) → are_options true true words ≡ true → IsBudget (given turns_word default words)
+given_in default fits [] are = fits
+given_in default fits (word ∷ []) are = absurd (true≢false (sym are))
+given_in default fits (word ∷ number ∷ words) are =
     let k = both (is_option true true word number && not (is_given word words)) (are_options true true words) are in
     let m = both (is_option true true word number) (not (is_given word words)) k.0 in
-    by (bytes_eq word turns_word) refl m.0 (given_in words k.1) where
-      by : (b : Bool) → bytes_eq word turns_word ≡ b → is_option true true word number ≡ true → IsBudget (given turns_word 64 words) → IsBudget (if b then number_of number else given turns_word 64 words)
+    by (bytes_eq word turns_word) refl m.0 (given_in default fits words k.1) where
+      by : (b : Bool) → bytes_eq word turns_word ≡ b → is_option true true word number ≡ true → IsBudget (given turns_word default words) → IsBudget (if b then number_of number else given turns_word default words)
       by true same is rest = turns_in number (option_turns word number same is)
       by false same is rest = rest
 
--- the turns of a command
-turns_of : Option Command → ℕ
-turns_of None = 0
-turns_of (Some (Solve file cert turns seed)) = turns
-turns_of (Some (Check file cert)) = 0
-turns_of (Some (Upgrade file cert renewed)) = 0
+-- the command of some names, if it is one, asks for turns in their range
+module _ (t s : ℕ) (fits : IsBudget t) where
+  solve_in : (names : List (List ℕ)) → IfSome (solve names t s) HasBudget
+  solve_in [] = tt
+  solve_in (a ∷ []) = tt
+  solve_in (a ∷ b ∷ []) = fits
+  solve_in (a ∷ b ∷ x ∷ xs) = tt
 
-is_solve : Option Command → Bool
-is_solve None = false
-is_solve (Some (Solve file cert turns seed)) = true
-is_solve (Some (Check file cert)) = false
-is_solve (Some (Upgrade file cert renewed)) = false
+  drill_in : (names : List (List ℕ)) → IfSome (drill names t s) HasBudget
+  drill_in [] = fits
+  drill_in (a ∷ names) = tt
 
-module _ (words : List (List ℕ)) (file cert : List ℕ) (turns seed : ℕ) where
-  abbrev asked : Option Command
-  asked = Some (Solve file cert turns seed)
+module _ (t s : ℕ) where
+  check_in : (names : List (List ℕ)) → IfSome (check names t s) HasBudget
+  check_in [] = tt
+  check_in (a ∷ []) = tt
+  check_in (a ∷ b ∷ []) = tt
+  check_in (a ∷ b ∷ x ∷ xs) = tt
 
-  no_solve : (o : Option Command) → is_solve o ≡ false → o ≡ asked → IsBudget turns
-  unfolding is_solve
-  no_solve o none is = absurd (true≢false (sym (ap is_solve is) ∙ none))
+  sheet_in : (names : List (List ℕ)) → IfSome (sheet names t s) HasBudget
+  sheet_in [] = tt
+  sheet_in (a ∷ []) = tt
+  sheet_in (a ∷ b ∷ []) = tt
+  sheet_in (a ∷ b ∷ x ∷ xs) = tt
 
-  by_names : (names : List (List ℕ)) (t s : ℕ) → IsBudget t → solve names t s ≡ asked → IsBudget turns
-  unfolding is_solve turns_of
-  by_names [] t s in_range is = no_solve None refl is
-  by_names (a ∷ []) t s in_range is = no_solve None refl is
-  by_names (a ∷ b ∷ []) t s in_range is = subst IsBudget (ap turns_of is) in_range
-  by_names (a ∷ b ∷ x ∷ xs) t s in_range is = no_solve None refl is
+  make_in : (names : List (List ℕ)) → IfSome (make names t s) HasBudget
+  make_in [] = tt
+  make_in (a ∷ []) = tt
+  make_in (a ∷ x ∷ xs) = tt
 
-  no_check : (names : List (List ℕ)) (t s : ℕ) → check names t s ≡ asked → IsBudget turns
-  unfolding is_solve
-  no_check [] t s is = no_solve None refl is
-  no_check (a ∷ []) t s is = no_solve None refl is
-  no_check (a ∷ b ∷ []) t s is = no_solve (Some (Check a b)) refl is
-  no_check (a ∷ b ∷ x ∷ xs) t s is = no_solve None refl is
+  upgrade_in : (names : List (List ℕ)) → IfSome (upgrade names t s) HasBudget
+  upgrade_in [] = tt
+  upgrade_in (a ∷ []) = tt
+  upgrade_in (a ∷ b ∷ []) = tt
+  upgrade_in (a ∷ b ∷ x ∷ []) = tt
+  upgrade_in (a ∷ b ∷ x ∷ y ∷ xs) = tt
 
-  no_upgrade : (names : List (List ℕ)) (t s : ℕ) → upgrade names t s ≡ asked → IsBudget turns
-  unfolding is_solve
-  no_upgrade [] t s is = no_solve None refl is
-  no_upgrade (a ∷ []) t s is = no_solve None refl is
-  no_upgrade (a ∷ b ∷ []) t s is = no_solve None refl is
-  no_upgrade (a ∷ b ∷ x ∷ []) t s is = no_solve (Some (Upgrade a b x)) refl is
-  no_upgrade (a ∷ b ∷ x ∷ y ∷ xs) t s is = no_solve None refl is
+abbrev made : List (List ℕ) → Form → Option Command
+made words form = if is_followed form words then command_with form words else None
 
-  abbrev solve_form : Form
-  solve_form = record { verb = codes "solve"; names = 2; turns = Some 64; seed = Some 1; command = solve }
+-- the words behind the verb of a row
+abbrev AsksIn : List (List ℕ) → Form → Type 0
+AsksIn words form = IfSome (made words form) HasBudget
 
-  abbrev check_form : Form
-  check_form = record { verb = codes "check"; names = 2; turns = None; seed = None; command = check }
+-- a form whose command asks for no turns, or for those that the words say
+without_turns : (words : List (List ℕ)) (form : Form) → ((names : List (List ℕ)) (t s : ℕ) → IfSome (form.command names t s) HasBudget) → AsksIn words form
+without_turns words form each = by (is_followed form words) where
+  by : (b : Bool) → IfSome (if b then command_with form words else None) HasBudget
+  by true = each _ _ _
+  by false = tt
 
-  abbrev upgrade_form : Form
-  upgrade_form = record { verb = codes "upgrade"; names = 3; turns = None; seed = None; command = upgrade }
+with_turns : (words : List (List ℕ)) (verb : List ℕ) (names default seed : ℕ) (command : List (List ℕ) → ℕ → ℕ → Option Command)
+    → IsBudget default → ((t s : ℕ) → IsBudget t → (names : List (List ℕ)) → IfSome (command names t s) HasBudget)
+    → AsksIn words (record { verb = verb; names = names; turns = Some default; seed = Some seed; command = command })
+with_turns words verb names default seed command fits each = by (are_names_and_options names true true words) refl where
+  by : (b : Bool) → are_names_and_options names true true words ≡ b
+      → IfSome (if b then command (take names words) (given turns_word default (drop names words)) (given seed_word seed (drop names words)) else None) HasBudget
+  by false is = tt
+  by true is =
+      let k = both (nat_le names (length words) && are_names (take names words)) (are_options true true (drop names words)) is in
+      each _ _ (given_in default fits (drop names words) k.1) (take names words)
 
-  by_solve : (b : Bool) → is_followed solve_form words ≡ b → (if b then command_with solve_form words else None) ≡ asked → IsBudget turns
-  unfolding is_solve
-  by_solve false follows is = no_solve None refl is
-  by_solve true follows is =
-      let k = both (nat_le 2 (length words) && are_names (take 2 words)) (are_options true true (drop 2 words)) follows in
-      by_names (take 2 words) (given turns_word 64 (drop 2 words)) (given seed_word 1 (drop 2 words)) (given_in (drop 2 words) k.1) is
+-- each row of a table
+by_rows : (rows : List Form) (verb : List ℕ) (words : List (List ℕ)) → AllByRecursion (AsksIn words) rows
+    → IfSome (option_and_then (made words) (find (λ form. bytes_eq form.verb verb) rows)) HasBudget
+by_rows [] verb words each = tt
+by_rows (form ∷ rows) verb words each = by (bytes_eq form.verb verb) (by_rows rows verb words each.1) where
+  by : (b : Bool) → IfSome (option_and_then (made words) (find (λ form. bytes_eq form.verb verb) rows)) HasBudget
+      → IfSome (option_and_then (made words) (if b then Some form else find (λ form. bytes_eq form.verb verb) rows)) HasBudget
+  by true others = each.0
+  by false others = others
 
-  by_check : (b : Bool) → (if b then command_with check_form words else None) ≡ asked → IsBudget turns
-  unfolding is_solve
-  by_check false is = no_solve None refl is
-  by_check true is = no_check (take 2 words) (given turns_word 0 (drop 2 words)) (given seed_word 0 (drop 2 words)) is
+abbrev row : (verb : List ℕ) (names : ℕ) (seed : Option ℕ) → (List (List ℕ) → ℕ → ℕ → Option Command) → Form
+row verb names seed command = record { verb = verb; names = names; turns = None; seed = seed; command = command }
 
-  by_upgrade : (b : Bool) → (if b then command_with upgrade_form words else None) ≡ asked → IsBudget turns
-  unfolding is_solve
-  by_upgrade false is = no_solve None refl is
-  by_upgrade true is = no_upgrade (take 3 words) (given turns_word 0 (drop 3 words)) (given seed_word 0 (drop 3 words)) is
-
-  abbrev made : Form → Option Command
-  made form = if is_followed form words then command_with form words else None
-
-  by_verb : (a b d : Bool) → option_and_then made (if a then Some solve_form else (if b then Some check_form else (if d then Some upgrade_form else None))) ≡ asked → IsBudget turns
-  unfolding is_solve
-  by_verb true b d is = by_solve (is_followed solve_form words) refl is
-  by_verb false true d is = by_check (is_followed check_form words) is
-  by_verb false false true is = by_upgrade (is_followed upgrade_form words) is
-  by_verb false false false is = no_solve None refl is
-
-pub budget_in : (words : List (List ℕ)) (file cert : List ℕ) (turns seed : ℕ) → command_of words ≡ Some (Solve file cert turns seed) → IsBudget turns
-unfolding is_solve
-budget_in [] file cert turns seed is = no_solve [] file cert turns seed None refl is
-budget_in (verb ∷ words) file cert turns seed is =
-    by_verb words file cert turns seed (bytes_eq (codes "solve") verb) (bytes_eq (codes "check") verb) (bytes_eq (codes "upgrade") verb) is
+pub budget_in : (words : List (List ℕ)) → IfSome (command_of words) HasBudget
+budget_in [] = tt
+budget_in (verb ∷ words) =
+    by_rows forms verb words
+    (with_turns words (codes "solve") 2 64 1 solve (omega arith, omega arith) solve_in,
+    (without_turns words (row (codes "check") 2 None check) (λ names t s. check_in t s names),
+    (without_turns words (row (codes "sheet") 2 None sheet) (λ names t s. sheet_in t s names),
+    (without_turns words (row (codes "make") 1 (Some 1) make) (λ names t s. make_in t s names),
+    (with_turns words (codes "drill") 0 4 1 drill (omega arith, omega arith) drill_in,
+    (without_turns words (row (codes "upgrade") 3 None upgrade) (λ names t s. upgrade_in t s names), tt))))))

@@ -47,6 +47,33 @@ check_enters = record {
   rows_are = λ words. let stops = walk_stopped top.rules names (walk_from nothing_held) (codes "check") [] words in rw (← stops) refl;
 }
 
+pub sheet_enters : Enters (codes "sheet")
+unfolding clap_on_literals top names
+sheet_enters = record {
+  takes_is = λ words passes.
+      let left = left_over top names (walk_from nothing_held) (codes "sheet") [] words in
+      let stops = walk_stopped top.rules names (walk_from nothing_held) (codes "sheet") [] words in rw (← stops, left, passes) refl;
+  rows_are = λ words. let stops = walk_stopped top.rules names (walk_from nothing_held) (codes "sheet") [] words in rw (← stops) refl;
+}
+
+pub make_enters : Enters (codes "make")
+unfolding clap_on_literals top names
+make_enters = record {
+  takes_is = λ words passes.
+      let left = left_over top names (walk_from nothing_held) (codes "make") [] words in
+      let stops = walk_stopped top.rules names (walk_from nothing_held) (codes "make") [] words in rw (← stops, left, passes) refl;
+  rows_are = λ words. let stops = walk_stopped top.rules names (walk_from nothing_held) (codes "make") [] words in rw (← stops) refl;
+}
+
+pub drill_enters : Enters (codes "drill")
+unfolding clap_on_literals top names
+drill_enters = record {
+  takes_is = λ words passes.
+      let left = left_over top names (walk_from nothing_held) (codes "drill") [] words in
+      let stops = walk_stopped top.rules names (walk_from nothing_held) (codes "drill") [] words in rw (← stops, left, passes) refl;
+  rows_are = λ words. let stops = walk_stopped top.rules names (walk_from nothing_held) (codes "drill") [] words in rw (← stops) refl;
+}
+
 pub upgrade_enters : Enters (codes "upgrade")
 unfolding clap_on_literals top names
 upgrade_enters = record {

@@ -6,7 +6,7 @@ use Rattle.clap.specs.Simple.{Shape, built, label_of, new_shape}
 use Rattle.clap.specs.Walk.{Row, Text, answers_to}
 use Rattle.clap.specs.Words.{one_of}
 use Rattle.command_words.specs.Grammar.{HasNumber, IsRead, grammar_app}
-use Rattle.command_words.specs.Commands.{Command, Solve, Check, Upgrade}
+use Rattle.command_words.specs.Commands.{Command, Solve, Check, Sheet, Make, Drill, Upgrade}
 use Rattle.command_words.specs.Words.{is_number, number_of}
 use Rattle.command_words.proofs.Walking.{IsPlainText, Reads, goes_end, goes_name, goes_on, goes_value, reads}
 
@@ -28,6 +28,14 @@ module _ (file cert : Text) (f : IsPlainText file) (g : IsPlainText cert) where
   pub check_read : IsReadAs (codes "check") (file ∷ cert ∷ []) (Check file cert)
   unfolding clap_on_literals
   check_read = record {
+    rows = _;
+    level = reads (goes_name f refl (goes_name g refl goes_end)) refl;
+    read = (refl, refl, refl);
+  }
+
+  pub sheet_read : IsReadAs (codes "sheet") (file ∷ cert ∷ []) (Sheet file cert)
+  unfolding clap_on_literals
+  sheet_read = record {
     rows = _;
     level = reads (goes_name f refl (goes_name g refl goes_end)) refl;
     read = (refl, refl, refl);
@@ -81,3 +89,61 @@ module _ (file cert : Text) (f : IsPlainText file) (g : IsPlainText cert) where
       level = reads (goes_name f refl (goes_name g refl (goes_on refl refl (goes_value i (goes_on refl refl (goes_value h goes_end)))))) refl;
       read = (refl, refl, refl, given (codes "turns") n refl d, given (codes "seed") k refl e);
     }
+
+module _ (file : Text) (f : IsPlainText file) where
+  pub make_read : IsReadAs (codes "make") (file ∷ []) (Make file 1)
+  unfolding clap_on_literals
+  make_read = record {
+    rows = _;
+    level = reads (goes_name f refl goes_end) refl;
+    read = (refl, refl, given (codes "seed") (codes "1") refl refl);
+  }
+
+  pub make_seed_read : (n : Text) → is_number n ≡ true → IsPlainText n → IsReadAs (codes "make") (file ∷ codes "--seed" ∷ n ∷ []) (Make file (number_of n))
+  unfolding clap_on_literals
+  make_seed_read n digits h = record {
+    rows = _;
+    level = reads (goes_name f refl (goes_on refl refl (goes_value h goes_end))) refl;
+    read = (refl, refl, given (codes "seed") n refl digits);
+  }
+
+pub drill_read : IsReadAs (codes "drill") [] (Drill 4 1)
+unfolding clap_on_literals
+drill_read = record {
+  rows = _;
+  level = reads goes_end refl;
+  read = (refl, given (codes "turns") (codes "4") refl refl, given (codes "seed") (codes "1") refl refl);
+}
+
+pub drill_turns_read : (n : Text) → is_number n ≡ true → IsPlainText n → IsReadAs (codes "drill") (codes "--turns" ∷ n ∷ []) (Drill (number_of n) 1)
+unfolding clap_on_literals
+drill_turns_read n digits h = record {
+  rows = _;
+  level = reads (goes_on refl refl (goes_value h goes_end)) refl;
+  read = (refl, given (codes "turns") n refl digits, given (codes "seed") (codes "1") refl refl);
+}
+
+pub drill_seed_read : (n : Text) → is_number n ≡ true → IsPlainText n → IsReadAs (codes "drill") (codes "--seed" ∷ n ∷ []) (Drill 4 (number_of n))
+unfolding clap_on_literals
+drill_seed_read n digits h = record {
+  rows = _;
+  level = reads (goes_on refl refl (goes_value h goes_end)) refl;
+  read = (refl, given (codes "turns") (codes "4") refl refl, given (codes "seed") n refl digits);
+}
+
+module _ (n k : Text) (d : is_number n ≡ true) (e : is_number k ≡ true) (h : IsPlainText n) (i : IsPlainText k) where
+  pub drill_turns_first : IsReadAs (codes "drill") (codes "--turns" ∷ n ∷ codes "--seed" ∷ k ∷ []) (Drill (number_of n) (number_of k))
+  unfolding clap_on_literals
+  drill_turns_first = record {
+    rows = _;
+    level = reads (goes_on refl refl (goes_value h (goes_on refl refl (goes_value i goes_end)))) refl;
+    read = (refl, given (codes "turns") n refl d, given (codes "seed") k refl e);
+  }
+
+  pub drill_seed_first : IsReadAs (codes "drill") (codes "--seed" ∷ k ∷ codes "--turns" ∷ n ∷ []) (Drill (number_of n) (number_of k))
+  unfolding clap_on_literals
+  drill_seed_first = record {
+    rows = _;
+    level = reads (goes_on refl refl (goes_value i (goes_on refl refl (goes_value h goes_end)))) refl;
+    read = (refl, given (codes "turns") n refl d, given (codes "seed") k refl e);
+  }

@@ -1,7 +1,8 @@
 -- What `clap` reads of plain words is the command that they are.
 use Rattle.std.proofs.Common.{arith, ◌≡◌, ◌∙◌, sym, ap, subst, inl, inr, ℕ, ◌&&◌, ◌||◌, not, Bool, true, false, true≢false, List, [], ◌∷◌, refl, Some, codes}
-use Rattle.std.specs.Prelude.{◌⊎◌, nat_le, length}
-use Rattle.std.specs.List.{list_all, list_any}
+use Rattle.std.specs.Prelude.{◌⊎◌, nat_le, length, find, if◌then◌else◌, Option, None}
+use Rattle.std.specs.List.{AllByRecursion, list_all, list_any}
+use Rattle.std.specs.Option.{option_map_or}
 use Rattle.std.specs.Str.{bytes_eq}
 use Rattle.std.proofs.lemmas.Slice.Eq.{bytes_eq-Decides}
 use Rattle.std.proofs.lemmas.Bool.{leb-true, ne_eqb}
@@ -9,11 +10,11 @@ use Rattle.clap.specs.Takes.{takes}
 use Rattle.clap.specs.Walk.{Row, Text}
 use Rattle.clap.specs.Words.{subcommand_of}
 use Rattle.command_words.specs.Grammar.{IsRead, grammar_app}
-use Rattle.command_words.specs.Commands.{Command, Solve, Check, Upgrade}
-use Rattle.command_words.specs.Words.{are_names, are_options, are_turns, command_of, given, is_digit, is_given, is_name, is_number, is_option, is_plain, seed_word, turns_word}
+use Rattle.command_words.specs.Commands.{Command, Solve, Check, Sheet, Make, Drill, Upgrade}
+use Rattle.command_words.specs.Words.{Form, are_names, are_options, are_turns, check, command_of, drill, forms, given, is_digit, is_followed, is_given, is_name, is_number, is_option, is_plain, make, seed_word, sheet, solve, turns_word, upgrade}
 use Rattle.command_words.proofs.Numbers.{both}
-use Rattle.command_words.proofs.Levels.{IsReadAs, check_read, seed_first, seed_read, solve_read, turns_first, turns_read, upgrade_read}
-use Rattle.command_words.proofs.Entering.{Enters, check_enters, solve_enters, upgrade_enters}
+use Rattle.command_words.proofs.Levels.{IsReadAs, check_read, drill_read, drill_seed_first, drill_seed_read, drill_turns_first, drill_turns_read, make_read, make_seed_read, seed_first, seed_read, sheet_read, solve_read, turns_first, turns_read, upgrade_read}
+use Rattle.command_words.proofs.Entering.{Enters, check_enters, drill_enters, make_enters, sheet_enters, solve_enters, upgrade_enters}
 use Rattle.command_words.proofs.Walking.{IsPlainText, plain_text}
 
 -- plain words are taken, and read as their command
@@ -88,23 +89,25 @@ pair word number rest e =
     let k = both (is_option true true word number && not (is_given word rest)) (are_options true true rest) e in
     let m = both (is_option true true word number) (not (is_given word rest)) k.0 in (option_is word number m.0, flip (is_given word rest) m.1, k.1)
 
-module _ (file cert : Text) (f : IsPlainText file) (g : IsPlainText cert) where
-  abbrev IsSolve : List Text → Type 0
-  IsSolve options = IsReadAs (codes "solve") (file ∷ cert ∷ options) (Solve file cert (given turns_word 64 options) (given seed_word 1 options))
-
-  one_option : (word n : Text) → Named word n → IsSolve (word ∷ n ∷ [])
+-- What is so of no option, of each option alone, and of both in either order, is so of all options that take turns and a seed.
+module _ (Is : List Text → Type 0) (none : Is [])
+  (one_turns : (n : Text) → is_number n ≡ true → IsPlainText n → Is (turns_word ∷ n ∷ []))
+  (one_seed : (n : Text) → is_number n ≡ true → IsPlainText n → Is (seed_word ∷ n ∷ []))
+  (turns_before : (n k : Text) → is_number n ≡ true → is_number k ≡ true → IsPlainText n → IsPlainText k → Is (turns_word ∷ n ∷ seed_word ∷ k ∷ []))
+  (seed_before : (n k : Text) → is_number n ≡ true → is_number k ≡ true → IsPlainText n → IsPlainText k → Is (seed_word ∷ k ∷ turns_word ∷ n ∷ [])) where
+  one_option : (word n : Text) → Named word n → Is (word ∷ n ∷ [])
   unfolding Named
-  one_option word n (inl e, d) = subst (λ w. IsSolve (w ∷ n ∷ [])) (sym e) (turns_read file cert f g n d (number_text n d))
-  one_option word n (inr e, d) = subst (λ w. IsSolve (w ∷ n ∷ [])) (sym e) (seed_read file cert f g n d (number_text n d))
+  one_option word n (inl e, d) = subst (λ w. Is (w ∷ n ∷ [])) (sym e) (one_turns n d (number_text n d))
+  one_option word n (inr e, d) = subst (λ w. Is (w ∷ n ∷ [])) (sym e) (one_seed n d (number_text n d))
 
-  two_options : (word n other k : Text) → Named word n → Named other k → (word ≡ other → ⊥) → IsSolve (word ∷ n ∷ other ∷ k ∷ [])
+  two_options : (word n other k : Text) → Named word n → Named other k → (word ≡ other → ⊥) → Is (word ∷ n ∷ other ∷ k ∷ [])
   unfolding Named
   two_options word n other k (inl e, d) (inl a, b) apart = absurd (apart (e ∙ sym a))
   two_options word n other k (inr e, d) (inr a, b) apart = absurd (apart (e ∙ sym a))
   two_options word n other k (inl e, d) (inr a, b) apart =
-      subst (λ w. IsSolve (w ∷ n ∷ other ∷ k ∷ [])) (sym e) (subst (λ w. IsSolve (turns_word ∷ n ∷ w ∷ k ∷ [])) (sym a) (turns_first file cert f g n k d b (number_text n d) (number_text k b)))
+      subst (λ w. Is (w ∷ n ∷ other ∷ k ∷ [])) (sym e) (subst (λ w. Is (turns_word ∷ n ∷ w ∷ k ∷ [])) (sym a) (turns_before n k d b (number_text n d) (number_text k b)))
   two_options word n other k (inr e, d) (inl a, b) apart =
-      subst (λ w. IsSolve (w ∷ n ∷ other ∷ k ∷ [])) (sym e) (subst (λ w. IsSolve (seed_word ∷ n ∷ w ∷ k ∷ [])) (sym a) (seed_first file cert f g k n b d (number_text k b) (number_text n d)))
+      subst (λ w. Is (w ∷ n ∷ other ∷ k ∷ [])) (sym e) (subst (λ w. Is (seed_word ∷ n ∷ w ∷ k ∷ [])) (sym a) (seed_before k n b d (number_text k b) (number_text n d)))
 
   three_options : (one n two k three m : Text) → Named one n → Named two k → Named three m → (one ≡ two → ⊥) → (one ≡ three → ⊥) → (two ≡ three → ⊥) → ⊥
   unfolding Named
@@ -115,8 +118,8 @@ module _ (file cert : Text) (f : IsPlainText file) (g : IsPlainText cert) where
   three_options one n two k three m (inr a, _) (inl b, _) (inl c, _) x y z = z (b ∙ sym c)
   three_options one n two k three m (inr a, _) (inl b, _) (inr c, _) x y z = y (a ∙ sym c)
 
-  options_read : (options : List Text) → are_options true true options ≡ true → IsSolve options
-  options_read [] e = solve_read file cert f g
+  pub options_read : (options : List Text) → are_options true true options ≡ true → Is options
+  options_read [] e = none
   options_read (word ∷ []) e = cc
   options_read (word ∷ n ∷ []) e = one_option word n (pair word n [] e).0
   options_read (word ∷ n ∷ other ∷ []) e = let p = pair word n (other ∷ []) e in cc
@@ -148,6 +151,31 @@ none_read (word ∷ n ∷ more) e =
     let m = both (is_option false false word n) (not (is_given word more)) k.0 in
     absurd (true≢false (sym m.0 ∙ no_option (bytes_eq word turns_word) (bytes_eq word seed_word) (are_turns n) (is_number n)))
 
+-- options that take a seed alone
+seed_only : (word n : Text) → is_option false true word n ≡ true → (word ≡ seed_word) × (is_number n ≡ true)
+unfolding is_option
+seed_only word n e = elim (either (bytes_eq word turns_word && (false && are_turns n)) (bytes_eq word seed_word && (true && is_number n)) e) [
+  | inl t ↦ absurd (true≢false (sym (both (bytes_eq word turns_word) (false && are_turns n) t).1))
+  | inr s ↦ let k = both (bytes_eq word seed_word) (true && is_number n) s in (same word seed_word k.0, k.1)
+]
+
+module _ (Is : List Text → Type 0) (none : Is []) (one_seed : (n : Text) → is_number n ≡ true → IsPlainText n → Is (seed_word ∷ n ∷ [])) where
+  pub seed_read_alone : (options : List Text) → are_options false true options ≡ true → Is options
+  seed_read_alone [] e = none
+  seed_read_alone (word ∷ []) e = cc
+  seed_read_alone (word ∷ n ∷ []) e =
+      let k = both (is_option false true word n && not (is_given word [])) true e in
+      let m = both (is_option false true word n) (not (is_given word [])) k.0 in
+      let p = seed_only word n m.0 in subst (λ w. Is (w ∷ n ∷ [])) (sym p.0) (one_seed n p.1 (number_text n p.1))
+  seed_read_alone (word ∷ n ∷ other ∷ []) e =
+      let k = both (is_option false true word n && not (is_given word (other ∷ []))) (are_options false true (other ∷ [])) e in cc
+  seed_read_alone (word ∷ n ∷ other ∷ l ∷ more) e =
+      let k = both (is_option false true word n && not (is_given word (other ∷ l ∷ more))) (are_options false true (other ∷ l ∷ more)) e in
+      let m = both (is_option false true word n) (not (is_given word (other ∷ l ∷ more))) k.0 in
+      let k' = both (is_option false true other l && not (is_given other more)) (are_options false true more) k.1 in
+      let m' = both (is_option false true other l) (not (is_given other more)) k'.0 in
+      absurd (differ word other l more (flip (is_given word (other ∷ l ∷ more)) m.1) ((seed_only word n m.0).0 ∙ sym (seed_only other l m'.0).0))
+
 -- the names of plain words
 module _ (word : Text) (words : List Text) (e : are_names (word ∷ words) ≡ true) where
   k : ((is_name word && not (list_any (λ other. bytes_eq other word) words)) ≡ true) × (are_names words ≡ true)
@@ -159,16 +187,25 @@ module _ (word : Text) (words : List Text) (e : are_names (word ∷ words) ≡ t
   other_names : are_names words ≡ true
   other_names = k.1
 
-solves : (words : List Text) → is_plain (codes "solve" ∷ words) ≡ true → Means (codes "solve" ∷ words)
+abbrev Follows : Form → List Text → Type 0
+Follows form words = is_followed form words ≡ true → Means (form.verb ∷ words)
+
+abbrev row : (verb : Text) (names : ℕ) (turns seed : Option ℕ) → (List Text → ℕ → ℕ → Option Command) → Form
+row verb names turns seed command = record { verb = verb; names = names; turns = turns; seed = seed; command = command }
+
+solves : (words : List Text) → Follows (row (codes "solve") 2 (Some 64) (Some 1) solve) words
 solves [] e = cc
 solves (file ∷ []) e = cc
 solves (file ∷ cert ∷ options) e =
     let k = both (nat_le 2 (length (file ∷ cert ∷ options)) && are_names (file ∷ cert ∷ [])) (are_options true true options) e in
     let names = (both (nat_le 2 (length (file ∷ cert ∷ options))) (are_names (file ∷ cert ∷ [])) k.0).1 in
+    let f = first_name file (cert ∷ []) names in
+    let g = first_name cert [] (other_names file (cert ∷ []) names) in
     means (codes "solve") (file ∷ cert ∷ options) _ solve_enters (rw e refl)
-    (options_read file cert (first_name file (cert ∷ []) names) (first_name cert [] (other_names file (cert ∷ []) names)) options k.1)
+    (options_read (λ options. IsReadAs (codes "solve") (file ∷ cert ∷ options) (Solve file cert (given turns_word 64 options) (given seed_word 1 options)))
+    (solve_read file cert f g) (turns_read file cert f g) (seed_read file cert f g) (turns_first file cert f g) (seed_first file cert f g) options k.1)
 
-checks : (words : List Text) → is_plain (codes "check" ∷ words) ≡ true → Means (codes "check" ∷ words)
+checks : (words : List Text) → Follows (row (codes "check") 2 None None check) words
 checks [] e = cc
 checks (file ∷ []) e = cc
 checks (file ∷ cert ∷ options) e =
@@ -178,7 +215,33 @@ checks (file ∷ cert ∷ options) e =
     (subst (λ rest. IsReadAs (codes "check") (file ∷ cert ∷ rest) (Check file cert)) (sym (none_read options k.1))
     (check_read file cert (first_name file (cert ∷ []) names) (first_name cert [] (other_names file (cert ∷ []) names))))
 
-upgrades : (words : List Text) → is_plain (codes "upgrade" ∷ words) ≡ true → Means (codes "upgrade" ∷ words)
+sheets : (words : List Text) → Follows (row (codes "sheet") 2 None None sheet) words
+sheets [] e = cc
+sheets (file ∷ []) e = cc
+sheets (file ∷ cert ∷ options) e =
+    let k = both (nat_le 2 (length (file ∷ cert ∷ options)) && are_names (file ∷ cert ∷ [])) (are_options false false options) e in
+    let names = (both (nat_le 2 (length (file ∷ cert ∷ options))) (are_names (file ∷ cert ∷ [])) k.0).1 in
+    means (codes "sheet") (file ∷ cert ∷ options) (Sheet file cert) sheet_enters (rw e refl)
+    (subst (λ rest. IsReadAs (codes "sheet") (file ∷ cert ∷ rest) (Sheet file cert)) (sym (none_read options k.1))
+    (sheet_read file cert (first_name file (cert ∷ []) names) (first_name cert [] (other_names file (cert ∷ []) names))))
+
+makes : (words : List Text) → Follows (row (codes "make") 1 None (Some 1) make) words
+makes [] e = cc
+makes (file ∷ options) e =
+    let k = both (nat_le 1 (length (file ∷ options)) && are_names (file ∷ [])) (are_options false true options) e in
+    let names = (both (nat_le 1 (length (file ∷ options))) (are_names (file ∷ [])) k.0).1 in
+    let f = first_name file [] names in
+    means (codes "make") (file ∷ options) _ make_enters (rw e refl)
+    (seed_read_alone (λ options. IsReadAs (codes "make") (file ∷ options) (Make file (given seed_word 1 options))) (make_read file f) (make_seed_read file f) options k.1)
+
+drills : (words : List Text) → Follows (row (codes "drill") 0 (Some 4) (Some 1) drill) words
+drills options e =
+    let k = both (nat_le 0 (length options) && are_names []) (are_options true true options) e in
+    means (codes "drill") options _ drill_enters (rw e refl)
+    (options_read (λ options. IsReadAs (codes "drill") options (Drill (given turns_word 4 options) (given seed_word 1 options)))
+    drill_read drill_turns_read drill_seed_read drill_turns_first drill_seed_first options k.1)
+
+upgrades : (words : List Text) → Follows (row (codes "upgrade") 3 None None upgrade) words
 upgrades [] e = cc
 upgrades (file ∷ []) e = cc
 upgrades (file ∷ cert ∷ []) e = cc
@@ -190,16 +253,18 @@ upgrades (file ∷ cert ∷ renewed ∷ options) e =
     (subst (λ rest. IsReadAs (codes "upgrade") (file ∷ cert ∷ renewed ∷ rest) (Upgrade file cert renewed)) (sym (none_read options k.1))
     (upgrade_read file cert (first_name file (cert ∷ renewed ∷ []) names) (first_name cert (renewed ∷ []) others) renewed (first_name renewed [] (other_names cert (renewed ∷ []) others))))
 
+-- words that follow a verb of some rows, where those of each row mean their command
+by_rows : (rows : List Form) (verb : Text) (words : List Text) → AllByRecursion (λ form. Follows form words) rows
+    → option_map_or (λ form. is_followed form words) (find (λ form. bytes_eq form.verb verb) rows) false ≡ true → Means (verb ∷ words)
+by_rows [] verb words each e = cc
+by_rows (form ∷ rows) verb words each e = by (bytes_eq form.verb verb) refl (λ others. by_rows rows verb words each.1 others) e where
+  by : (b : Bool) → bytes_eq form.verb verb ≡ b
+      → (option_map_or (λ form. is_followed form words) (find (λ form. bytes_eq form.verb verb) rows) false ≡ true → Means (verb ∷ words))
+      → option_map_or (λ form. is_followed form words) (if b then Some form else find (λ form. bytes_eq form.verb verb) rows) false ≡ true → Means (verb ∷ words)
+  by true is others e = subst (λ v. Means (v ∷ words)) (same form.verb verb is) (each.0 e)
+  by false is others e = others e
+
 -- the verb of plain words is one of the table
 pub plain_means : (words : List Text) → is_plain words ≡ true → Means words
 plain_means [] e = cc
-plain_means (verb ∷ words) e = by (bytes_eq (codes "solve") verb) (bytes_eq (codes "check") verb) (bytes_eq (codes "upgrade") verb) refl refl refl where
-  named : (name : Text) → bytes_eq name verb ≡ true → (is_plain (name ∷ words) ≡ true → Means (name ∷ words)) → Means (verb ∷ words)
-  named name is f =
-      let one = same name verb is in subst (λ v. Means (v ∷ words)) one (f (subst (λ v. is_plain (v ∷ words) ≡ true) (sym one) e))
-
-  by : (a b c : Bool) → bytes_eq (codes "solve") verb ≡ a → bytes_eq (codes "check") verb ≡ b → bytes_eq (codes "upgrade") verb ≡ c → Means (verb ∷ words)
-  by true b c x y z = named (codes "solve") x (solves words)
-  by false true c x y z = named (codes "check") y (checks words)
-  by false false true x y z = named (codes "upgrade") z (upgrades words)
-  by false false false x y z = let none : is_plain (verb ∷ words) ≡ false = rw (x, y, z) refl in absurd (true≢false (sym e ∙ none))
+plain_means (verb ∷ words) e = by_rows forms verb words (solves words, (checks words, (sheets words, (makes words, (drills words, (upgrades words, tt)))))) e

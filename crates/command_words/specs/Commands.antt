@@ -4,6 +4,9 @@ use Rattle.std.specs.Prelude.{ℕ, Bool, true, false, List, [], ◌∷◌, Optio
 pub data Command : Type 0 where
   Solve : (file cert : List ℕ) (turns seed : ℕ) → Command
   Check : (file cert : List ℕ) → Command
+  Sheet : (file cert : List ℕ) → Command
+  Make : (file : List ℕ) (seed : ℕ) → Command
+  Drill : (turns seed : ℕ) → Command
   Upgrade : (file cert renewed : List ℕ) → Command
 
 -- a file that is read, and the most bytes that it may have
@@ -21,24 +24,36 @@ certificate_at name = record { name = name; limit = 268435456 }
 abbrev pub reads : Command → List Source
 reads (Solve file cert turns seed) = instance_at file ∷ []
 reads (Check file cert) = instance_at file ∷ certificate_at cert ∷ []
+reads (Sheet file cert) = instance_at file ∷ certificate_at cert ∷ []
+reads (Make file seed) = []
+reads (Drill turns seed) = []
 reads (Upgrade file cert renewed) = instance_at file ∷ certificate_at cert ∷ []
 
 -- the names that a command keeps where it is done, in order
 abbrev pub keeps : Command → List (List ℕ)
 keeps (Solve file cert turns seed) = cert ∷ []
 keeps (Check file cert) = []
+keeps (Sheet file cert) = []
+keeps (Make file seed) = file ∷ []
+keeps (Drill turns seed) = []
 keeps (Upgrade file cert renewed) = renewed ∷ []
 
 -- whether a command asks the helpers
 abbrev pub asks_helpers : Command → Bool
 asks_helpers (Solve file cert turns seed) = true
 asks_helpers (Check file cert) = false
+asks_helpers (Sheet file cert) = false
+asks_helpers (Make file seed) = false
+asks_helpers (Drill turns seed) = true
 asks_helpers (Upgrade file cert renewed) = false
 
 -- the seed with which a command asks them
 abbrev pub seed_of : Command → ℕ
 seed_of (Solve file cert turns seed) = seed
 seed_of (Check file cert) = 0
+seed_of (Sheet file cert) = 0
+seed_of (Make file seed) = 0
+seed_of (Drill turns seed) = seed
 seed_of (Upgrade file cert renewed) = 0
 
 -- words that are no command read nothing, keep nothing and ask no helper

@@ -10,6 +10,9 @@ use Rattle.command_words.specs.declared.plain.Takes.{Takes}
 abbrev pub command_in : Command → commands.Command
 command_in (variants.Solve file cert turns seed) = commands.Solve file.now cert.now turns seed
 command_in (variants.Check file cert) = commands.Check file.now cert.now
+command_in (variants.Sheet file cert) = commands.Sheet file.now cert.now
+command_in (variants.Make file seed) = commands.Make file.now seed
+command_in (variants.Drill turns seed) = commands.Drill turns seed
 command_in (variants.Upgrade file cert renewed) = commands.Upgrade file.now cert.now renewed.now
 
 -- the code's form is this row of the table

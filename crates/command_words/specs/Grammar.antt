@@ -3,7 +3,7 @@ use Rattle.std.specs.Prelude.{◌≡◌, ℕ, true, List, [], ◌∷◌, Some, c
 use Rattle.clap.specs.Simple.{on_top}
 use Rattle.clap.specs.Words.{App, Row, Rule, Text, first_of, new_app, new_rule, one_of, subcommand_rows_of, with_rule, with_subcommand}
 use Rattle.clap.specs.declared.parser.matches.ArgMatches.{ArgMatches}
-use Rattle.command_words.specs.Commands.{Command, Solve, Check, Upgrade}
+use Rattle.command_words.specs.Commands.{Command, Solve, Check, Sheet, Make, Drill, Upgrade}
 use Rattle.command_words.specs.Words.{is_number, number_of}
 
 abbrev pub name_rule : Text → Rule
@@ -15,11 +15,20 @@ option_rule id default = record (new_rule id) { long = Some id; defaults = defau
 abbrev pub two_names : Text → App
 two_names verb = with_rule (with_rule (new_app verb) (name_rule (codes "file"))) (name_rule (codes "cert"))
 
-abbrev pub solve_app : App
-solve_app = with_rule (with_rule (two_names (codes "solve")) (option_rule (codes "turns") (codes "64"))) (option_rule (codes "seed") (codes "1"))
+abbrev pub with_turns : Text → App → App
+with_turns default app = with_rule app (option_rule (codes "turns") default)
 
-abbrev pub check_app : App
-check_app = two_names (codes "check")
+abbrev pub with_seed : App → App
+with_seed app = with_rule app (option_rule (codes "seed") (codes "1"))
+
+abbrev pub solve_app : App
+solve_app = with_seed (with_turns (codes "64") (two_names (codes "solve")))
+
+abbrev pub make_app : App
+make_app = with_seed (with_rule (new_app (codes "make")) (name_rule (codes "file")))
+
+abbrev pub drill_app : App
+drill_app = with_seed (with_turns (codes "4") (new_app (codes "drill")))
 
 abbrev pub upgrade_app : App
 upgrade_app = with_rule (two_names (codes "upgrade")) (name_rule (codes "renewed"))
@@ -27,8 +36,13 @@ upgrade_app = with_rule (two_names (codes "upgrade")) (name_rule (codes "renewed
 abbrev pub without_name : App → App
 without_name = on_top (λ s. record s { no_binary_name = true })
 
+-- the verbs that read a certificate or make one, and all verbs
+abbrev pub proving_app : App
+proving_app =
+    with_subcommand (with_subcommand (with_subcommand (without_name (new_app (codes "carp"))) solve_app.top) (two_names (codes "check")).top) (two_names (codes "sheet")).top
+
 abbrev pub grammar_app : App
-grammar_app = with_subcommand (with_subcommand (with_subcommand (without_name (new_app (codes "carp"))) solve_app.top) check_app.top) upgrade_app.top
+grammar_app = with_subcommand (with_subcommand (with_subcommand proving_app make_app.top) drill_app.top) upgrade_app.top
 
 -- the matches have a name, and a number
 abbrev pub HasName : Text → Text → List Row → Type 0
@@ -45,6 +59,9 @@ abbrev pub IsRead : Command → Text → List Row → Type 0
 IsRead (Solve file cert turns seed) verb rows =
     (verb ≡ codes "solve") × HasName (codes "file") file rows × HasName (codes "cert") cert rows × HasNumber (codes "turns") turns rows × HasNumber (codes "seed") seed rows
 IsRead (Check file cert) verb rows = (verb ≡ codes "check") × HasName (codes "file") file rows × HasName (codes "cert") cert rows
+IsRead (Sheet file cert) verb rows = (verb ≡ codes "sheet") × HasName (codes "file") file rows × HasName (codes "cert") cert rows
+IsRead (Make file seed) verb rows = (verb ≡ codes "make") × HasName (codes "file") file rows × HasNumber (codes "seed") seed rows
+IsRead (Drill turns seed) verb rows = (verb ≡ codes "drill") × HasNumber (codes "turns") turns rows × HasNumber (codes "seed") seed rows
 IsRead (Upgrade file cert renewed) verb rows =
     (verb ≡ codes "upgrade") × HasName (codes "file") file rows × HasName (codes "cert") cert rows × HasName (codes "renewed") renewed rows
 

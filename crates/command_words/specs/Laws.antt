@@ -1,8 +1,17 @@
 -- A law over all words.
-use Rattle.std.specs.Prelude.{◌≡◌, ℕ, ◌≤◌, List, Some}
-use Rattle.command_words.specs.Commands.{Solve}
+use Rattle.std.specs.Prelude.{ℕ, ◌≤◌, List, IfSome}
+use Rattle.command_words.specs.Commands.{Command, Solve, Check, Sheet, Make, Drill, Upgrade}
 use Rattle.command_words.specs.Words.{command_of}
 
--- plain words ask for 1 to 1,048,576 turns
+-- the turns that a command asks for, if it asks for any, are 1 to 1,048,576
+abbrev pub HasBudget : Command → Type 0
+HasBudget (Solve file cert turns seed) = (1 ≤ turns) × (turns ≤ 1048576)
+HasBudget (Check file cert) = Unit {0}
+HasBudget (Sheet file cert) = Unit {0}
+HasBudget (Make file seed) = Unit {0}
+HasBudget (Drill turns seed) = (1 ≤ turns) × (turns ≤ 1048576)
+HasBudget (Upgrade file cert renewed) = Unit {0}
+
+-- as it is of each command that plain words name
 abbrev pub BudgetsAreInRange : Type 0
-BudgetsAreInRange = (words : List (List ℕ)) (file cert : List ℕ) (turns seed : ℕ) → command_of words ≡ Some (Solve file cert turns seed) → (1 ≤ turns) × (turns ≤ 1048576)
+BudgetsAreInRange = (words : List (List ℕ)) → IfSome (command_of words) HasBudget

@@ -5,7 +5,7 @@ use Rattle.std.specs.Option.{option_map_or}
 use Rattle.std.specs.Str.{bytes_eq}
 use Rattle.std.specs.Str.Parse.{digits_value}
 use Rattle.std.specs.declared.alloc.Global.{Global}
-use Rattle.command_words.specs.Commands.{Command, Solve, Check, Upgrade}
+use Rattle.command_words.specs.Commands.{Command, Solve, Check, Sheet, Make, Drill, Upgrade}
 
 -- a name is not empty, and does not begin with `-`
 abbrev pub is_name : List ℕ → Bool
@@ -44,6 +44,18 @@ abbrev pub check : List (List ℕ) → (turns seed : ℕ) → Option Command
 check (file ∷ cert ∷ []) turns seed = Some (Check file cert)
 check _ turns seed = None
 
+abbrev pub sheet : List (List ℕ) → (turns seed : ℕ) → Option Command
+sheet (file ∷ cert ∷ []) turns seed = Some (Sheet file cert)
+sheet _ turns seed = None
+
+abbrev pub make : List (List ℕ) → (turns seed : ℕ) → Option Command
+make (file ∷ []) turns seed = Some (Make file seed)
+make _ turns seed = None
+
+abbrev pub drill : List (List ℕ) → (turns seed : ℕ) → Option Command
+drill [] turns seed = Some (Drill turns seed)
+drill _ turns seed = None
+
 abbrev pub upgrade : List (List ℕ) → (turns seed : ℕ) → Option Command
 upgrade (file ∷ cert ∷ renewed ∷ []) turns seed = Some (Upgrade file cert renewed)
 upgrade _ turns seed = None
@@ -52,6 +64,9 @@ upgrade _ turns seed = None
 abbrev pub forms : List Form
 forms = record { verb = codes "solve"; names = 2; turns = Some 64; seed = Some 1; command = solve }
     ∷ record { verb = codes "check"; names = 2; turns = None; seed = None; command = check }
+    ∷ record { verb = codes "sheet"; names = 2; turns = None; seed = None; command = sheet }
+    ∷ record { verb = codes "make"; names = 1; turns = None; seed = Some 1; command = make }
+    ∷ record { verb = codes "drill"; names = 0; turns = Some 4; seed = Some 1; command = drill }
     ∷ record { verb = codes "upgrade"; names = 3; turns = None; seed = None; command = upgrade }
     ∷ []
 

@@ -17,6 +17,24 @@ pub enum Command<'a> {
         file: &'a str,
         cert: &'a str,
     },
+    /// Checks as `Check` does, and writes the street sheet of the plan.
+    Sheet {
+        file: &'a str,
+        cert: &'a str,
+    },
+    /// Keeps the town of a number at `file`.
+    Make {
+        file: &'a str,
+        /// The number of the town: below 10 to the 18.
+        seed: u64,
+    },
+    /// Solves the town of a number, and checks its certificate.
+    Drill {
+        /// The most price sets that are tried: 1 to 1,048,576.
+        turns: u64,
+        /// The number of the town, and what the choices of helpers are drawn from: below 10 to the 18.
+        seed: u64,
+    },
     /// Does as `Check`, and keeps the certificate with the numbers of the instance at `renewed`.
     Upgrade {
         file: &'a str,

@@ -7,7 +7,7 @@ ghost use Rattle.clap.specs.declared.builder.command.Command.TheViews.{out-Comma
 ghost use Rattle.command_words.specs.Commands as commands;
 ghost use Rattle.command_words.specs.Words.{texts_of, command_of, is_number, is_plain, number_of};
 ghost use Rattle.command_words.specs.Forms.{command_in};
-ghost use Rattle.command_words.specs.Grammar.{AreMatchesOf, HasName, HasNumber, check_app, grammar_app, name_rule, option_rule, solve_app, two_names, upgrade_app};
+ghost use Rattle.command_words.specs.Grammar.{AreMatchesOf, HasName, HasNumber, drill_app, grammar_app, make_app, name_rule, option_rule, proving_app, solve_app, two_names, upgrade_app};
 
 use crate::command::Command;
 use carp_base::Memory;
@@ -36,11 +36,21 @@ pub(crate) fn read_plain<'a>(alloc: Global, words: &'a [String]) -> Result<Comma
 fn grammar<'a>(alloc: Global) -> Result<clap::Command<'a>, AllocError>
     ensures { IfOk result (λ c. app_of c ≡ grammar_app) }
 {
+    proving(alloc)?
+        .subcommand(make(alloc)?)?
+        .subcommand(drill(alloc)?)?
+        .subcommand(upgrade(alloc)?)
+}
+
+// The verbs that read a certificate or make one.
+fn proving<'a>(alloc: Global) -> Result<clap::Command<'a>, AllocError>
+    ensures { IfOk result (λ c. app_of c ≡ proving_app) }
+{
     clap::Command::new(alloc, "carp")
         .no_binary_name(true)
         .subcommand(solve(alloc)?)?
         .subcommand(two_names(alloc, "check")?)?
-        .subcommand(upgrade(alloc)?)
+        .subcommand(two_names(alloc, "sheet")?)
 }
 
 fn solve<'a>(alloc: Global) -> Result<clap::Command<'a>, AllocError>
@@ -49,6 +59,24 @@ fn solve<'a>(alloc: Global) -> Result<clap::Command<'a>, AllocError>
 {
     two_names(alloc, "solve")?
         .arg(option(alloc, "turns", "64"))?
+        .arg(option(alloc, "seed", "1"))
+}
+
+fn make<'a>(alloc: Global) -> Result<clap::Command<'a>, AllocError>
+    ensures app { IfOk result (λ c. app_of c ≡ make_app) }
+    ensures local { IfOk result (λ c. (fields_of c).has_globals ≡ false) }
+{
+    clap::Command::new(alloc, "make")
+        .arg(name(alloc, "file"))?
+        .arg(option(alloc, "seed", "1"))
+}
+
+fn drill<'a>(alloc: Global) -> Result<clap::Command<'a>, AllocError>
+    ensures app { IfOk result (λ c. app_of c ≡ drill_app) }
+    ensures local { IfOk result (λ c. (fields_of c).has_globals ≡ false) }
+{
+    clap::Command::new(alloc, "drill")
+        .arg(option(alloc, "turns", "4"))?
         .arg(option(alloc, "seed", "1"))
 }
 
@@ -91,6 +119,9 @@ fn command_from<'a>(matches: &ArgMatches<'a>) -> Option<Command<'a>>
     match verb {
         "solve" => solve_from(inner),
         "check" => check_from(inner),
+        "sheet" => sheet_from(inner),
+        "make" => make_from(inner),
+        "drill" => drill_from(inner),
         "upgrade" => upgrade_from(inner),
         _ => None,
     }
@@ -120,6 +151,33 @@ fn check_from<'a>(matches: &ArgMatches<'a>) -> Option<Command<'a>>
     let file = name_in(matches, "file")?;
     let cert = name_in(matches, "cert")?;
     Some(Command::Check { file, cert })
+}
+
+fn sheet_from<'a>(matches: &ArgMatches<'a>) -> Option<Command<'a>>
+    ensures { (file cert : List ℕ) → HasName (codes "file") file (rows_of (found_of matches.now)) → HasName (codes "cert") cert (rows_of (found_of matches.now))
+        → IsSomeAnd result (λ r. command_in r ≡ commands.Sheet file cert) }
+{
+    let file = name_in(matches, "file")?;
+    let cert = name_in(matches, "cert")?;
+    Some(Command::Sheet { file, cert })
+}
+
+fn make_from<'a>(matches: &ArgMatches<'a>) -> Option<Command<'a>>
+    ensures { (file : List ℕ) (seed : ℕ) → HasName (codes "file") file (rows_of (found_of matches.now)) → HasNumber (codes "seed") seed (rows_of (found_of matches.now))
+        → IsSomeAnd result (λ r. command_in r ≡ commands.Make file seed) }
+{
+    let file = name_in(matches, "file")?;
+    let seed = number_in(matches, "seed")?;
+    Some(Command::Make { file, seed })
+}
+
+fn drill_from<'a>(matches: &ArgMatches<'a>) -> Option<Command<'a>>
+    ensures { (turns seed : ℕ) → HasNumber (codes "turns") turns (rows_of (found_of matches.now)) → HasNumber (codes "seed") seed (rows_of (found_of matches.now))
+        → IsSomeAnd result (λ r. command_in r ≡ commands.Drill turns seed) }
+{
+    let turns = number_in(matches, "turns")?;
+    let seed = number_in(matches, "seed")?;
+    Some(Command::Drill { turns, seed })
 }
 
 fn upgrade_from<'a>(matches: &ArgMatches<'a>) -> Option<Command<'a>>

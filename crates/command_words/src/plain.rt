@@ -19,6 +19,13 @@ struct Takes {
     seed: bool,
 }
 
+/// What follows a verb that takes an instance and a certificate alone.
+const TWO_NAMES: Takes = Takes {
+    names: 2,
+    turns: false,
+    seed: false,
+};
+
 /// Whether the words are in plain form.
 pub(crate) fn are_plain(words: &[String]) -> bool
     ensures { result ≡ is_plain (texts_of words.now) }
@@ -42,10 +49,17 @@ fn form_of(verb: &str) -> Option<Takes>
             turns: true,
             seed: true,
         }),
-        "check" => Some(Takes {
-            names: 2,
+        "check" => Some(TWO_NAMES),
+        "sheet" => Some(TWO_NAMES),
+        "make" => Some(Takes {
+            names: 1,
             turns: false,
-            seed: false,
+            seed: true,
+        }),
+        "drill" => Some(Takes {
+            names: 0,
+            turns: true,
+            seed: true,
         }),
         "upgrade" => Some(Takes {
             names: 3,

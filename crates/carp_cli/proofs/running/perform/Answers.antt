@@ -1,20 +1,50 @@
-use Rattle.carp_cli.proofs.Performed.{helped, settled}
+use Rattle.std.proofs.Common.{◌≡◌, ◌∙◌, ℕ, ◌+◌, ◌%◌, ◌^◌, List, map, All, refl, subst, sym}
+use Rattle.std.specs.Prelude.{EachIndex, slice_index, IfOk, OnOk, Result, Ok, Err}
+use Rattle.command_words.specs.Forms.{command_in}
+use Rattle.command_works.specs.Works.{work_in}
+use Rattle.carp_cli.proofs.Performed.{asks_alike, by_status, job_prepared, refusal_prepared, refused_asks_none}
 use Rattle.carp_cli.proofs.running.perform.Goals as goal
 
-pub returns-in-Solve-clause-prepared : goal.returns-in-Solve-clause-prepared
-returns-in-Solve-clause-prepared g c = rw c.in-Solve.is (settled c.perform_solve.result c.settle.result c.perform_solve.ensures.performed c.settle.ensures)
+of_ok : {X E : Type 0} {P Q : X → Type 0} (r : Result X E) → IfOk r P → ((x : X) → P x → Q x) → IfOk r Q
+of_ok (Ok x) holds f = f x holds
+of_ok (Err e) holds f = tt
 
-pub returns-in-Solve-clause-seeds : goal.returns-in-Solve-clause-seeds
-returns-in-Solve-clause-seeds g c = rw c.in-Solve.is (helped _ c.perform_solve.result c.settle.result c.perform_solve.ensures.seeds c.perform_solve.ensures.performed c.settle.ensures)
+-- what is so of helpers that are asked
+if_asked : {X E : Type 0} (A Y : Type 0) (Q : X → Type 0) (r : Result X E) → (A → OnOk r Y) → IfOk r (λ x. A × Q x → Y)
+if_asked A Y Q (Ok x) holds = λ so. holds so.0
+if_asked A Y Q (Err e) holds = tt
 
-pub returns-in-Solve-clause-asked : goal.returns-in-Solve-clause-asked
-returns-in-Solve-clause-asked g c = rw c.in-Solve.is (helped _ c.perform_solve.result c.settle.result c.perform_solve.ensures.asked c.perform_solve.ensures.performed c.settle.ensures)
+pub returns-in-Ok-clause-prepared : goal.returns-in-Ok-clause-prepared
+returns-in-Ok-clause-prepared g c = of_ok c.make.result c.make.ensures.made (λ d made. job_prepared c.in-Ok.job d.status (work_in d) c.in-Ok.ensures.job c.in-Ok.ensures.tried made)
 
-pub returns-in-Solve-clause-fouls : goal.returns-in-Solve-clause-fouls
-returns-in-Solve-clause-fouls g c = rw c.in-Solve.is (helped _ c.perform_solve.result c.settle.result c.perform_solve.ensures.fouls c.perform_solve.ensures.performed c.settle.ensures)
+pub returns-in-Ok-clause-seeds : goal.returns-in-Ok-clause-seeds
+returns-in-Ok-clause-seeds g c =
+    let alike = asks_alike (command_in c.args.command) c.in-Ok.job c.in-Ok.ensures.job.is_for in
+    if_asked _ _ _ c.make.result (λ asks. subst (λ (s : ℕ). OnOk c.make.result (EachIndex c.make.new.helpers.items (λ k. slice_index (map g.P.Proposer.seed c.make.new.helpers.items) k ≡ (s + k) % 2 ^ 64)))
+    alike.1 (c.make.ensures.seeds (alike.0 ∙ asks)))
 
-pub returns-in-Check-clause-prepared : goal.returns-in-Check-clause-prepared
-returns-in-Check-clause-prepared g c = rw c.in-Check.is (settled c.perform_check.result c.settle-in-Check.result (c.perform_check.ensures.performed _) c.settle-in-Check.ensures)
+pub returns-in-Ok-clause-asked : goal.returns-in-Ok-clause-asked
+returns-in-Ok-clause-asked g c =
+    let alike = asks_alike (command_in c.args.command) c.in-Ok.job c.in-Ok.ensures.job.is_for in
+    if_asked _ _ _ c.make.result (λ asks. c.make.ensures.asked (alike.0 ∙ asks))
 
-pub returns-in-Upgrade-clause-prepared : goal.returns-in-Upgrade-clause-prepared
-returns-in-Upgrade-clause-prepared g c = rw c.in-Upgrade.is (settled c.perform_upgrade.result c.settle-in-Upgrade.result (c.perform_upgrade.ensures.performed _) c.settle-in-Upgrade.ensures)
+pub returns-in-Ok-clause-fouls : goal.returns-in-Ok-clause-fouls
+returns-in-Ok-clause-fouls g c =
+    let alike = asks_alike (command_in c.args.command) c.in-Ok.job c.in-Ok.ensures.job.is_for in
+    if_asked _ _ _ c.make.result (λ asks. c.make.ensures.fouls (alike.0 ∙ asks))
+
+pub returns-in-Err-Refused-clause-prepared : goal.returns-in-Err-Refused-clause-prepared
+returns-in-Err-Refused-clause-prepared g c =
+    of_ok c.refuse.result c.refuse.ensures (λ d is. refusal_prepared c.in-Err-Refused.status d.status (work_in d) (by_status c.in-Err-Refused.field-0 c.in-Err-Refused.status c.in-Err-Refused.field-0-is c.in-Err-Refused.ensures.tried) is.0 is.1)
+
+pub returns-in-Err-Refused-clause-seeds : goal.returns-in-Err-Refused-clause-seeds
+returns-in-Err-Refused-clause-seeds g c =
+    of_ok c.refuse.result c.refuse.ensures (λ d is. refused_asks_none (command_in c.args.command) c.in-Err-Refused.status d.status ((by_status c.in-Err-Refused.field-0 c.in-Err-Refused.status c.in-Err-Refused.field-0-is c.in-Err-Refused.ensures.tried).refusal c.in-Err-Refused.status refl) is.0)
+
+pub returns-in-Err-Refused-clause-asked : goal.returns-in-Err-Refused-clause-asked
+returns-in-Err-Refused-clause-asked g c =
+    of_ok c.refuse.result c.refuse.ensures (λ d is. refused_asks_none (command_in c.args.command) c.in-Err-Refused.status d.status ((by_status c.in-Err-Refused.field-0 c.in-Err-Refused.status c.in-Err-Refused.field-0-is c.in-Err-Refused.ensures.tried).refusal c.in-Err-Refused.status refl) is.0)
+
+pub returns-in-Err-Refused-clause-fouls : goal.returns-in-Err-Refused-clause-fouls
+returns-in-Err-Refused-clause-fouls g c =
+    of_ok c.refuse.result c.refuse.ensures (λ d is. refused_asks_none (command_in c.args.command) c.in-Err-Refused.status d.status ((by_status c.in-Err-Refused.field-0 c.in-Err-Refused.status c.in-Err-Refused.field-0-is c.in-Err-Refused.ensures.tried).refusal c.in-Err-Refused.status refl) is.0)

@@ -1,6 +1,6 @@
 use Rattle.std.proofs.Common.{inl, inr, subst}
 use Rattle.carp_cli.specs.Runs.{IsHelped}
-use Rattle.carp_cli.specs.Steps.{work_in}
+use Rattle.command_works.specs.Works.{work_in}
 use Rattle.command_words.specs.Words.{command_of, texts_of}
 use Rattle.carp_cli.proofs.Delivered.{cut_is_not_helped, delivered, memory_is_not_helped}
 use Rattle.carp_cli.proofs.running.run.Goals as goal

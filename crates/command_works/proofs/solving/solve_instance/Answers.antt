@@ -1,16 +1,15 @@
 use Rattle.std.proofs.Common.{rules, ◌≡◌, ◌≢◌, ℕ, ◌≤◌, ◌⊎◌, inl, inr}
+use Rattle.std.specs.Prelude.{IfOk, Result, Ok, Err}
 use Rattle.std.proofs.lemmas.List.Elements.{All-map}
 use Rattle.carp_engine.specs.Helpers.{IsAtMost}
 use Rattle.cert_lines.specs.Certificates.{Certificate}
 use Rattle.cert_format.specs.Certs.{certificate_in}
-use Rattle.carp_cli.proofs.Results.{of_ok}
-use Rattle.carp_cli.proofs.Performed.{solved_by}
-use Rattle.carp_cli.proofs.performing.solve_instance.Goals as goal
+use Rattle.command_works.proofs.Solved.{solved_by, spent}
+use Rattle.command_works.proofs.solving.solve_instance.Goals as goal
 
--- a bound that is not the cost is so only where the turns were spent
-spent : (bound cost asked turns : ℕ) → (bound ≡ cost) ⊎ (asked ≤ turns) → bound ≢ cost → asked ≤ turns
-spent bound cost asked turns (inl same) other = absurd (other same)
-spent bound cost asked turns (inr more) other = more
+of_ok : {X E : Type 0} {P Q : X → Type 0} (r : Result X E) → IfOk r P → ((x : X) → P x → Q x) → IfOk r Q
+of_ok (Ok x) holds f = f x holds
+of_ok (Err e) holds f = tt
 
 pub returns-clause-solved : goal.returns-clause-solved
 returns-clause-solved g c =

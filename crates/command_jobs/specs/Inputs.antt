@@ -1,0 +1,41 @@
+-- When what the files of a command hold has it refuse, and when it can be done.
+use Rattle.std.specs.Prelude.{ℕ, List, Option, ◌⊎◌}
+use Rattle.carp_base.specs.Problem.{Problem}
+use Rattle.dat_text.specs.Text.{IsTextOf}
+use Rattle.command_words.specs.Commands.{Command, Solve, Check, Sheet, Make, Drill, Upgrade, instance_at, certificate_at}
+use Rattle.command_files.specs.Files.{Holds, IsInstance, IsBadInstance, IsGoodText, IsBadCertificate, IsBadFile}
+use Rattle.command_files.specs.declared.status.Status.{Status}
+
+-- the first file is the text of an instance, and the second is refused so for it
+pub record IsBadSecond (file cert : List ℕ) (contents : List ℕ → Option (List ℕ)) (status : Status) : Type 0 where
+  pub instance : Problem
+  pub read : Holds (instance_at file) contents (λ bytes. IsTextOf bytes instance)
+  pub bad : IsBadFile (IsBadCertificate instance) (certificate_at cert) contents status
+
+-- the instance file is refused so, or, where it is the text of an instance, the certificate
+abbrev pub IsBadPair : (file cert : List ℕ) → (List ℕ → Option (List ℕ)) → Status → Type 0
+IsBadPair file cert contents status = IsBadFile IsBadInstance (instance_at file) contents status ⊎ IsBadSecond file cert contents status
+
+-- the first file is the text of an instance, and the second of a certificate that is good for it
+pub record IsGoodPair (file cert : List ℕ) (contents : List ℕ → Option (List ℕ)) : Type 0 where
+  pub instance : Problem
+  pub read : Holds (instance_at file) contents (λ bytes. IsTextOf bytes instance)
+  pub good : Holds (certificate_at cert) contents (IsGoodText instance)
+
+-- what names hold has a command refuse so; one that reads no file refuses nothing
+abbrev pub IsRefused : Command → (List ℕ → Option (List ℕ)) → Status → Type 0
+IsRefused (Solve file cert turns seed) contents status = IsBadFile IsBadInstance (instance_at file) contents status
+IsRefused (Check file cert) contents status = IsBadPair file cert contents status
+IsRefused (Sheet file cert) contents status = IsBadPair file cert contents status
+IsRefused (Make file seed) contents status = ⊥
+IsRefused (Drill turns seed) contents status = ⊥
+IsRefused (Upgrade file cert renewed) contents status = IsBadPair file cert contents status
+
+-- what names hold lets a command be done
+abbrev pub CanBeDone : Command → (List ℕ → Option (List ℕ)) → Type 0
+CanBeDone (Solve file cert turns seed) contents = Holds (instance_at file) contents IsInstance
+CanBeDone (Check file cert) contents = IsGoodPair file cert contents
+CanBeDone (Sheet file cert) contents = IsGoodPair file cert contents
+CanBeDone (Make file seed) contents = Unit {0}
+CanBeDone (Drill turns seed) contents = Unit {0}
+CanBeDone (Upgrade file cert renewed) contents = IsGoodPair file cert contents

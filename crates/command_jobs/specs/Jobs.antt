@@ -1,0 +1,83 @@
+-- The job of a command, and what is read for it.
+use Rattle.std.specs.Prelude.{◌≡◌, ℕ, Bool, false, true, List, Option, IsTrue}
+use Rattle.carp_base.specs.Problem.{Problem}
+use Rattle.plan_model.specs.Plans.{IsLawful}
+use Rattle.plan_model.specs.declared.step.Step.{Step}
+use Rattle.dat_text.specs.Text.{IsTextOf}
+use Rattle.cert_lines.specs.Certificates.{Certificate}
+use Rattle.cert_lines.specs.Spelling.{IsSpellable}
+use Rattle.cert_lines.specs.Texts as certificates
+use Rattle.cert_format.specs.Certs.{certificate_in}
+use Rattle.cert_format.specs.Good.{IsGood, IsProof, with_counts}
+use Rattle.cert_format.specs.declared.cert.Cert.{Cert}
+use Rattle.cert_checker.specs.declared.streaming.Checked.{Checked}
+use Rattle.command_words.specs.Commands.{Command, Solve, Check, Sheet, Make, Drill, Upgrade, instance_at, certificate_at}
+use Rattle.command_words.specs.Laws.{HasBudget}
+use Rattle.command_files.specs.Files.{Holds}
+use Rattle.command_jobs.specs.declared.job.Job.{Job}
+use Rattle.command_jobs.specs.declared.job.Job.TheVariants as jobs
+
+-- the job has the names and the numbers of the command
+abbrev pub IsFor : Command → Job → Type 0
+IsFor (Solve file cert turns seed) (jobs.Solve inst name asked drawn) = (name.now ≡ cert) × (asked ≡ turns) × (drawn ≡ seed)
+IsFor (Check file cert) (jobs.Check checked) = Unit {0}
+IsFor (Sheet file cert) (jobs.Sheet inst plan) = Unit {0}
+IsFor (Make file seed) (jobs.Make name drawn) = (name.now ≡ file) × (drawn ≡ seed)
+IsFor (Drill turns seed) (jobs.Drill asked drawn) = (asked ≡ turns) × (drawn ≡ seed)
+IsFor (Upgrade file cert renewed) (jobs.Upgrade c name) = name.now ≡ renewed
+IsFor _ _ = ⊥
+
+-- it can be done: its turns are in their range, its plan is lawful, and its certificate can be spelled
+abbrev pub IsSoundJob : Job → Type 0
+IsSoundJob (jobs.Solve inst name turns seed) = HasBudget (Solve name.now name.now turns seed)
+IsSoundJob (jobs.Check checked) = Unit {0}
+IsSoundJob (jobs.Sheet inst plan) = IsLawful inst plan
+IsSoundJob (jobs.Make name seed) = Unit {0}
+IsSoundJob (jobs.Drill turns seed) = HasBudget (Drill turns seed)
+IsSoundJob (jobs.Upgrade c name) = IsSpellable (certificate_in c)
+
+-- The two files are the texts of an instance and of a certificate that is good for it: its plan is lawful and costs what is stated, and no
+-- lawful plan costs less than its bound.
+pub record AreCertified (file cert : List ℕ) (contents : List ℕ → Option (List ℕ)) (instance : Problem) (certificate : Certificate) : Type 0 where
+  pub read : Holds (instance_at file) contents (λ bytes. IsTextOf bytes instance)
+  pub certified : Holds (certificate_at cert) contents (λ bytes. certificates.IsTextOf bytes certificate)
+  pub good : IsGood instance certificate
+  pub proof : IsProof instance certificate
+
+-- the certificate that was checked is of this cost and this bound
+pub record WasChecked (file cert : List ℕ) (contents : List ℕ → Option (List ℕ)) (checked : Checked) : Type 0 where
+  pub instance : Problem
+  pub certificate : Certificate
+  pub certified : AreCertified file cert contents instance certificate
+  pub cost : checked.cost ≡ certificate.cost
+  pub bound : checked.bound ≡ certificate.bound
+
+-- this is the instance, and the plan of the certificate
+pub record HasPlan (file cert : List ℕ) (contents : List ℕ → Option (List ℕ)) (instance : Problem) (plan : List (List Step)) : Type 0 where
+  pub certificate : Certificate
+  pub certified : AreCertified file cert contents instance certificate
+  pub plan_is : plan ≡ certificate.plan
+
+-- this is the certificate with the numbers of the instance, for which it is good too
+pub record WasRenewed (file cert : List ℕ) (contents : List ℕ → Option (List ℕ)) (renewed : Cert) : Type 0 where
+  pub instance : Problem
+  pub certificate : Certificate
+  pub certified : AreCertified file cert contents instance certificate
+  pub renewed_is : certificate_in renewed ≡ with_counts instance certificate
+  pub still_good : IsGood instance (with_counts instance certificate)
+
+-- what was read for the job is what the files of the command hold
+abbrev pub WasRead : Command → (List ℕ → Option (List ℕ)) → Job → Type 0
+WasRead (Solve file cert turns seed) contents (jobs.Solve inst name asked drawn) = Holds (instance_at file) contents (λ bytes. IsTextOf bytes inst)
+WasRead (Check file cert) contents (jobs.Check checked) = WasChecked file cert contents checked
+WasRead (Sheet file cert) contents (jobs.Sheet inst plan) = HasPlan file cert contents inst plan
+WasRead (Make file seed) contents (jobs.Make name drawn) = Unit {0}
+WasRead (Drill turns seed) contents (jobs.Drill asked drawn) = Unit {0}
+WasRead (Upgrade file cert renewed) contents (jobs.Upgrade c name) = WasRenewed file cert contents c
+WasRead _ contents _ = ⊥
+
+-- the job of a command; `held` says whether contents are told
+pub record IsJobOf (held : Bool) (c : Command) (contents : List ℕ → Option (List ℕ)) (job : Job) : Type 0 where
+  pub is_for : IsFor c job
+  pub sound : IsSoundJob job
+  pub was_read : IsTrue held → WasRead c contents job

@@ -1,0 +1,166 @@
+// Reads the files of a command.
+ghost use Rattle.std.specs.Prelude.{◌≡◌, ℕ, ◌≤◌, IfOk, IsTrue};
+ghost use Rattle.carp_outside.specs.Told.{SameContents};
+ghost use Rattle.cert_format.specs.Certs.{certificate_in};
+ghost use Rattle.cert_format.specs.Good.{with_counts};
+ghost use Rattle.command_words.specs.Commands.{Solve, Check, Sheet, Upgrade, reads};
+ghost use Rattle.command_words.specs.Forms.{command_in};
+ghost use Rattle.command_words.specs.Laws.{HasBudget};
+ghost use Rattle.command_files.specs.Reads.{IsTried};
+ghost use Rattle.command_jobs.specs.Inputs.{IsRefused, CanBeDone};
+ghost use Rattle.command_jobs.specs.Jobs.{IsJobOf};
+
+use crate::job::Job;
+use carp_base::{Fail, Instance};
+use carp_outside::Shelf;
+use cert_format::{Cert, counts_keep_good, counts_of, good_is_proof};
+use command_files::{Status, check_file, read_good, read_instance};
+use command_words::Command;
+use dat_text::readings_are_unique;
+use std::alloc::Global;
+
+/// Reads the files of a command, each of them whole before the next, and makes its job of them: the first file that can't be read, is too long or
+/// is bad ends it with its status. A command without files has its job at once.
+///
+/// It takes the time that reading the files and checking the certificate take.
+pub fn gather<'a, H: Shelf>(
+    alloc: Global,
+    command: Command<'a>,
+    shelf: &mut H,
+) -> Result<Job<'a>, Fail<Status>>
+    requires { HasBudget (command_in command) }
+    ensures job { IfOk result (IsJobOf H.tells (command_in command.entry) (H.contents shelf.old)) }
+    ensures tried { IsTried H.tells (reads (command_in command.entry)) (H.failed_looks shelf.old) (H.failed_looks shelf.new) (H.given shelf.old) (H.given shelf.new) (IsRefused (command_in command.entry) (H.contents shelf.old)) (CanBeDone (command_in command.entry) (H.contents shelf.old)) result }
+    ensures contents { IsTrue H.tells → SameContents (H.contents shelf.old) (H.contents shelf.new) }
+    ensures keeps { H.failed_keeps shelf.new ≡ H.failed_keeps shelf.old }
+{
+    match command {
+        Command::Solve {
+            file,
+            cert,
+            turns,
+            seed,
+        } => gather_instance(alloc, file, cert, turns, seed, shelf),
+        Command::Check { file, cert } => gather_checked(alloc, file, cert, shelf),
+        Command::Sheet { file, cert } => gather_plan(alloc, file, cert, shelf),
+        Command::Make { file, seed } => Ok(Job::Make { file, seed }),
+        Command::Drill { turns, seed } => Ok(Job::Drill { turns, seed }),
+        Command::Upgrade {
+            file,
+            cert,
+            renewed,
+        } => gather_renewed(alloc, file, cert, renewed, shelf),
+    }
+}
+
+// The instance to be solved.
+fn gather_instance<'a, H: Shelf>(
+    alloc: Global,
+    file: &str,
+    cert: &'a str,
+    turns: u64,
+    seed: u64,
+    shelf: &mut H,
+) -> Result<Job<'a>, Fail<Status>>
+    requires some_turns { 1 ≤ turns }
+    requires turns_in_range { turns ≤ 1048576 }
+    ensures job { IfOk result (IsJobOf H.tells (Solve file.now cert.now turns seed) (H.contents shelf.old)) }
+    ensures tried { IsTried H.tells (reads (Solve file.now cert.now turns seed)) (H.failed_looks shelf.old) (H.failed_looks shelf.new) (H.given shelf.old) (H.given shelf.new) (IsRefused (Solve file.now cert.now turns seed) (H.contents shelf.old)) (CanBeDone (Solve file.now cert.now turns seed) (H.contents shelf.old)) result }
+    ensures contents { IsTrue H.tells → SameContents (H.contents shelf.old) (H.contents shelf.new) }
+    ensures keeps { H.failed_keeps shelf.new ≡ H.failed_keeps shelf.old }
+{
+    match read_instance(alloc, shelf, file) {
+        Ok(inst) => Ok(Job::Solve {
+            inst,
+            cert,
+            turns,
+            seed,
+        }),
+        Err(fail) => Err(fail),
+    }
+}
+
+// What is left of a certificate that is good.
+fn gather_checked<'a, H: Shelf>(
+    alloc: Global,
+    file: &str,
+    cert: &str,
+    shelf: &mut H,
+) -> Result<Job<'a>, Fail<Status>>
+    ensures job { IfOk result (IsJobOf H.tells (Check file.now cert.now) (H.contents shelf.old)) }
+    ensures tried { IsTried H.tells (reads (Check file.now cert.now)) (H.failed_looks shelf.old) (H.failed_looks shelf.new) (H.given shelf.old) (H.given shelf.new) (IsRefused (Check file.now cert.now) (H.contents shelf.old)) (CanBeDone (Check file.now cert.now) (H.contents shelf.old)) result }
+    ensures contents { IsTrue H.tells → SameContents (H.contents shelf.old) (H.contents shelf.new) }
+    ensures keeps { H.failed_keeps shelf.new ≡ H.failed_keeps shelf.old }
+{
+    good_is_proof();
+    readings_are_unique();
+    match read_instance(alloc, shelf, file) {
+        Ok(inst) => match check_file(alloc, &inst, shelf, cert) {
+            Ok(checked) => Ok(Job::Check { checked }),
+            Err(fail) => Err(fail),
+        },
+        Err(fail) => Err(fail),
+    }
+}
+
+// The instance, and the plan of a certificate that is good.
+fn gather_plan<'a, H: Shelf>(
+    alloc: Global,
+    file: &str,
+    cert: &str,
+    shelf: &mut H,
+) -> Result<Job<'a>, Fail<Status>>
+    ensures job { IfOk result (IsJobOf H.tells (Sheet file.now cert.now) (H.contents shelf.old)) }
+    ensures tried { IsTried H.tells (reads (Sheet file.now cert.now)) (H.failed_looks shelf.old) (H.failed_looks shelf.new) (H.given shelf.old) (H.given shelf.new) (IsRefused (Sheet file.now cert.now) (H.contents shelf.old)) (CanBeDone (Sheet file.now cert.now) (H.contents shelf.old)) result }
+    ensures contents { IsTrue H.tells → SameContents (H.contents shelf.old) (H.contents shelf.new) }
+    ensures keeps { H.failed_keeps shelf.new ≡ H.failed_keeps shelf.old }
+{
+    good_is_proof();
+    readings_are_unique();
+    match read_instance(alloc, shelf, file) {
+        Ok(inst) => match check_file(alloc, &inst, shelf, cert) {
+            Ok(checked) => Ok(Job::Sheet {
+                inst,
+                plan: checked.plan,
+            }),
+            Err(fail) => Err(fail),
+        },
+        Err(fail) => Err(fail),
+    }
+}
+
+// A certificate that is good, with the numbers of the instance.
+fn gather_renewed<'a, H: Shelf>(
+    alloc: Global,
+    file: &str,
+    cert: &str,
+    renewed: &'a str,
+    shelf: &mut H,
+) -> Result<Job<'a>, Fail<Status>>
+    ensures job { IfOk result (IsJobOf H.tells (Upgrade file.now cert.now renewed.now) (H.contents shelf.old)) }
+    ensures tried { IsTried H.tells (reads (Upgrade file.now cert.now renewed.now)) (H.failed_looks shelf.old) (H.failed_looks shelf.new) (H.given shelf.old) (H.given shelf.new) (IsRefused (Upgrade file.now cert.now renewed.now) (H.contents shelf.old)) (CanBeDone (Upgrade file.now cert.now renewed.now) (H.contents shelf.old)) result }
+    ensures contents { IsTrue H.tells → SameContents (H.contents shelf.old) (H.contents shelf.new) }
+    ensures keeps { H.failed_keeps shelf.new ≡ H.failed_keeps shelf.old }
+{
+    good_is_proof();
+    counts_keep_good();
+    readings_are_unique();
+    match read_instance(alloc, shelf, file) {
+        Ok(inst) => match read_good(alloc, &inst, shelf, cert) {
+            Ok(good) => {
+                let cert = with_counts(&inst, good);
+                Ok(Job::Upgrade { cert, renewed })
+            }
+            Err(fail) => Err(fail),
+        },
+        Err(fail) => Err(fail),
+    }
+}
+
+// The certificate with the numbers of the instance.
+fn with_counts(inst: &Instance, mut cert: Cert) -> Cert
+    ensures { certificate_in result ≡ with_counts inst.now (certificate_in cert) }
+{
+    cert.counts = Some(counts_of(inst));
+    cert
+}

@@ -1,0 +1,33 @@
+// What a command has to do.
+
+use carp_base::Instance;
+use cert_checker::Checked;
+use cert_format::Cert;
+use plan_model::Plan;
+
+/// What a command has to do: its names and its numbers, and what was read of its files.
+#[derive(Drop)]
+pub enum Job<'a> {
+    /// Solves the instance, and keeps the certificate at `cert`.
+    Solve {
+        inst: Instance,
+        cert: &'a str,
+        /// 1 to 1,048,576.
+        turns: u64,
+        seed: u64,
+    },
+    /// Says that a certificate was accepted.
+    Check { checked: Checked },
+    /// Writes the street sheet of a lawful plan of the instance.
+    Sheet { inst: Instance, plan: Plan },
+    /// Keeps the town of a number at `file`.
+    Make { file: &'a str, seed: u64 },
+    /// Solves the town of a number, and checks its certificate.
+    Drill {
+        /// 1 to 1,048,576.
+        turns: u64,
+        seed: u64,
+    },
+    /// Keeps the certificate, which has the numbers of its instance, at `renewed`.
+    Upgrade { cert: Cert, renewed: &'a str },
+}

@@ -1,0 +1,13 @@
+use Rattle.std.proofs.Common.{◌≡◌, false, refl, rules, codes}
+use Rattle.std.specs.Str.{bytes_eq}
+use Rattle.command_words.proofs.plain.form_of.Goals as goal
+
+pub returns-in_default : goal.returns-in_default
+returns-in_default c =
+    let solve : bytes_eq (codes "solve") c.args.verb.now ≡ false = search rules in
+    let check : bytes_eq (codes "check") c.args.verb.now ≡ false = search rules in
+    let sheet : bytes_eq (codes "sheet") c.args.verb.now ≡ false = search rules in
+    let make : bytes_eq (codes "make") c.args.verb.now ≡ false = search rules in
+    let drill : bytes_eq (codes "drill") c.args.verb.now ≡ false = search rules in
+    let upgrade : bytes_eq (codes "upgrade") c.args.verb.now ≡ false = search rules in
+    rw (solve, check, sheet, make, drill, upgrade) refl

@@ -1,0 +1,5 @@
+pub mod Works
+pub mod Solving
+pub mod Texts
+pub mod Drills
+pub mod Made

@@ -1,0 +1,44 @@
+-- What is made of a job.
+use Rattle.std.specs.Prelude.{◌≡◌, ◌⊎◌, ℕ, Bool, true, false, List, [], ◌∷◌, Option, codes}
+use Rattle.cert_lines.specs.Texts as certificates
+use Rattle.cert_format.specs.Certs.{certificate_in}
+use Rattle.cert_format.specs.declared.cert.Cert.{Cert}
+use Rattle.dat_text.specs.DatText.{dat_of}
+use Rattle.plan_print.specs.Sheet.{sheet_text}
+use Rattle.town_maker.specs.Towns.{town_of}
+use Rattle.command_jobs.specs.declared.job.Job.{Job}
+use Rattle.command_jobs.specs.declared.job.Job.TheVariants.{Solve, Check, Sheet, Make, Drill, Upgrade}
+use Rattle.command_files.specs.declared.status.Status.{Status}
+use Rattle.command_files.specs.declared.status.Status.TheVariants.{Proven, Gap, Accepted, Done}
+use Rattle.command_works.specs.Works.{Work}
+use Rattle.command_works.specs.Solving.{IsSolvedBy}
+use Rattle.command_works.specs.Drills.{IsDrilled}
+use Rattle.command_works.specs.Texts.{answer_text, made_text}
+
+-- a name is to hold the text of this certificate, and its cost and its bound are to be written
+pub record IsKeptAgain (c : Cert) (renewed : List ℕ) (work : Work) : Type 0 where
+  pub kept_text : List ℕ
+  pub kept_is : certificates.IsTextOf kept_text (certificate_in c)
+  pub keeps : work.kept ≡ record { name = renewed; bytes = kept_text } ∷ []
+  pub writes : work.text ≡ answer_text (codes "upgraded\n") c.cost c.bound
+
+-- a job is done with this answer and this work, where helpers offered such costs
+abbrev pub IsMade : Job → List (Option ℕ) → Status → Work → Type 0
+IsMade (Solve inst cert turns seed) offered status work = ((status ≡ Proven) ⊎ (status ≡ Gap)) × IsSolvedBy inst cert.now turns offered status work
+IsMade (Check checked) offered status work = (status ≡ Accepted) × (work ≡ record { kept = []; text = answer_text (codes "accepted\n") checked.cost checked.bound })
+IsMade (Sheet inst plan) offered status work = (status ≡ Done) × (work ≡ record { kept = []; text = sheet_text inst plan })
+IsMade (Make file seed) offered status work =
+    (status ≡ Done) × (work ≡ record { kept = record { name = file.now; bytes = dat_of (town_of seed) } ∷ []; text = made_text (town_of seed) })
+IsMade (Drill turns seed) offered status work = (status ≡ Done) × IsDrilled seed turns offered work
+IsMade (Upgrade c renewed) offered status work = (status ≡ Done) × IsKeptAgain c renewed.now work
+
+-- whether a job asks the helpers, and the seed with which it does
+abbrev pub job_asks : Job → Bool
+job_asks (Solve inst cert turns seed) = true
+job_asks (Drill turns seed) = true
+job_asks _ = false
+
+abbrev pub job_seed : Job → ℕ
+job_seed (Solve inst cert turns seed) = seed
+job_seed (Drill turns seed) = seed
+job_seed _ = 0

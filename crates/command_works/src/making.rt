@@ -1,0 +1,45 @@
+// Does a job.
+ghost use Rattle.std.specs.Prelude.{◌≡◌, ◌≤◌, ◌+◌, ◌%◌, ◌^◌, All, EachIndex, map, slice_index, false, true, IfOk, OnOk};
+ghost use Rattle.command_jobs.specs.Jobs.{IsSoundJob};
+ghost use Rattle.command_works.specs.Made.{IsMade, job_asks, job_seed};
+ghost use Rattle.command_works.specs.Works.{work_in};
+
+use crate::answers::{accept, keep_town, renew, spell_sheet};
+use crate::delivery::Delivery;
+use crate::drilling::drill;
+use crate::solving::solve_instance;
+use carp_base::Memory;
+use command_jobs::Job;
+use plan_model::Proposer;
+use std::alloc::Global;
+
+/// Does a job, with the aid of the helpers where it solves an instance: they are seeded from the job's seed on. All other jobs leave them as they are.
+///
+/// Its error says only that memory was not to be had.
+pub fn make<'a, P: Proposer>(
+    alloc: Global,
+    job: &Job<'a>,
+    helpers: &mut Vec<P>,
+) -> Result<Delivery<'a>, Memory>
+    requires { IsSoundJob job.now }
+    ensures made { IfOk result (λ d. IsMade job.now (map (λ helper. (P.tally helper).least) helpers.new.items) d.status (work_in d)) }
+    ensures same { map P.id helpers.new.items ≡ map P.id helpers.old.items }
+    ensures unasked { job_asks job.now ≡ false → helpers.new.items ≡ helpers.old.items }
+    ensures seeds { job_asks job.now ≡ true → OnOk result (EachIndex helpers.new.items (λ k. slice_index (map P.seed helpers.new.items) k ≡ (job_seed job.now + k) % 2 ^ 64)) }
+    ensures asked { job_asks job.now ≡ true → OnOk result (All (λ helper. 1 ≤ P.asked helper) helpers.new.items) }
+    ensures fouls { job_asks job.now ≡ true → OnOk result (All (λ helper. (P.tally helper).fouls ≤ 1) helpers.new.items) }
+{
+    match job {
+        Job::Solve {
+            inst,
+            cert,
+            turns,
+            seed,
+        } => solve_instance(alloc, inst, cert, *turns, *seed, helpers),
+        Job::Check { checked } => accept(alloc, checked.cost, checked.bound),
+        Job::Sheet { inst, plan } => spell_sheet(alloc, inst, plan),
+        Job::Make { file, seed } => keep_town(alloc, file, *seed),
+        Job::Drill { turns, seed } => drill(alloc, *turns, *seed, helpers),
+        Job::Upgrade { cert, renewed } => renew(alloc, cert, renewed),
+    }
+}

@@ -1,0 +1,67 @@
+// Solves an instance.
+ghost use Rattle.std.specs.Prelude.{◌≡◌, ◌⊎◌, ◌≢◌, ◌≤◌, ◌^◌, ◌%◌, ◌+◌, [], ◌∷◌, All, EachIndex, map, slice_index, IfOk, OnOk};
+ghost use Rattle.command_works.specs.Solving.{IsSolvedBy};
+ghost use Rattle.command_works.specs.Works.{work_in};
+
+use crate::delivery::{Delivery, Kept};
+use carp_base::{Instance, Memory};
+use carp_engine::solve;
+use cert_format::write_cert;
+use command_files::Status;
+use plan_model::Proposer;
+use plan_print::report;
+use std::alloc::Global;
+
+/// Solves an instance with so many turns, and with the aid of the helpers, which are seeded from the seed on; and builds the texts of its certificate, which is to be
+/// kept under this name, and of its report.
+pub(crate) fn solve_instance<'a, P: Proposer>(
+    alloc: Global,
+    inst: &Instance,
+    cert: &'a str,
+    turns: u64,
+    seed: u64,
+    helpers: &mut Vec<P>,
+) -> Result<Delivery<'a>, Memory>
+    requires some_turns { 1 ≤ turns }
+    requires turns_in_range { turns ≤ 1048576 }
+    ensures solved { IfOk result (λ d. ((d.status ≡ Status.Proven) ⊎ (d.status ≡ Status.Gap)) × IsSolvedBy inst.now cert.now turns (map (λ helper. (P.tally helper).least) helpers.new.items) d.status (work_in d)) }
+    ensures same { map P.id helpers.new.items ≡ map P.id helpers.old.items }
+    ensures seeds { OnOk result (EachIndex helpers.new.items (λ k. slice_index (map P.seed helpers.new.items) k ≡ (seed + k) % 2 ^ 64)) }
+    ensures asked { OnOk result (All (λ helper. 1 ≤ P.asked helper) helpers.new.items) }
+    ensures fouls { OnOk result (All (λ helper. (P.tally helper).fouls ≤ 1) helpers.new.items) }
+{
+    let solved = solve(alloc, inst, turns, seed, helpers)?;
+    let bytes = write_cert(alloc, &solved.cert)?;
+    let text = report(alloc, inst, &solved.cert, solved.turns)?;
+    let status = ending(solved.cert.bound, solved.cert.cost);
+    deliver_one(alloc, cert, bytes, text, status)
+}
+
+// What is answered for a bound and a cost.
+fn ending(bound: u64, cost: u64) -> Status
+    ensures proven { bound ≡ cost → result ≡ Status.Proven }
+    ensures gap { bound ≢ cost → result ≡ Status.Gap }
+    ensures is_proven { result ≡ Status.Proven → bound ≡ cost }
+    ensures is_gap { result ≡ Status.Gap → bound ≢ cost }
+{
+    if bound == cost {
+        Status::Proven
+    } else {
+        Status::Gap
+    }
+}
+
+/// An answer that keeps these bytes at one name.
+pub(crate) fn deliver_one(
+    alloc: Global,
+    name: &str,
+    bytes: Vec<u8>,
+    text: Vec<u8>,
+    status: Status,
+) -> Result<Delivery<'_>, Memory>
+    ensures { IfOk result (λ d. (work_in d ≡ record { kept = record { name = name.now; bytes = bytes.items } ∷ []; text = text.items }) × (d.status ≡ status)) }
+{
+    let mut kept = Vec::with_capacity(alloc, 1)?;
+    kept.push(Kept { name, bytes })?;
+    Ok(Delivery { kept, text, status })
+}
