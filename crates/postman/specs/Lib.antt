@@ -1,2 +1,4 @@
 pub mod Rounds
+pub mod Refusals
 pub mod Laws
+pub mod Trails
