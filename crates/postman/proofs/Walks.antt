@@ -88,7 +88,7 @@ walk_parity p inside a (s ∷ steps) b leads =
 first_and_second : (x : Edge) (v : ℕ) → x.u ≢ x.v → one_if (crosses (λ w. w == v) x) ≡ one_if (x.u == v) + one_if (x.v == v)
 first_and_second x v no_loop = elim (cases_eq x.u v) [
   | inl first ↦ rw (eq-eqb x.u v first, ne_eqb x.v v (λ second. no_loop (first ∙ sym second))) refl
-  | inr other ↦ rw (ne_eqb x.u v other) refl
+  | inr other ↦ rw (ne_eqb x.u v other) (omega arith)
 ]
 
 pub ends_count : (x : Edge) (forward : Bool) (v : ℕ) → x.u ≢ x.v →

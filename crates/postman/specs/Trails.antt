@@ -115,6 +115,12 @@ abbrev pub work_left : Problem → List Step → List Step → Option ℕ → �
 work_left p stack walk None = 0
 work_left p stack walk (Some v) = suc (2 * (p.required + length p.edges) - length stack - 2 * length walk)
 
+-- one step on from the vertex at hand to the next one, or to the end
+pub record Advances (p : Problem) (left : List ℕ) (stack walk : List Step) (v : ℕ) (left' next' : List ℕ) (stack' walk' : List Step) (to : Option ℕ) : Type 0 where
+  pub stands : Stands p left' next' stack' walk' to
+  pub spends : Spends p left stack walk left' stack' walk'
+  pub less : work_left p stack' walk' to < work_left p stack walk (Some v)
+
 -- crossings from which a circuit is laid: they make each vertex even
 pub record IsStart (p : Problem) (left next : List ℕ) : Type 0 where
   pub long : length left ≡ length p.edges

@@ -1,10 +1,10 @@
 // One step of a circuit that is being laid.
-ghost use Rattle.std.specs.Prelude.{◌≡◌, ℕ, ◌+◌, ◌-◌, ◌^◌, ◌<◌, ◌≤◌, ◌++◌, ◌∷◌, [], List, Some, length, slice_index, slice_set, IfOk, OnOk, MatchOption};
-ghost use Rattle.carp_base.specs.Problem.{IsEdgeNumber, IsVertex, edge_at};
+ghost use Rattle.std.specs.Prelude.{◌≡◌, ℕ, ◌+◌, ◌-◌, ◌^◌, ◌<◌, ◌≤◌, ◌++◌, ◌∷◌, [], List, length, slice_index, slice_set, IfOk, OnOk};
+ghost use Rattle.carp_base.specs.Problem.{IsEdgeNumber, IsValid, IsVertex, edge_at};
 ghost use Rattle.plan_model.specs.declared.step.Step.{Step as OneStep};
 ghost use Rattle.road_network.specs.Incidence.{far_end, incident};
 ghost use Rattle.edge_components.specs.Parts.{parts_of};
-ghost use Rattle.postman.specs.Trails.{IsTrail, IsTurned, Spends, Stands, crossing, work_left};
+ghost use Rattle.postman.specs.Trails.{Advances, IsTrail, IsTurned, crossing};
 
 use carp_base::{Instance, Memory};
 use plan_model::{Step, Walk};
@@ -80,11 +80,10 @@ pub(crate) fn advance(
     stack: &mut Vec<Step>,
     walk: &mut Walk,
 ) -> Result<Option<u32>, Memory>
+    requires valid { IsValid inst.now }
     requires net { net.now ≡ inst.now }
     requires trail { IsTrail inst.now left.old next.old stack.old.items walk.old v }
-    ensures stands { IfOk result (λ to. Stands inst.now left.new next.new stack.new.items walk.new to) }
-    ensures spends { OnOk result (Spends inst.now left.old stack.old.items walk.old left.new stack.new.items walk.new) }
-    ensures less { IfOk result (λ to. work_left inst.now stack.new.items walk.new to < work_left inst.now stack.old.items walk.old (Some v)) }
+    ensures { IfOk result (λ to. Advances inst.now left.old stack.old.items walk.old v left.new next.new stack.new.items walk.new to) }
 {
     let i = first_open(net, left, v, next[v as usize]);
     next[v as usize] = i;
