@@ -4,3 +4,6 @@ pub mod Paying
 pub mod Worth
 pub mod Crossing
 pub mod Turning
+pub mod Laid
+pub mod Least
+pub mod Apart
