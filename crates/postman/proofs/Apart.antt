@@ -1,5 +1,6 @@
 -- Required edges that are joined to the depot, by labels of the components of the required edges.
-use Rattle.std.proofs.Common.{◌≡◌, ℕ, zero, suc, ◌+◌, ◌<◌, ◌≤◌, Bool, true, false, not, List, [], ◌∷◌, ◌++◌, replicate, refl, sym, ap, ◌∙◌, subst, arith, inl, inr, Option, None, Some}
+use Rattle.std.proofs.Common.{◌≡◌, ℕ, zero, suc, ◌+◌, ◌<◌, ◌≤◌, Bool, true, false, not, List, [], ◌∷◌, ◌++◌, length, replicate, take, refl, sym, ap, ◌∙◌, subst, arith, inl, inr, Option, None, Some}
+use Rattle.std.proofs.Math.Seq.{take-append_seam}
 use Rattle.std.specs.Prelude.{if◌then◌else◌, nat_le, slice_index, MatchOption}
 use Rattle.std.specs.List.{AllByRecursion}
 use Rattle.std.proofs.lemmas.Bool.{cases_Bool, le-leb, leb-true}
@@ -16,6 +17,10 @@ use Rattle.postman.proofs.Walks.{turned_head, turned_tail}
 no_parts : (n e : ℕ) → parts_of (replicate n 0) e ≡ 0
 no_parts n zero = refl
 no_parts n (suc k) = zeros n k
+
+-- a lent slice that comes back as the whole list
+pub whole : (xs ys : List ℕ) (n : ℕ) (got : List ℕ) → n ≡ length xs → got ≡ take n (xs ++ ys) → got ≡ xs
+whole xs ys n got len is = is ∙ ap (λ k. take k (xs ++ ys)) len ∙ take-append_seam xs ys
 
 -- the parts of required edges, and of no others
 pub one_part : (p : Problem) (n : ℕ) (before x : List ℕ) → before ≡ replicate n 0 → ((e : ℕ) → IsEdgeNumber p e → parts_of x e ≡ parts_of before e + one_service p e) →
