@@ -1,6 +1,5 @@
 -- An edge is crossed from the vertex at hand.
-use Rattle.std.proofs.Common.{◌≡◌, ◌≢◌, ℕ, zero, suc, ◌+◌, ◌-◌, ◌*◌, ◌%◌, ◌<◌, ◌≤◌, ◌==◌, ◌||◌, Bool, true, false, cond, eqb, List, [], ◌∷◌, ◌++◌, length, get_or, set, refl, sym, ap, ◌∙◌, subst, arith, inl, inr, Some}
-use Rattle.std.specs.Prelude.{if◌then◌else◌}
+use Rattle.std.proofs.Common.{◌≡◌, ℕ, zero, suc, ◌+◌, ◌-◌, ◌%◌, ◌<◌, ◌≤◌, ◌==◌, ◌||◌, Bool, true, false, eqb, List, [], ◌∷◌, ◌++◌, length, get_or, set, sym, ap, ◌∙◌, arith, inl, inr, Some}
 use Rattle.std.proofs.lemmas.Bool.{cases_eq, cases_lt, ne_eqb, eq-eqb, eqb-true, false≢true}
 use Rattle.std.proofs.lemmas.List.{length-set, length_push, get_or-set_same, get_or-set_other}
 use Rattle.std.proofs.lemmas.List.Sums.{sum_by_push}
@@ -9,7 +8,7 @@ use Rattle.carp_base.specs.Problem.{Problem, IsValid, IsEdgeNumber, IsVertex, ed
 use Rattle.plan_model.specs.declared.step.Step.{Step}
 use Rattle.road_network.specs.Incidence.{far_end, has_end, incident}
 use Rattle.edge_components.specs.Parts.{parts_of}
-use Rattle.postman.specs.Trails.{Advances, IsSpent, IsTrail, Spends, crossing, is_service, left_at, one_each, one_if, work_left, worth_left, worth_of}
+use Rattle.postman.specs.Trails.{Advances, IsSpent, IsTrail, crossing, left_at, one_each, one_if, worth_left, worth_of}
 use Rattle.postman.proofs.Walks.{all_map, ends_count, leads_more}
 use Rattle.postman.proofs.Worth.{at_less, none_stays, ones, parts_read, spent_stays, worth_less}
 

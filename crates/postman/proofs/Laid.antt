@@ -1,21 +1,21 @@
 -- A circuit that was laid is a round of little cost.
-use Rattle.std.proofs.Common.{◌≡◌, ◌≢◌, ℕ, zero, suc, ◌+◌, ◌-◌, ◌*◌, ◌%◌, ◌<◌, ◌≤◌, ◌==◌, ◌||◌, ◌&&◌, Bool, true, false, not, cond, eqb, List, [], ◌∷◌, ◌++◌, length, get_or, replicate, refl, sym, ap, ◌∙◌, subst, arith, inl, inr, Option, None}
+use Rattle.std.proofs.Common.{◌≡◌, ◌≢◌, ℕ, zero, suc, ◌+◌, ◌*◌, ◌≤◌, ◌==◌, ◌||◌, ◌&&◌, Bool, true, false, not, cond, eqb, List, [], ◌∷◌, length, get_or, replicate, refl, sym, ap, ◌∙◌, subst, arith, inl, inr, Option, None}
 use Rattle.std.specs.Prelude.{if◌then◌else◌, nat_le, IsTrue}
-use Rattle.std.specs.List.{AllByRecursion, count_by, sum_by}
+use Rattle.std.specs.List.{AllByRecursion, count_by}
 use Rattle.std.proofs.lemmas.Bool.{cases_Bool, cases_eq, ne_eqb, eq-eqb, eqb-true, false≢true, le-leb, leb-true, or_right}
 use Rattle.std.proofs.lemmas.List.{length-replicate}
 use Rattle.std.proofs.lemmas.List.Sums.{sum_by-cons}
 use Rattle.carp_base.specs.declared.edge.Edge.{Edge}
 use Rattle.carp_base.specs.declared.edge.Task.{Task}
-use Rattle.carp_base.specs.Problem.{Problem, IsValid, IsEdgeNumber, IsRequired, IsVertex, TasksLead, edge_at, head_of, required_cost, tail_of}
+use Rattle.carp_base.specs.Problem.{Problem, IsValid, IsEdgeNumber, IsRequired, TasksLead, edge_at, head_of, tail_of}
 use Rattle.plan_model.specs.declared.step.Step.{Step}
-use Rattle.plan_model.specs.Plans.{Leads, crosses, serves, walk_cost}
+use Rattle.plan_model.specs.Plans.{Leads, crosses, serves}
 use Rattle.plan_model.specs.Sums.{sum_to}
 use Rattle.road_network.specs.Incidence.{has_end}
 use Rattle.cut_pool.specs.Shores.{required_crossings}
 use Rattle.edge_components.specs.Parts.{parts_of, parts_over}
-use Rattle.matching_duals.specs.Joins.{MakesEven, join_cost}
-use Rattle.postman.specs.Rounds.{AreJoined, IsRound}
+use Rattle.matching_duals.specs.Joins.{MakesEven}
+use Rattle.postman.specs.Rounds.{AreJoined}
 use Rattle.postman.specs.Trails.{IsCheapRound, IsCircuit, IsLaid, IsSpent, IsStart, Spends, Stands, left_at, one_each, one_if, one_service, worth, worth_left, worth_of}
 use Rattle.postman.proofs.Sums.{sum_to-add, sum_to-edge_at, sum_to-front, sum_to-most, sum_to-same, sum_to-single, sum_to-zero}
 use Rattle.postman.proofs.Walks.{on_edges}

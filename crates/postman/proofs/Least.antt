@@ -1,6 +1,6 @@
 -- A round of least deadheads is least.
 use Rattle.std.proofs.Common.{◌≡◌, ℕ, zero, suc, ◌+◌, ◌*◌, ◌≤◌, List, length, arith}
-use Rattle.carp_base.specs.Problem.{Problem, IsValid, IsEdgeNumber, edge_at, required_cost}
+use Rattle.carp_base.specs.Problem.{Problem, IsValid, edge_at, required_cost}
 use Rattle.plan_model.specs.declared.step.Step.{Step}
 use Rattle.cut_pool.specs.declared.shore.Weighted.{Weighted}
 use Rattle.edge_components.specs.Parts.{parts_of}

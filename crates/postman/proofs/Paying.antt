@@ -1,18 +1,18 @@
 -- The deadheads of a round make every vertex even, so it costs at least its services and the least join.
-use Rattle.std.proofs.Common.{◌≡◌, ℕ, zero, suc, ◌+◌, ◌*◌, ◌%◌, ◌≤◌, ◌==◌, Bool, true, false, not, ◌&&◌, cond, List, [], ◌∷◌, ◌++◌, length, refl, sym, ap, ◌∙◌, subst, arith, inl, inr}
+use Rattle.std.proofs.Common.{◌≡◌, ℕ, zero, suc, ◌+◌, ◌*◌, ◌%◌, ◌≤◌, ◌==◌, Bool, true, false, not, ◌&&◌, cond, List, [], ◌∷◌, ◌++◌, length, refl, sym, ap, ◌∙◌, arith, inl, inr}
 use Rattle.std.specs.Prelude.{if◌then◌else◌, IsTrue}
-use Rattle.std.specs.List.{AllByRecursion, count_by, sum_by}
+use Rattle.std.specs.List.{count_by, sum_by}
 use Rattle.std.proofs.lemmas.Bool.{cases_lt}
 use Rattle.std.proofs.lemmas.List.{get_or_append_left, get_or_push, length_push}
-use Rattle.carp_base.specs.Problem.{Problem, IsValid, IsEdgeNumber, IsRequired, edge_at, required_cost, required_edges}
+use Rattle.carp_base.specs.Problem.{Problem, IsValid, IsEdgeNumber, IsRequired, edge_at, required_cost}
 use Rattle.plan_model.specs.declared.step.Step.{Step}
 use Rattle.plan_model.specs.Plans.{crosses, walk_cost}
 use Rattle.plan_model.specs.Sums.{sum_to}
 use Rattle.cut_pool.specs.Shores.{required_crossings}
 use Rattle.edge_components.specs.Parts.{parts_of, parts_over}
-use Rattle.matching_duals.specs.Joins.{IsLeastJoin, MakesEven, join_cost}
+use Rattle.matching_duals.specs.Joins.{IsLeastJoin, MakesEven}
 use Rattle.postman.specs.Rounds.{IsRound}
-use Rattle.postman.specs.Trails.{one_if, worth_of}
+use Rattle.postman.specs.Trails.{one_if}
 use Rattle.postman.proofs.Sums.{sum_to-same, sum_to-edge_at}
 use Rattle.postman.proofs.Walks.{all_map, by_edges, on_edges, over, split, walk_parity}
 

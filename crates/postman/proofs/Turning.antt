@@ -1,17 +1,16 @@
 -- No crossing is left at the vertex at hand, so the last step goes to the walk.
-use Rattle.std.proofs.Common.{◌≡◌, ◌≢◌, ℕ, zero, suc, ◌+◌, ◌-◌, ◌*◌, ◌%◌, ◌<◌, ◌≤◌, ◌==◌, ◌||◌, Bool, true, false, not, cond, List, [], ◌∷◌, ◌++◌, length, get_or, set, refl, sym, ap, ◌∙◌, subst, arith, inl, inr, Option, None, Some}
+use Rattle.std.proofs.Common.{◌≡◌, ℕ, ◌+◌, ◌<◌, ◌≤◌, ◌==◌, ◌||◌, Bool, true, false, not, cond, List, [], ◌∷◌, ◌++◌, length, get_or, set, refl, sym, ap, ◌∙◌, subst, arith, inl, inr, Option, None, Some}
 use Rattle.std.specs.Prelude.{if◌then◌else◌}
 use Rattle.std.specs.List.{Contains}
 use Rattle.std.proofs.lemmas.Bool.{cases_eq, cases_lt, ne_eqb, eq-eqb}
 use Rattle.std.proofs.lemmas.List.{length-set, length_push, get_or_default}
 use Rattle.std.proofs.lemmas.List.Sums.{sum_by_push}
-use Rattle.carp_base.specs.declared.edge.Edge.{Edge}
-use Rattle.carp_base.specs.Problem.{Problem, IsValid, IsEdgeNumber, IsVertex, edge_at, head_of, tail_of}
+use Rattle.carp_base.specs.Problem.{Problem, IsValid, IsEdgeNumber, IsVertex, edge_at, tail_of}
 use Rattle.plan_model.specs.declared.step.Step.{Step}
 use Rattle.plan_model.specs.Plans.{IsWalk, Leads, crosses}
 use Rattle.road_network.specs.Incidence.{has_end, incident}
 use Rattle.edge_components.specs.Parts.{parts_of}
-use Rattle.postman.specs.Trails.{Advances, IsCircuit, IsMoved, IsSpent, IsTrail, IsTurned, IsUnmoved, Spends, Stands, left_at, one_each, one_if, turned, work_left, worth_left, worth_of}
+use Rattle.postman.specs.Trails.{Advances, IsSpent, IsTrail, IsTurned, IsUnmoved, left_at, one_each, one_if, turned, worth_left, worth_of}
 use Rattle.postman.proofs.Sums.{sum_to-same, sum_to-zero}
 use Rattle.postman.proofs.Walks.{IsLast, all_push, leads_last, leads_more, turned_head, turned_tail}
 use Rattle.postman.proofs.Worth.{ones}

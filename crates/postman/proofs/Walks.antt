@@ -1,5 +1,5 @@
 -- Walks step by step: their last steps, what they cross, and sums over their steps by edges.
-use Rattle.std.proofs.Common.{◌≡◌, ◌≢◌, ℕ, zero, suc, ◌+◌, ◌*◌, ◌%◌, ◌≤◌, ◌==◌, Bool, true, false, not, ◌&&◌, cond, eqb, List, [], ◌∷◌, ◌++◌, refl, sym, ap, ◌∙◌, subst, arith, inl, inr}
+use Rattle.std.proofs.Common.{◌≡◌, ◌≢◌, ℕ, ◌+◌, ◌*◌, ◌%◌, ◌≤◌, ◌==◌, Bool, true, false, not, ◌&&◌, cond, List, [], ◌∷◌, ◌++◌, refl, sym, ap, ◌∙◌, arith, inl, inr}
 use Rattle.std.specs.Prelude.{if◌then◌else◌, IsTrue}
 use Rattle.std.specs.List.{AllByRecursion, count_by, sum_by}
 use Rattle.std.proofs.lemmas.Bool.{cases_eq, ne_eqb, eq-eqb}
@@ -9,7 +9,7 @@ use Rattle.carp_base.specs.Problem.{Problem, IsEdgeNumber, edge_at, head_of, tai
 use Rattle.plan_model.specs.declared.step.Step.{Step}
 use Rattle.plan_model.specs.Plans.{Leads, crosses}
 use Rattle.plan_model.specs.Sums.{sum_to}
-use Rattle.postman.specs.Trails.{one_if, turned, worth_of}
+use Rattle.postman.specs.Trails.{one_if, worth_of}
 use Rattle.postman.proofs.Sums.{sum_to-add, sum_to-same, sum_to-single, sum_to-zero}
 
 pub turned_tail : (x : Edge) (forward : Bool) → tail_of x (not forward) ≡ head_of x forward

@@ -1,6 +1,6 @@
 -- Rounds: closed walks from the depot that serve each required edge, by one vehicle without a limit (the rural postman problem;
 -- Eiselt, Gendreau and Laporte 1995, part II).
-use Rattle.std.specs.Prelude.{◌≡◌, ◌≢◌, ℕ, ◌+◌, ◌*◌, ◌<◌, ◌≤◌, List, IsTrue, count_by, length, not}
+use Rattle.std.specs.Prelude.{◌≡◌, ℕ, ◌+◌, ◌*◌, ◌<◌, ◌≤◌, List, IsTrue, count_by, length, not}
 use Rattle.std.specs.List.{All, AllByRecursion}
 use Rattle.carp_base.specs.declared.edge.Task.{Task}
 use Rattle.carp_base.specs.Problem.{Problem, IsRequired, TasksLead, edge_at, required_cost}

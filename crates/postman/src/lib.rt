@@ -15,6 +15,8 @@ mod fault;
 mod joined;
 mod laws;
 mod round;
+#[cfg(test)]
+mod tests;
 mod trail;
 
 pub use fault::PostmanFault;

@@ -1,4 +1,4 @@
-use Rattle.std.proofs.Common.{◌≡◌, ℕ, suc, ◌+◌, ◌≤◌, List, ap, sym, ◌∙◌, replicate, subst}
+use Rattle.std.proofs.Common.{suc, ◌+◌, ap, ◌∙◌, replicate}
 use Rattle.postman.proofs.Laid.{cheap_round, starts}
 use Rattle.postman.proofs.circuit.lay_circuit.Goals as goal
 

@@ -1,4 +1,4 @@
-use Rattle.std.proofs.Common.{◌≡◌, ℕ, ◌+◌, List, arith, length, drop, ap, sym, ◌∙◌, subst}
+use Rattle.std.proofs.Common.{◌≡◌, ℕ, ◌+◌, List, arith, length, drop, ap, sym, subst}
 use Rattle.carp_base.specs.Problem.{IsEdgeNumber}
 use Rattle.edge_components.specs.Labels.{AreLabels}
 use Rattle.edge_components.specs.Parts.{parts_of}
