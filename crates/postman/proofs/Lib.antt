@@ -7,3 +7,4 @@ pub mod Turning
 pub mod Laid
 pub mod Least
 pub mod Apart
+pub mod Small

@@ -2,3 +2,4 @@ pub mod Rounds
 pub mod Refusals
 pub mod Laws
 pub mod Trails
+pub mod Examples

@@ -11,6 +11,8 @@
 #![tactic(auto)]
 
 mod circuit;
+#[cfg(test)]
+mod examples;
 mod fault;
 mod joined;
 mod laws;
