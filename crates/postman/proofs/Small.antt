@@ -2,11 +2,10 @@
 use Rattle.std.proofs.Common.{◌≡◌, ◌≢◌, ℕ, zero, suc, ◌≤◌, Bool, true, false, List, [], ◌∷◌, refl, arith}
 use Rattle.std.specs.List.{AllByRecursion, count_by}
 use Rattle.carp_base.specs.declared.edge.Task.{Task}
-use Rattle.carp_base.specs.Problem.{Problem, IsEdgeNumber, IsRequired, TasksLead, edge_at, tail_of}
-use Rattle.plan_model.specs.declared.step.Step.{Step}
+use Rattle.carp_base.specs.Problem.{IsEdgeNumber, IsRequired, TasksLead, edge_at, tail_of}
 use Rattle.plan_model.specs.Plans.{serves}
 use Rattle.postman.specs.Examples.{no_street, once_more, one_street, out_and_back, street_apart}
-use Rattle.postman.specs.Rounds.{AreJoined, IsFirstApart, IsJoined, IsLeastRound, IsRound}
+use Rattle.postman.specs.Rounds.{AreJoined, IsFirstApart, IsJoined, IsRound}
 
 pub first_edge : IsEdgeNumber one_street 1
 first_edge = record { from_one = omega arith; in_range = omega arith }

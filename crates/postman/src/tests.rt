@@ -299,7 +299,9 @@ fn least_of_all(alloc: Global, required: &[RawEdge], ways: &[u64]) -> Result<u64
             lower(&mut table, place, value);
         }
     }
-    let all = 1u64.wrapping_shl(required.len().min(6) as u32).wrapping_sub(1);
+    let all = 1u64
+        .wrapping_shl(required.len().min(6) as u32)
+        .wrapping_sub(1);
     let mut least = if required.is_empty() { 0 } else { u64::MAX };
     for s in 0..12u64 {
         if has(all, s) {
