@@ -1,10 +1,11 @@
 -- Rounds and joined edges of small instances.
-use Rattle.std.proofs.Common.{◌≡◌, ◌≢◌, ℕ, zero, suc, ◌≤◌, Bool, true, false, List, [], ◌∷◌, refl, arith}
+use Rattle.std.proofs.Common.{◌≡◌, ◌≢◌, ℕ, zero, suc, ◌≤◌, ◌%◌, Bool, true, false, List, [], ◌∷◌, get_or, refl, arith}
 use Rattle.std.specs.List.{AllByRecursion, count_by}
 use Rattle.carp_base.specs.declared.edge.Task.{Task}
-use Rattle.carp_base.specs.Problem.{IsEdgeNumber, IsRequired, TasksLead, edge_at, tail_of}
+use Rattle.carp_base.specs.Problem.{IsEdgeNumber, IsRequired, IsVertex, TasksLead, edge_at, tail_of}
 use Rattle.plan_model.specs.Plans.{serves}
 use Rattle.postman.specs.Examples.{no_street, once_more, one_street, out_and_back, street_apart}
+use Rattle.postman.specs.Trails.{IsSpent, IsStart, left_at}
 use Rattle.postman.specs.Rounds.{AreJoined, IsFirstApart, IsJoined, IsRound}
 
 pub first_edge : IsEdgeNumber one_street 1
@@ -60,3 +61,26 @@ apart joined = no_path joined.path joined.required joined.leads
 
 pub first_apart : IsFirstApart street_apart 1
 first_apart = record { required = apart_required; apart = apart; before = λ d required less. absurd (omega (arith, required.from_one, less)) }
+
+pub end_spent : IsSpent one_street (0 ∷ []) 1
+end_spent zero number there = refl
+end_spent (suc zero) number there = refl
+end_spent (suc (suc k)) number there = refl
+
+fresh : (v : ℕ) → ◌≡◌ {A = ℕ} (get_or (0 ∷ 0 ∷ 0 ∷ []) v 0) 0
+fresh zero = refl
+fresh (suc zero) = refl
+fresh (suc (suc zero)) = refl
+fresh (suc (suc (suc k))) = refl
+
+even : (v : ℕ) → 1 ≤ v → v ≤ 2 → left_at one_street (2 ∷ []) v % 2 ≡ 0
+even zero one most = absurd (omega (arith, one))
+even (suc zero) one most = refl
+even (suc (suc zero)) one most = refl
+even (suc (suc (suc k))) one most = absurd (omega (arith, most))
+
+pub street_starts : IsStart one_street (2 ∷ []) (0 ∷ 0 ∷ 0 ∷ [])
+street_starts = record { long = refl; wide = refl; fresh = fresh; even = λ v vertex. even v vertex.from_one vertex.in_range; few = omega arith }
+
+pub depot_in : IsVertex one_street 1
+depot_in = record { from_one = omega arith; in_range = omega arith }

@@ -16,6 +16,8 @@ mod examples;
 mod fault;
 mod joined;
 mod laws;
+#[cfg(test)]
+mod order_tests;
 mod round;
 #[cfg(test)]
 mod tests;

@@ -1,6 +1,6 @@
 use Rattle.std.proofs.Common.{arith}
 use Rattle.postman.specs.Examples.{out_and_back}
-use Rattle.postman.proofs.Small.{back_is_round, stays_is_round}
+use Rattle.postman.proofs.Small.{back_is_round}
 use Rattle.postman.proofs.examples.least_rounds.Goals as goal
 
 pub returns-clause-least : goal.returns-clause-least
