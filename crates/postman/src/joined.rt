@@ -1,6 +1,6 @@
 // Whether the required edges hang together with the depot.
-ghost use Rattle.std.specs.Prelude.{◌≡◌, ℕ, ◌+◌, ◌≤◌, ◌<◌, length, slice_index, nat_le, IfOk, MatchOption, if◌then◌else◌};
-ghost use Rattle.carp_base.specs.Problem.{IsEdgeNumber, IsVertex, edge_at};
+ghost use Rattle.std.specs.Prelude.{◌≡◌, ℕ, ◌+◌, ◌≤◌, ◌<◌, length, slice_index, IfOk, MatchOption};
+ghost use Rattle.carp_base.specs.Problem.{IsEdgeNumber};
 ghost use Rattle.edge_components.specs.Labels.{AreInRange};
 ghost use Rattle.edge_components.specs.Parts.{parts_of};
 ghost use Rattle.postman.specs.Rounds.{AreJoined, IsFirstApart};
