@@ -1,0 +1,10 @@
+pub mod Sums
+pub mod Walks
+pub mod Paying
+pub mod Worth
+pub mod Crossing
+pub mod Turning
+pub mod Laid
+pub mod Least
+pub mod Apart
+pub mod Small

@@ -1,0 +1,28 @@
+//! A least closed walk from the depot that serves each required edge, for one vehicle without a limit: the rural
+//! postman problem (Eiselt, Gendreau and Laporte 1995).
+//!
+//! Where the required edges hang together with the depot, the least walk is found exactly: deadheads of least cost
+//! that make every vertex even, and then a circuit over all of them (Edmonds and Johnson 1973).
+//!
+//! - `joined`: whether the required edges hang together with the depot.
+//! - `trail`, `circuit`: a circuit over required edges and deadheads (Hierholzer 1873).
+//! - `round`: the walk with its cost, and the sets of vertices that show that none costs less.
+//! - `laws`: what is proved of all such walks.
+#![tactic(auto)]
+
+mod circuit;
+#[cfg(test)]
+mod examples;
+mod fault;
+mod joined;
+mod laws;
+#[cfg(test)]
+mod order_tests;
+mod round;
+#[cfg(test)]
+mod tests;
+mod trail;
+
+pub use fault::PostmanFault;
+pub use laws::rounds_pay_joins;
+pub use round::{Round, postman};
