@@ -11,8 +11,9 @@ use Rattle.cert_format.specs.Good.{IsGood}
 use Rattle.cert_checker.specs.declared.reason.Reason.{Reason}
 use Rattle.cert_checker.specs.Reasons.{IsFirstReason}
 use Rattle.command_words.specs.Commands.{Source}
+use Rattle.postman.specs.Rounds.{AreJoined, IsFirstApart}
 use Rattle.command_files.specs.declared.status.Status.{Status}
-use Rattle.command_files.specs.declared.status.Status.TheVariants.{BadInstance, BadCertificate, Rejected, TooLong}
+use Rattle.command_files.specs.declared.status.Status.TheVariants.{BadInstance, BadCertificate, NotJoined, Rejected, TooLong}
 
 -- the file is held and not too long, and this is so of its bytes
 abbrev pub Holds : Source → (List ℕ → Option (List ℕ)) → (List ℕ → Type 0) → Type 0
@@ -55,6 +56,23 @@ pub record IsRejectedText (p : Problem) (bytes : List ℕ) (status : Status) : T
 
 abbrev pub IsBadCertificate : Problem → List ℕ → Status → Type 0
 IsBadCertificate p bytes status = IsBadText bytes status ⊎ IsRejectedText p bytes status
+
+-- the bytes are the text of an instance, whose required edges hang together with the depot
+pub record IsJoinedText (bytes : List ℕ) : Type 0 where
+  pub instance : Problem
+  pub text : IsTextOf bytes instance
+  pub joined : AreJoined instance
+
+-- or of one whose required edges do not, and this is the least one apart
+pub record IsApartText (bytes : List ℕ) (status : Status) : Type 0 where
+  pub instance : Problem
+  pub text : IsTextOf bytes instance
+  pub edge : ℕ
+  pub first : IsFirstApart instance edge
+  pub named : status ≡ NotJoined edge
+
+abbrev pub IsBadRound : List ℕ → Status → Type 0
+IsBadRound bytes status = IsBadInstance bytes status ⊎ IsApartText bytes status
 
 -- the file is refused with this status: it is too long, or its bytes are bad
 abbrev pub IsBadFile : (List ℕ → Status → Type 0) → Source → (List ℕ → Option (List ℕ)) → Status → Type 0

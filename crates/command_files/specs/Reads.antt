@@ -15,16 +15,22 @@ use Rattle.cert_format.specs.declared.cert.Cert.{Cert}
 use Rattle.cert_checker.specs.declared.reason.Answer.TheVariants as answers
 use Rattle.cert_checker.specs.declared.reason.Answer.{Answer}
 use Rattle.cert_checker.specs.declared.streaming.Checked.{Checked}
+use Rattle.dat_text.specs.Text.{IsTextOf}
+use Rattle.postman.specs.Rounds.{IsShownRound}
+use Rattle.postman.specs.declared.fault.PostmanFault.{PostmanFault}
+use Rattle.postman.specs.declared.fault.PostmanFault.TheVariants as faults
 use Rattle.command_words.specs.Commands.{Source}
+use Rattle.command_files.specs.declared.rounds.Laid.{Laid}
 use Rattle.command_files.specs.Files.{Holds, IsBadFile, HasLimit, RoseAtSome}
 use Rattle.command_files.specs.declared.status.Status.{Status}
-use Rattle.command_files.specs.declared.status.Status.TheVariants.{BadInstance, BadCertificate, Rejected, ReadFault, TooLong}
+use Rattle.command_files.specs.declared.status.Status.TheVariants.{BadInstance, BadCertificate, NotJoined, Rejected, ReadFault, TooLong}
 
 -- an answer by which a file is refused, and one by which its bytes are
 abbrev pub IsOfBytes : Status → Type 0
 IsOfBytes (BadInstance fault) = Unit {0}
 IsOfBytes (BadCertificate fault) = Unit {0}
 IsOfBytes (Rejected reason) = Unit {0}
+IsOfBytes (NotJoined edge) = Unit {0}
 IsOfBytes status = ⊥
 
 abbrev pub IsRefusal : Status → Type 0
@@ -80,6 +86,15 @@ pub record IsAcceptedText (p : Problem) (bytes : List ℕ) (checked : Checked) :
 abbrev pub accepted_of : Checked → Answer → Result Checked (Fail Status)
 accepted_of checked answers.Accepted = Ok checked
 accepted_of checked (answers.Rejected reason) = Err (Refused (Rejected reason))
+
+-- the instance with this text, and a least round of it
+pub record IsRoundOf (bytes : List ℕ) (laid : Laid) : Type 0 where
+  pub text : IsTextOf bytes laid.inst
+  pub round : IsShownRound laid.inst laid.round.walk laid.round.shores.items laid.round.cost
+
+-- the status names the fault
+abbrev pub IsNamed : PostmanFault → Status → Type 0
+IsNamed (faults.NotJoined edge) status = status ≡ NotJoined edge
 
 -- a good certificate with this text
 pub record IsGoodCert (p : Problem) (bytes : List ℕ) (cert : Cert) : Type 0 where

@@ -1,14 +1,16 @@
 //! The files that a command reads.
 //!
-//! [`read_instance`], [`check_file`] and [`read_good`] read a file from a [`carp_outside::Shelf`] and make something of its bytes, or answer
+//! [`read_instance`], [`check_file`], [`read_good`] and [`read_round`] read a file from a [`carp_outside::Shelf`] and make something of its bytes, or answer
 //! the [`Status`] by which the command ends: the file could not be read, it is too long, or its bytes are bad. What becomes of a file is said as one
 //! record (`IsFileRead` of `specs/Reads.antt`), so that a command that reads two files composes two of them.
 #![tactic(auto)]
 
 mod reading;
+mod rounds;
 mod status;
 #[cfg(test)]
 mod tests;
 
 pub use reading::{check_file, read_good, read_instance};
+pub use rounds::{Laid, read_round};
 pub use status::Status;

@@ -22,7 +22,7 @@ use dat_text::{read_dat, readings_are_unique};
 use std::alloc::Global;
 
 /// The most bytes of an instance file.
-const INSTANCE_LIMIT: u64 = 4_194_304;
+pub(crate) const INSTANCE_LIMIT: u64 = 4_194_304;
 
 /// The most bytes of a certificate.
 const CERTIFICATE_LIMIT: u64 = 268_435_456;
@@ -101,8 +101,8 @@ pub fn read_good<H: Shelf>(
     }
 }
 
-// All bytes of a file.
-fn read_file<H: Shelf>(
+/// All bytes of a file.
+pub(crate) fn read_file<H: Shelf>(
     alloc: Global,
     shelf: &mut H,
     file: &str,
@@ -124,8 +124,8 @@ fn read_file<H: Shelf>(
     }
 }
 
-// The instance that the bytes of a file describe.
-fn parse_instance(alloc: Global, bytes: &[u8]) -> Result<Instance, Fail<Status>>
+/// The instance that the bytes of a file describe.
+pub(crate) fn parse_instance(alloc: Global, bytes: &[u8]) -> Result<Instance, Fail<Status>>
     requires { length bytes.now < 2 ^ 32 }
     ensures { IsParsed bytes.now IsTextOf IsBadInstance IsInstance result }
 {

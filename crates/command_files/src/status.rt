@@ -32,13 +32,15 @@ pub enum Status {
     Memory,
     /// A file has more bytes than this limit.
     TooLong(u64),
+    /// The required edges do not hang together with the depot; this is the least one apart.
+    NotJoined(u32),
 }
 
 impl Status {
     ghost use Rattle.command_files.specs.Codes.{code_of};
 
     /// The status code of the process: 0 where the command was done, 1 where a plan was found with a gap, 2 where a certificate was
-    /// rejected, and from 3 to 9 otherwise.
+    /// rejected, and from 3 to 10 otherwise.
     pub fn code(&self) -> u8
         ensures { result ≡ code_of self.now }
     {
@@ -53,6 +55,7 @@ impl Status {
             Status::WriteFault => 7,
             Status::Memory => 8,
             Status::TooLong(_) => 9,
+            Status::NotJoined(_) => 10,
         }
     }
 }

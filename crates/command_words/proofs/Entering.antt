@@ -82,3 +82,21 @@ upgrade_enters = record {
       let stops = walk_stopped top.rules names (walk_from nothing_held) (codes "upgrade") [] words in rw (← stops, left, passes) refl;
   rows_are = λ words. let stops = walk_stopped top.rules names (walk_from nothing_held) (codes "upgrade") [] words in rw (← stops) refl;
 }
+
+pub postman_enters : Enters (codes "postman")
+unfolding clap_on_literals top names
+postman_enters = record {
+  takes_is = λ words passes.
+      let left = left_over top names (walk_from nothing_held) (codes "postman") [] words in
+      let stops = walk_stopped top.rules names (walk_from nothing_held) (codes "postman") [] words in rw (← stops, left, passes) refl;
+  rows_are = λ words. let stops = walk_stopped top.rules names (walk_from nothing_held) (codes "postman") [] words in rw (← stops) refl;
+}
+
+pub fleet_enters : Enters (codes "fleet")
+unfolding clap_on_literals top names
+fleet_enters = record {
+  takes_is = λ words passes.
+      let left = left_over top names (walk_from nothing_held) (codes "fleet") [] words in
+      let stops = walk_stopped top.rules names (walk_from nothing_held) (codes "fleet") [] words in rw (← stops, left, passes) refl;
+  rows_are = λ words. let stops = walk_stopped top.rules names (walk_from nothing_held) (codes "fleet") [] words in rw (← stops) refl;
+}

@@ -6,7 +6,7 @@ use Rattle.clap.specs.Simple.{Shape, built, label_of, new_shape}
 use Rattle.clap.specs.Walk.{Row, Text, answers_to}
 use Rattle.clap.specs.Words.{one_of}
 use Rattle.command_words.specs.Grammar.{HasNumber, IsRead, grammar_app}
-use Rattle.command_words.specs.Commands.{Command, Solve, Check, Sheet, Make, Drill, Upgrade}
+use Rattle.command_words.specs.Commands.{Command, Solve, Check, Sheet, Make, Drill, Upgrade, Postman, Fleet}
 use Rattle.command_words.specs.Words.{is_number, number_of}
 use Rattle.command_words.proofs.Walking.{IsPlainText, Reads, goes_end, goes_name, goes_on, goes_value, reads}
 
@@ -105,6 +105,31 @@ module _ (file : Text) (f : IsPlainText file) where
     rows = _;
     level = reads (goes_name f refl (goes_on refl refl (goes_value h goes_end))) refl;
     read = (refl, refl, given (codes "seed") n refl digits);
+  }
+
+module _ (file : Text) (f : IsPlainText file) where
+  pub postman_read : IsReadAs (codes "postman") (file ∷ []) (Postman file)
+  unfolding clap_on_literals
+  postman_read = record {
+    rows = _;
+    level = reads (goes_name f refl goes_end) refl;
+    read = (refl, refl);
+  }
+
+  pub fleet_read : IsReadAs (codes "fleet") (file ∷ []) (Fleet file 64)
+  unfolding clap_on_literals
+  fleet_read = record {
+    rows = _;
+    level = reads (goes_name f refl goes_end) refl;
+    read = (refl, refl, given (codes "turns") (codes "64") refl refl);
+  }
+
+  pub fleet_turns_read : (n : Text) → is_number n ≡ true → IsPlainText n → IsReadAs (codes "fleet") (file ∷ codes "--turns" ∷ n ∷ []) (Fleet file (number_of n))
+  unfolding clap_on_literals
+  fleet_turns_read n digits h = record {
+    rows = _;
+    level = reads (goes_name f refl (goes_on refl refl (goes_value h goes_end))) refl;
+    read = (refl, refl, given (codes "turns") n refl digits);
   }
 
 pub drill_read : IsReadAs (codes "drill") [] (Drill 4 1)

@@ -10,11 +10,11 @@ use Rattle.clap.specs.Takes.{takes}
 use Rattle.clap.specs.Walk.{Row, Text}
 use Rattle.clap.specs.Words.{subcommand_of}
 use Rattle.command_words.specs.Grammar.{IsRead, grammar_app}
-use Rattle.command_words.specs.Commands.{Command, Solve, Check, Sheet, Make, Drill, Upgrade}
-use Rattle.command_words.specs.Words.{Form, are_names, are_options, are_turns, check, command_of, drill, forms, given, is_digit, is_followed, is_given, is_name, is_number, is_option, is_plain, make, seed_word, sheet, solve, turns_word, upgrade}
+use Rattle.command_words.specs.Commands.{Command, Solve, Check, Sheet, Make, Drill, Upgrade, Postman, Fleet}
+use Rattle.command_words.specs.Words.{Form, are_names, are_options, are_turns, check, command_of, drill, fleet, forms, given, is_digit, is_followed, is_given, is_name, is_number, is_option, is_plain, make, postman, seed_word, sheet, solve, turns_word, upgrade}
 use Rattle.command_words.proofs.Numbers.{both}
-use Rattle.command_words.proofs.Levels.{IsReadAs, check_read, drill_read, drill_seed_first, drill_seed_read, drill_turns_first, drill_turns_read, make_read, make_seed_read, seed_first, seed_read, sheet_read, solve_read, turns_first, turns_read, upgrade_read}
-use Rattle.command_words.proofs.Entering.{Enters, check_enters, drill_enters, make_enters, sheet_enters, solve_enters, upgrade_enters}
+use Rattle.command_words.proofs.Levels.{IsReadAs, check_read, drill_read, drill_seed_first, drill_seed_read, drill_turns_first, drill_turns_read, fleet_read, fleet_turns_read, make_read, make_seed_read, postman_read, seed_first, seed_read, sheet_read, solve_read, turns_first, turns_read, upgrade_read}
+use Rattle.command_words.proofs.Entering.{Enters, check_enters, drill_enters, fleet_enters, make_enters, postman_enters, sheet_enters, solve_enters, upgrade_enters}
 use Rattle.command_words.proofs.Walking.{IsPlainText, plain_text}
 
 -- plain words are taken, and read as their command
@@ -151,30 +151,38 @@ none_read (word ∷ n ∷ more) e =
     let m = both (is_option false false word n) (not (is_given word more)) k.0 in
     absurd (true≢false (sym m.0 ∙ no_option (bytes_eq word turns_word) (bytes_eq word seed_word) (are_turns n) (is_number n)))
 
--- options that take a seed alone
-seed_only : (word n : Text) → is_option false true word n ≡ true → (word ≡ seed_word) × (is_number n ≡ true)
+-- options of which one alone is taken: this word, and a number
+module _ (turns seed : Bool) (one : Text) (only : (word n : Text) → is_option turns seed word n ≡ true → (word ≡ one) × (is_number n ≡ true))
+  (Is : List Text → Type 0) (none : Is []) (once : (n : Text) → is_number n ≡ true → IsPlainText n → Is (one ∷ n ∷ [])) where
+  pub read_alone : (options : List Text) → are_options turns seed options ≡ true → Is options
+  read_alone [] e = none
+  read_alone (word ∷ []) e = cc
+  read_alone (word ∷ n ∷ []) e =
+      let k = both (is_option turns seed word n && not (is_given word [])) true e in
+      let m = both (is_option turns seed word n) (not (is_given word [])) k.0 in
+      let p = only word n m.0 in subst (λ w. Is (w ∷ n ∷ [])) (sym p.0) (once n p.1 (number_text n p.1))
+  read_alone (word ∷ n ∷ other ∷ []) e =
+      let k = both (is_option turns seed word n && not (is_given word (other ∷ []))) (are_options turns seed (other ∷ [])) e in cc
+  read_alone (word ∷ n ∷ other ∷ l ∷ more) e =
+      let k = both (is_option turns seed word n && not (is_given word (other ∷ l ∷ more))) (are_options turns seed (other ∷ l ∷ more)) e in
+      let m = both (is_option turns seed word n) (not (is_given word (other ∷ l ∷ more))) k.0 in
+      let k' = both (is_option turns seed other l && not (is_given other more)) (are_options turns seed more) k.1 in
+      let m' = both (is_option turns seed other l) (not (is_given other more)) k'.0 in
+      absurd (differ word other l more (flip (is_given word (other ∷ l ∷ more)) m.1) ((only word n m.0).0 ∙ sym (only other l m'.0).0))
+
+only_seed : (word n : Text) → is_option false true word n ≡ true → (word ≡ seed_word) × (is_number n ≡ true)
 unfolding is_option
-seed_only word n e = elim (either (bytes_eq word turns_word && (false && are_turns n)) (bytes_eq word seed_word && (true && is_number n)) e) [
+only_seed word n e = elim (either (bytes_eq word turns_word && (false && are_turns n)) (bytes_eq word seed_word && (true && is_number n)) e) [
   | inl t ↦ absurd (true≢false (sym (both (bytes_eq word turns_word) (false && are_turns n) t).1))
   | inr s ↦ let k = both (bytes_eq word seed_word) (true && is_number n) s in (same word seed_word k.0, k.1)
 ]
 
-module _ (Is : List Text → Type 0) (none : Is []) (one_seed : (n : Text) → is_number n ≡ true → IsPlainText n → Is (seed_word ∷ n ∷ [])) where
-  pub seed_read_alone : (options : List Text) → are_options false true options ≡ true → Is options
-  seed_read_alone [] e = none
-  seed_read_alone (word ∷ []) e = cc
-  seed_read_alone (word ∷ n ∷ []) e =
-      let k = both (is_option false true word n && not (is_given word [])) true e in
-      let m = both (is_option false true word n) (not (is_given word [])) k.0 in
-      let p = seed_only word n m.0 in subst (λ w. Is (w ∷ n ∷ [])) (sym p.0) (one_seed n p.1 (number_text n p.1))
-  seed_read_alone (word ∷ n ∷ other ∷ []) e =
-      let k = both (is_option false true word n && not (is_given word (other ∷ []))) (are_options false true (other ∷ [])) e in cc
-  seed_read_alone (word ∷ n ∷ other ∷ l ∷ more) e =
-      let k = both (is_option false true word n && not (is_given word (other ∷ l ∷ more))) (are_options false true (other ∷ l ∷ more)) e in
-      let m = both (is_option false true word n) (not (is_given word (other ∷ l ∷ more))) k.0 in
-      let k' = both (is_option false true other l && not (is_given other more)) (are_options false true more) k.1 in
-      let m' = both (is_option false true other l) (not (is_given other more)) k'.0 in
-      absurd (differ word other l more (flip (is_given word (other ∷ l ∷ more)) m.1) ((seed_only word n m.0).0 ∙ sym (seed_only other l m'.0).0))
+only_turns : (word n : Text) → is_option true false word n ≡ true → (word ≡ turns_word) × (is_number n ≡ true)
+unfolding is_option
+only_turns word n e = elim (either (bytes_eq word turns_word && (true && are_turns n)) (bytes_eq word seed_word && (false && is_number n)) e) [
+  | inl t ↦ let k = both (bytes_eq word turns_word) (true && are_turns n) t in (same word turns_word k.0, (both (is_number n) _ (both _ _ k.1).0).0)
+  | inr s ↦ absurd (true≢false (sym (both (bytes_eq word seed_word) (false && is_number n) s).1))
+]
 
 -- the names of plain words
 module _ (word : Text) (words : List Text) (e : are_names (word ∷ words) ≡ true) where
@@ -232,7 +240,7 @@ makes (file ∷ options) e =
     let names = (both (nat_le 1 (length (file ∷ options))) (are_names (file ∷ [])) k.0).1 in
     let f = first_name file [] names in
     means (codes "make") (file ∷ options) _ make_enters (rw e refl)
-    (seed_read_alone (λ options. IsReadAs (codes "make") (file ∷ options) (Make file (given seed_word 1 options))) (make_read file f) (make_seed_read file f) options k.1)
+    (read_alone false true seed_word only_seed (λ options. IsReadAs (codes "make") (file ∷ options) (Make file (given seed_word 1 options))) (make_read file f) (make_seed_read file f) options k.1)
 
 drills : (words : List Text) → Follows (row (codes "drill") 0 (Some 4) (Some 1) drill) words
 drills options e =
@@ -253,6 +261,23 @@ upgrades (file ∷ cert ∷ renewed ∷ options) e =
     (subst (λ rest. IsReadAs (codes "upgrade") (file ∷ cert ∷ renewed ∷ rest) (Upgrade file cert renewed)) (sym (none_read options k.1))
     (upgrade_read file cert (first_name file (cert ∷ renewed ∷ []) names) (first_name cert (renewed ∷ []) others) renewed (first_name renewed [] (other_names cert (renewed ∷ []) others))))
 
+postmen : (words : List Text) → Follows (row (codes "postman") 1 None None postman) words
+postmen [] e = cc
+postmen (file ∷ options) e =
+    let k = both (nat_le 1 (length (file ∷ options)) && are_names (file ∷ [])) (are_options false false options) e in
+    let names = (both (nat_le 1 (length (file ∷ options))) (are_names (file ∷ [])) k.0).1 in
+    means (codes "postman") (file ∷ options) (Postman file) postman_enters (rw e refl)
+    (subst (λ rest. IsReadAs (codes "postman") (file ∷ rest) (Postman file)) (sym (none_read options k.1)) (postman_read file (first_name file [] names)))
+
+fleets : (words : List Text) → Follows (row (codes "fleet") 1 (Some 64) None fleet) words
+fleets [] e = cc
+fleets (file ∷ options) e =
+    let k = both (nat_le 1 (length (file ∷ options)) && are_names (file ∷ [])) (are_options true false options) e in
+    let names = (both (nat_le 1 (length (file ∷ options))) (are_names (file ∷ [])) k.0).1 in
+    let f = first_name file [] names in
+    means (codes "fleet") (file ∷ options) _ fleet_enters (rw e refl)
+    (read_alone true false turns_word only_turns (λ options. IsReadAs (codes "fleet") (file ∷ options) (Fleet file (given turns_word 64 options))) (fleet_read file f) (fleet_turns_read file f) options k.1)
+
 -- words that follow a verb of some rows, where those of each row mean their command
 by_rows : (rows : List Form) (verb : Text) (words : List Text) → AllByRecursion (λ form. Follows form words) rows
     → option_map_or (λ form. is_followed form words) (find (λ form. bytes_eq form.verb verb) rows) false ≡ true → Means (verb ∷ words)
@@ -267,4 +292,4 @@ by_rows (form ∷ rows) verb words each e = by (bytes_eq form.verb verb) refl (�
 -- the verb of plain words is one of the table
 pub plain_means : (words : List Text) → is_plain words ≡ true → Means words
 plain_means [] e = cc
-plain_means (verb ∷ words) e = by_rows forms verb words (solves words, (checks words, (sheets words, (makes words, (drills words, (upgrades words, tt)))))) e
+plain_means (verb ∷ words) e = by_rows forms verb words (solves words, (checks words, (sheets words, (makes words, (drills words, (upgrades words, (postmen words, (fleets words, tt)))))))) e

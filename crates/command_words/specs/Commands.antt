@@ -8,6 +8,8 @@ pub data Command : Type 0 where
   Make : (file : List ℕ) (seed : ℕ) → Command
   Drill : (turns seed : ℕ) → Command
   Upgrade : (file cert renewed : List ℕ) → Command
+  Postman : (file : List ℕ) → Command
+  Fleet : (file : List ℕ) (turns : ℕ) → Command
 
 -- a file that is read, and the most bytes that it may have
 pub record Source : Type 0 where
@@ -28,6 +30,8 @@ reads (Sheet file cert) = instance_at file ∷ certificate_at cert ∷ []
 reads (Make file seed) = []
 reads (Drill turns seed) = []
 reads (Upgrade file cert renewed) = instance_at file ∷ certificate_at cert ∷ []
+reads (Postman file) = instance_at file ∷ []
+reads (Fleet file turns) = instance_at file ∷ []
 
 -- the names that a command keeps where it is done, in order
 abbrev pub keeps : Command → List (List ℕ)
@@ -37,6 +41,8 @@ keeps (Sheet file cert) = []
 keeps (Make file seed) = file ∷ []
 keeps (Drill turns seed) = []
 keeps (Upgrade file cert renewed) = renewed ∷ []
+keeps (Postman file) = []
+keeps (Fleet file turns) = []
 
 -- whether a command asks the helpers
 abbrev pub asks_helpers : Command → Bool
@@ -46,6 +52,8 @@ asks_helpers (Sheet file cert) = false
 asks_helpers (Make file seed) = false
 asks_helpers (Drill turns seed) = true
 asks_helpers (Upgrade file cert renewed) = false
+asks_helpers (Postman file) = false
+asks_helpers (Fleet file turns) = false
 
 -- the seed with which a command asks them
 abbrev pub seed_of : Command → ℕ
@@ -55,6 +63,8 @@ seed_of (Sheet file cert) = 0
 seed_of (Make file seed) = 0
 seed_of (Drill turns seed) = seed
 seed_of (Upgrade file cert renewed) = 0
+seed_of (Postman file) = 0
+seed_of (Fleet file turns) = 0
 
 -- words that are no command read nothing, keep nothing and ask no helper
 abbrev pub sources_of : Option Command → List Source

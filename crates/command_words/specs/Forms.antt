@@ -14,6 +14,8 @@ command_in (variants.Sheet file cert) = commands.Sheet file.now cert.now
 command_in (variants.Make file seed) = commands.Make file.now seed
 command_in (variants.Drill turns seed) = commands.Drill turns seed
 command_in (variants.Upgrade file cert renewed) = commands.Upgrade file.now cert.now renewed.now
+command_in (variants.Postman file) = commands.Postman file.now
+command_in (variants.Fleet file turns) = commands.Fleet file.now turns
 
 -- the code's form is this row of the table
 abbrev pub IsForm : Takes → words.Form → Type 0

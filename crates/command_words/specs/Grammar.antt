@@ -3,7 +3,7 @@ use Rattle.std.specs.Prelude.{◌≡◌, ℕ, true, List, [], ◌∷◌, Some, c
 use Rattle.clap.specs.Simple.{on_top}
 use Rattle.clap.specs.Words.{App, Row, Rule, Text, first_of, new_app, new_rule, one_of, subcommand_rows_of, with_rule, with_subcommand}
 use Rattle.clap.specs.declared.parser.matches.ArgMatches.{ArgMatches}
-use Rattle.command_words.specs.Commands.{Command, Solve, Check, Sheet, Make, Drill, Upgrade}
+use Rattle.command_words.specs.Commands.{Command, Solve, Check, Sheet, Make, Drill, Upgrade, Postman, Fleet}
 use Rattle.command_words.specs.Words.{is_number, number_of}
 
 abbrev pub name_rule : Text → Rule
@@ -24,8 +24,14 @@ with_seed app = with_rule app (option_rule (codes "seed") (codes "1"))
 abbrev pub solve_app : App
 solve_app = with_seed (with_turns (codes "64") (two_names (codes "solve")))
 
+abbrev pub one_name : Text → App
+one_name verb = with_rule (new_app verb) (name_rule (codes "file"))
+
 abbrev pub make_app : App
-make_app = with_seed (with_rule (new_app (codes "make")) (name_rule (codes "file")))
+make_app = with_seed (one_name (codes "make"))
+
+abbrev pub fleet_app : App
+fleet_app = with_turns (codes "64") (one_name (codes "fleet"))
 
 abbrev pub drill_app : App
 drill_app = with_seed (with_turns (codes "4") (new_app (codes "drill")))
@@ -36,13 +42,16 @@ upgrade_app = with_rule (two_names (codes "upgrade")) (name_rule (codes "renewed
 abbrev pub without_name : App → App
 without_name = on_top (λ s. record s { no_binary_name = true })
 
--- the verbs that read a certificate or make one, and all verbs
+-- the verbs that read a certificate or make one, those with the verbs of towns and of an upgrade, and all verbs
 abbrev pub proving_app : App
 proving_app =
     with_subcommand (with_subcommand (with_subcommand (without_name (new_app (codes "carp"))) solve_app.top) (two_names (codes "check")).top) (two_names (codes "sheet")).top
 
+abbrev pub middle_app : App
+middle_app = with_subcommand (with_subcommand (with_subcommand proving_app make_app.top) drill_app.top) upgrade_app.top
+
 abbrev pub grammar_app : App
-grammar_app = with_subcommand (with_subcommand (with_subcommand proving_app make_app.top) drill_app.top) upgrade_app.top
+grammar_app = with_subcommand (with_subcommand middle_app (one_name (codes "postman")).top) fleet_app.top
 
 -- the matches have a name, and a number
 abbrev pub HasName : Text → Text → List Row → Type 0
@@ -64,6 +73,8 @@ IsRead (Make file seed) verb rows = (verb ≡ codes "make") × HasName (codes "f
 IsRead (Drill turns seed) verb rows = (verb ≡ codes "drill") × HasNumber (codes "turns") turns rows × HasNumber (codes "seed") seed rows
 IsRead (Upgrade file cert renewed) verb rows =
     (verb ≡ codes "upgrade") × HasName (codes "file") file rows × HasName (codes "cert") cert rows × HasName (codes "renewed") renewed rows
+IsRead (Postman file) verb rows = (verb ≡ codes "postman") × HasName (codes "file") file rows
+IsRead (Fleet file turns) verb rows = (verb ≡ codes "fleet") × HasName (codes "file") file rows × HasNumber (codes "turns") turns rows
 
 pub record AreMatchesOf (c : Command) (m : ArgMatches) : Type 0 where
   pub verb : Text

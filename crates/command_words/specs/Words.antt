@@ -5,7 +5,7 @@ use Rattle.std.specs.Option.{option_map_or}
 use Rattle.std.specs.Str.{bytes_eq}
 use Rattle.std.specs.Str.Parse.{digits_value}
 use Rattle.std.specs.declared.alloc.Global.{Global}
-use Rattle.command_words.specs.Commands.{Command, Solve, Check, Sheet, Make, Drill, Upgrade}
+use Rattle.command_words.specs.Commands.{Command, Solve, Check, Sheet, Make, Drill, Upgrade, Postman, Fleet}
 
 -- a name is not empty, and does not begin with `-`
 abbrev pub is_name : List ℕ → Bool
@@ -60,6 +60,14 @@ abbrev pub upgrade : List (List ℕ) → (turns seed : ℕ) → Option Command
 upgrade (file ∷ cert ∷ renewed ∷ []) turns seed = Some (Upgrade file cert renewed)
 upgrade _ turns seed = None
 
+abbrev pub postman : List (List ℕ) → (turns seed : ℕ) → Option Command
+postman (file ∷ []) turns seed = Some (Postman file)
+postman _ turns seed = None
+
+abbrev pub fleet : List (List ℕ) → (turns seed : ℕ) → Option Command
+fleet (file ∷ []) turns seed = Some (Fleet file turns)
+fleet _ turns seed = None
+
 -- The table of verbs.
 abbrev pub forms : List Form
 forms = record { verb = codes "solve"; names = 2; turns = Some 64; seed = Some 1; command = solve }
@@ -68,6 +76,8 @@ forms = record { verb = codes "solve"; names = 2; turns = Some 64; seed = Some 1
     ∷ record { verb = codes "make"; names = 1; turns = None; seed = Some 1; command = make }
     ∷ record { verb = codes "drill"; names = 0; turns = Some 4; seed = Some 1; command = drill }
     ∷ record { verb = codes "upgrade"; names = 3; turns = None; seed = None; command = upgrade }
+    ∷ record { verb = codes "postman"; names = 1; turns = None; seed = None; command = postman }
+    ∷ record { verb = codes "fleet"; names = 1; turns = Some 64; seed = None; command = fleet }
     ∷ []
 
 -- the words of the options, and the numbers that they may have

@@ -41,4 +41,12 @@ pub enum Command<'a> {
         cert: &'a str,
         renewed: &'a str,
     },
+    /// Finds a least closed walk over all required edges of the instance of `file`.
+    Postman { file: &'a str },
+    /// Finds the fewest vehicles that the instance of `file` takes.
+    Fleet {
+        file: &'a str,
+        /// The most turns of the search: 1 to 1,048,576.
+        turns: u64,
+    },
 }

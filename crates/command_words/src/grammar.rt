@@ -7,7 +7,7 @@ ghost use Rattle.clap.specs.declared.builder.command.Command.TheViews.{out-Comma
 ghost use Rattle.command_words.specs.Commands as commands;
 ghost use Rattle.command_words.specs.Words.{texts_of, command_of, is_number, is_plain, number_of};
 ghost use Rattle.command_words.specs.Forms.{command_in};
-ghost use Rattle.command_words.specs.Grammar.{AreMatchesOf, HasName, HasNumber, drill_app, grammar_app, make_app, name_rule, option_rule, proving_app, solve_app, two_names, upgrade_app};
+ghost use Rattle.command_words.specs.Grammar.{AreMatchesOf, HasName, HasNumber, drill_app, fleet_app, grammar_app, make_app, middle_app, name_rule, one_name, option_rule, proving_app, solve_app, two_names, upgrade_app};
 
 use crate::command::Command;
 use carp_base::Memory;
@@ -35,6 +35,15 @@ pub(crate) fn read_plain<'a>(alloc: Global, words: &'a [String]) -> Result<Comma
 // One level of subcommands, of which each is a verb.
 fn grammar<'a>(alloc: Global) -> Result<clap::Command<'a>, AllocError>
     ensures { IfOk result (λ c. app_of c ≡ grammar_app) }
+{
+    middle(alloc)?
+        .subcommand(one_name(alloc, "postman")?)?
+        .subcommand(fleet(alloc)?)
+}
+
+// The verbs but for those that solve a neighbouring problem.
+fn middle<'a>(alloc: Global) -> Result<clap::Command<'a>, AllocError>
+    ensures { IfOk result (λ c. app_of c ≡ middle_app) }
 {
     proving(alloc)?
         .subcommand(make(alloc)?)?
@@ -66,9 +75,22 @@ fn make<'a>(alloc: Global) -> Result<clap::Command<'a>, AllocError>
     ensures app { IfOk result (λ c. app_of c ≡ make_app) }
     ensures local { IfOk result (λ c. (fields_of c).has_globals ≡ false) }
 {
-    clap::Command::new(alloc, "make")
-        .arg(name(alloc, "file"))?
-        .arg(option(alloc, "seed", "1"))
+    one_name(alloc, "make")?.arg(option(alloc, "seed", "1"))
+}
+
+fn fleet<'a>(alloc: Global) -> Result<clap::Command<'a>, AllocError>
+    ensures app { IfOk result (λ c. app_of c ≡ fleet_app) }
+    ensures local { IfOk result (λ c. (fields_of c).has_globals ≡ false) }
+{
+    one_name(alloc, "fleet")?.arg(option(alloc, "turns", "64"))
+}
+
+// A verb with an instance alone.
+fn one_name<'a>(alloc: Global, verb: &'a str) -> Result<clap::Command<'a>, AllocError>
+    ensures app { IfOk result (λ c. app_of c ≡ one_name verb.now) }
+    ensures local { IfOk result (λ c. (fields_of c).has_globals ≡ false) }
+{
+    clap::Command::new(alloc, verb).arg(name(alloc, "file"))
 }
 
 fn drill<'a>(alloc: Global) -> Result<clap::Command<'a>, AllocError>
@@ -123,6 +145,8 @@ fn command_from<'a>(matches: &ArgMatches<'a>) -> Option<Command<'a>>
         "make" => make_from(inner),
         "drill" => drill_from(inner),
         "upgrade" => upgrade_from(inner),
+        "postman" => postman_from(inner),
+        "fleet" => fleet_from(inner),
         _ => None,
     }
 }
@@ -193,6 +217,22 @@ fn upgrade_from<'a>(matches: &ArgMatches<'a>) -> Option<Command<'a>>
         cert,
         renewed,
     })
+}
+
+fn postman_from<'a>(matches: &ArgMatches<'a>) -> Option<Command<'a>>
+    ensures { (file : List ℕ) → HasName (codes "file") file (rows_of (found_of matches.now)) → IsSomeAnd result (λ r. command_in r ≡ commands.Postman file) }
+{
+    let file = name_in(matches, "file")?;
+    Some(Command::Postman { file })
+}
+
+fn fleet_from<'a>(matches: &ArgMatches<'a>) -> Option<Command<'a>>
+    ensures { (file : List ℕ) (turns : ℕ) → HasName (codes "file") file (rows_of (found_of matches.now)) → HasNumber (codes "turns") turns (rows_of (found_of matches.now))
+        → IsSomeAnd result (λ r. command_in r ≡ commands.Fleet file turns) }
+{
+    let file = name_in(matches, "file")?;
+    let turns = number_in(matches, "turns")?;
+    Some(Command::Fleet { file, turns })
 }
 
 fn name_in<'a>(matches: &ArgMatches<'a>, id: &str) -> Option<&'a str>

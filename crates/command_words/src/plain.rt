@@ -66,6 +66,16 @@ fn form_of(verb: &str) -> Option<Takes>
             turns: false,
             seed: false,
         }),
+        "postman" => Some(Takes {
+            names: 1,
+            turns: false,
+            seed: false,
+        }),
+        "fleet" => Some(Takes {
+            names: 1,
+            turns: true,
+            seed: false,
+        }),
         _ => None,
     }
 }

@@ -39,7 +39,10 @@ unfoldable pub result_lines : Certificate → ℕ → List ℕ
 result_lines c turns =
     number_line (codes "cost ") c.cost ++ number_line (codes "bound ") c.bound ++ number_line (codes "turns ") turns ++ gap_line c.cost c.bound
 
+-- how many tours there are, and the lines of the tours
+unfoldable pub tours_text : Problem → List (List Step) → List ℕ
+tours_text p plan = number_line (codes "tours ") (length plan) ++ tour_lines p 1 plan
+
 -- the report of an instance, a certificate and its turns
 abbrev pub report_text : Problem → Certificate → ℕ → List ℕ
-report_text p c turns =
-    instance_line p ++ result_lines c turns ++ number_line (codes "tours ") (length c.plan) ++ tour_lines p 1 c.plan
+report_text p c turns = instance_line p ++ result_lines c turns ++ tours_text p c.plan

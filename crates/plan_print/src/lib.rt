@@ -8,5 +8,5 @@ mod sheets;
 #[cfg(test)]
 mod tests;
 
-pub use reporting::report;
+pub use reporting::{push_gap, push_route, push_tours, report};
 pub use sheets::sheet;

@@ -5,7 +5,7 @@ ghost use Rattle.carp_base.specs.Problem.{IsEdgeNumber};
 ghost use Rattle.plan_model.specs.Plans.{IsLawful, IsOnEdges};
 ghost use Rattle.cert_format.specs.Certs.{certificate_in};
 ghost use Rattle.number_texts.specs.Lines.{number_line};
-ghost use Rattle.plan_print.specs.Report.{report_text, instance_line, result_lines, gap_line, tour_lines, tour_line, route_text, crossing_text};
+ghost use Rattle.plan_print.specs.Report.{report_text, instance_line, result_lines, gap_line, tour_lines, tours_text, tour_line, route_text, crossing_text};
 
 use carp_base::{Instance, Memory};
 use cert_format::Cert;
@@ -32,8 +32,12 @@ fn push_crossings(text: &mut Vec<u8>, inst: &Instance, walk: &Walk) -> Result<()
     Ok(())
 }
 
+/// Adds the route of a walk: the depot, and then for each step `=` where it serves and `-` where it does not, and the vertex that it reaches. The
+/// steps are on edges of the instance.
+///
+/// Its error says only that memory was not to be had; the text may then have grown by a part of it.
 #[tactic(auto, unfolding(crate::specs::Report::route_text))]
-fn push_route(text: &mut Vec<u8>, inst: &Instance, walk: &Walk) -> Result<(), Memory>
+pub fn push_route(text: &mut Vec<u8>, inst: &Instance, walk: &Walk) -> Result<(), Memory>
     requires { IsOnEdges inst.now walk.now }
     ensures { OnOk result (text.new.items ≡ text.old.items ++ route_text inst.now walk.now) }
 {
@@ -81,8 +85,11 @@ fn push_instance_line(text: &mut Vec<u8>, inst: &Instance) -> Result<(), Memory>
     Ok(())
 }
 
+/// Adds the line that says whether a bound, at most a cost, is the cost: `proven`, or `open gap` and how far it lies below.
+///
+/// Its error says only that memory was not to be had; the text may then have grown by a part of it.
 #[tactic(auto, unfolding(crate::specs::Report::gap_line))]
-fn push_gap_line(text: &mut Vec<u8>, cost: u128, bound: u128) -> Result<(), Memory>
+pub fn push_gap(text: &mut Vec<u8>, cost: u128, bound: u128) -> Result<(), Memory>
     requires { bound ≤ cost }
     ensures { OnOk result (text.new.items ≡ text.old.items ++ gap_line cost bound) }
 {
@@ -102,7 +109,19 @@ fn push_result_lines(text: &mut Vec<u8>, cert: &Cert, turns: u64) -> Result<(), 
     push_line(text, b"cost ", u128::from(cert.cost))?;
     push_line(text, b"bound ", u128::from(cert.bound))?;
     push_line(text, b"turns ", u128::from(turns))?;
-    push_gap_line(text, u128::from(cert.cost), u128::from(cert.bound))
+    push_gap(text, u128::from(cert.cost), u128::from(cert.bound))
+}
+
+/// Adds the number of the tours of a lawful plan, and a line for each: its load, its cost and its route.
+///
+/// Its error says only that memory was not to be had; the text may then have grown by a part of it. It takes time in proportion to the text.
+#[tactic(auto, unfolding(crate::specs::Report::tours_text))]
+pub fn push_tours(text: &mut Vec<u8>, inst: &Instance, plan: &Plan) -> Result<(), Memory>
+    requires { IsLawful inst.now plan.now }
+    ensures { OnOk result (text.new.items ≡ text.old.items ++ tours_text inst.now plan.now) }
+{
+    push_line(text, b"tours ", plan.len() as u128)?;
+    push_tour_lines(text, inst, plan)
 }
 
 /// The report of an instance, a certificate of it and the turns of the certificate's tree: the size of the instance, cost, bound and turns, whether
@@ -117,7 +136,6 @@ pub fn report(alloc: Global, inst: &Instance, cert: &Cert, turns: u64) -> Result
     let mut text = Vec::new(alloc);
     push_instance_line(&mut text, inst)?;
     push_result_lines(&mut text, cert, turns)?;
-    push_line(&mut text, b"tours ", cert.plan.len() as u128)?;
-    push_tour_lines(&mut text, inst, &cert.plan)?;
+    push_tours(&mut text, inst, &cert.plan)?;
     Ok(text)
 }

@@ -10,4 +10,6 @@ returns-in_default c =
     let make : bytes_eq (codes "make") c.args.verb.now ≡ false = search rules in
     let drill : bytes_eq (codes "drill") c.args.verb.now ≡ false = search rules in
     let upgrade : bytes_eq (codes "upgrade") c.args.verb.now ≡ false = search rules in
-    rw (solve, check, sheet, make, drill, upgrade) refl
+    let postman : bytes_eq (codes "postman") c.args.verb.now ≡ false = search rules in
+    let fleet : bytes_eq (codes "fleet") c.args.verb.now ≡ false = search rules in
+    rw (solve, check, sheet, make, drill, upgrade, postman, fleet) refl
