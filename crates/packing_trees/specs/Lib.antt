@@ -1,0 +1,5 @@
+pub mod Bundles
+pub mod Trees
+pub mod Reasons
+pub mod Laws
+pub mod Claims
