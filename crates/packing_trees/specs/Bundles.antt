@@ -113,5 +113,5 @@ share_value p branch s =
 pub record AreBundles (p : Problem) (branch : List PackChoice) (labels weights : List ℕ) : Type 0 where
   pub label_each : length labels ≡ p.required + 1
   pub weight_each : length weights ≡ p.required + 1
-  pub labels : (e : ℕ) → IsRequired p e → slice_index labels e ≡ bundle_of branch e
-  pub weights : (e : ℕ) → IsRequired p e → slice_index weights e ≡ bundle_weight p branch e
+  pub labelled : (e : ℕ) → IsRequired p e → slice_index labels e ≡ bundle_of branch e
+  pub weighed : (e : ℕ) → IsRequired p e → slice_index weights e ≡ bundle_weight p branch e
