@@ -115,3 +115,9 @@ pub record AreBundles (p : Problem) (branch : List PackChoice) (labels weights :
   pub weight_each : length weights ≡ p.required + 1
   pub labelled : (e : ℕ) → IsRequired p e → slice_index labels e ≡ bundle_of branch e
   pub weighed : (e : ℕ) → IsRequired p e → slice_index weights e ≡ bundle_weight p branch e
+
+-- the lists are of the bundles of some branch of choices on required edges
+pub record HasBundles (p : Problem) (labels weights : List ℕ) : Type 0 where
+  pub branch : List PackChoice
+  pub choices : All (IsChoice p) branch
+  pub are : AreBundles p branch labels weights

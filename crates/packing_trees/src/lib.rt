@@ -1,11 +1,13 @@
 //! Trees that prove how many groups a packing of the required edges takes.
 #![tactic(auto)]
 
-mod laws;
+mod bundling;
 mod node;
 mod packing;
 mod reason;
+mod shares;
 
+pub use bundling::{Bundles, bundle_count, bundles_of, share_value};
 pub use node::{PackChoice, PackNode};
 pub use packing::Packing;
 pub use reason::{PackAnswer, PackReason};
