@@ -122,7 +122,7 @@ module _ (branch longer : List PackChoice) (f : ℕ → ℕ) (named : Named bran
   }
 
 -- One choice more.
-last_is : (x y : PackChoice) (k : ℕ) → k < length (x ∷ []) → get_or (x ∷ []) k y ≡ y → x ≡ y
+pub last_is : (x y : PackChoice) (k : ℕ) → k < length (x ∷ []) → get_or (x ∷ []) k y ≡ y → x ≡ y
 last_is x y zero less is = is
 last_is x y (suc k) less is = absurd (omega arith)
 

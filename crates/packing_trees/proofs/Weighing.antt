@@ -37,8 +37,8 @@ pub choices_below : (p : Problem) (n : ℕ) (branch : List PackChoice) → n ≡
 choices_below p n branch long fits k d less = go (get_or branch k d) (fits k d less)
   where
     go : (x : PackChoice) → IsChoice p x → IsBelow n x
-    go (Together a b) pair = (omega (arith, pair.1, pair.2, long), omega (arith, pair.2, long))
-    go (Apart a b) pair = (omega (arith, pair.1, pair.2, long), omega (arith, pair.2, long))
+    go (Together a b) pair = (pair.0, pair.1, omega (arith, pair.2, long))
+    go (Apart a b) pair = (pair.0, pair.1, omega (arith, pair.2, long))
 
 pub labels_within : (branch : List PackChoice) (labels : List ℕ) → AreLabels branch labels → (e : ℕ) → e < length labels → slice_index labels e < length labels
 labels_within branch labels own e less = omega (arith, own e less, (named_bundles branch).below e)
@@ -125,8 +125,8 @@ pub over_same : (p : Problem) (branch : List PackChoice) (labels weights : List 
 over_same p branch labels weights n all are h =
     ap (λ k. over_labels labels weights k h) all
     ∙ sum_to-same p.required _ _ (λ e one below.
-      let required : IsRequired p e = record { from_one = one; in_range = below } in
-      ap (λ l. if l == e then h (slice_index weights e) else 0) (are.labelled e required) ∙ ap (λ w. if bundle_of branch e == e then h w else 0) (are.weighed e required))
+    let required : IsRequired p e = record { from_one = one; in_range = below } in
+    ap (λ l. if l == e then h (slice_index weights e) else 0) (are.labelled e required) ∙ ap (λ w. if bundle_of branch e == e then h w else 0) (are.weighed e required))
 
 abbrev alone_of : (capacity s w : ℕ) → ℕ
 alone_of capacity s w = if nat_lt (capacity - s) w then 1 else 0

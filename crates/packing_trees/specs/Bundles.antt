@@ -74,7 +74,7 @@ pub record AreParted (branch : List PackChoice) (a b : ℕ) : Type 0 where
   pub d : ℕ
   pub apart : Contains branch (Apart c d)
   pub between : ((bundle_of branch c ≡ bundle_of branch a) × (bundle_of branch d ≡ bundle_of branch b))
-              ⊎ ((bundle_of branch c ≡ bundle_of branch b) × (bundle_of branch d ≡ bundle_of branch a))
+      ⊎ ((bundle_of branch c ≡ bundle_of branch b) × (bundle_of branch d ≡ bundle_of branch a))
 
 -- a pair is closed: its edges lie in one bundle, or in two that are parted or are too heavy together
 abbrev pub IsClosedPair : Problem → List PackChoice → ℕ → ℕ → Type 0

@@ -1,5 +1,5 @@
 -- How the numbers and the weights of bundles are kept in lists, and what is read from them. No public contract speaks of this.
-use Rattle.std.specs.Prelude.{◌≡◌, ℕ, ◌+◌, ◌-◌, ◌*◌, ◌<◌, ◌≤◌, ◌==◌, ◌&&◌, ◌⊎◌, Bool, List, if◌then◌else◌, max, min, nat_lt, nat_le, slice_index, length}
+use Rattle.std.specs.Prelude.{◌≡◌, ℕ, ◌+◌, ◌-◌, ◌*◌, ◌<◌, ◌≤◌, ◌==◌, ◌&&◌, ◌⊎◌, ◌↔◌, Bool, List, if◌then◌else◌, max, min, nat_lt, nat_le, slice_index, length}
 use Rattle.std.specs.List.{All, Contains}
 use Rattle.std.specs.Int.{div_ceil}
 use Rattle.carp_base.specs.Problem.{Problem, edge_at}
@@ -17,10 +17,10 @@ pub record AreMerged (to from : ℕ) (old new : List ℕ) : Type 0 where
   pub long : length new ≡ length old
   pub each : (e : ℕ) → e < length old → slice_index new e ≡ merged to from (slice_index old e)
 
--- the choice is on two numbers below this one
+-- the choice is on two numbers from 1 and below this one, the lesser one first
 abbrev pub IsBelow : ℕ → PackChoice → Type 0
-IsBelow n (Together a b) = (a < n) × (b < n)
-IsBelow n (Apart a b) = (a < n) × (b < n)
+IsBelow n (Together a b) = (1 ≤ a) × (a < b) × (b < n)
+IsBelow n (Apart a b) = (1 ≤ a) × (a < b) × (b < n)
 
 -- at the place of each number, its bundle's number
 abbrev pub AreLabels : List PackChoice → List ℕ → Type 0
@@ -76,3 +76,32 @@ pub record SomePartsLabels (labels : List ℕ) (branch : List PackChoice) (one o
   pub choice : PackChoice
   pub stands : Contains branch choice
   pub parts : PartsLabels labels choice one other
+
+-- two labels cannot share a group: they are too heavy together, or an apart choice stands between them
+abbrev pub AreRefused : (capacity : ℕ) (labels weights : List ℕ) → List PackChoice → ℕ → ℕ → Type 0
+AreRefused capacity labels weights branch one other = (capacity < slice_index weights one + slice_index weights other) ⊎ SomePartsLabels labels branch one other
+
+-- a bundle can share a group with none of a greater number
+abbrev pub RowIsClosed : (capacity : ℕ) (labels weights : List ℕ) → List PackChoice → ℕ → Type 0
+RowIsClosed capacity labels weights branch one =
+    (other : ℕ) → one < other → other < length labels → slice_index labels other ≡ other → AreRefused capacity labels weights branch one other
+
+-- no two bundles can
+abbrev pub RowsAreClosed : (capacity : ℕ) (labels weights : List ℕ) → List PackChoice → Type 0
+RowsAreClosed capacity labels weights branch =
+    (one : ℕ) → 1 ≤ one → one < length labels → slice_index labels one ≡ one → RowIsClosed capacity labels weights branch one
+
+-- a bundle is too heavy beside each of a greater number
+abbrev pub RowIsHeavy : (capacity : ℕ) (labels weights : List ℕ) → ℕ → Type 0
+RowIsHeavy capacity labels weights one =
+    (other : ℕ) → one < other → other < length labels → slice_index labels other ≡ other → capacity < slice_index weights one + slice_index weights other
+
+-- a bundle is too heavy beside each of a greater number that has no mark
+abbrev pub RowIsMarked : (capacity : ℕ) (labels weights marks : List ℕ) → ℕ → Type 0
+RowIsMarked capacity labels weights marks one =
+    (other : ℕ) → one < other → other < length labels → slice_index labels other ≡ other →
+    (capacity < slice_index weights one + slice_index weights other) ⊎ (slice_index marks other ≡ one)
+
+-- the labels that an apart choice parts from one have its mark too
+abbrev pub Marks : (labels : List ℕ) → PackChoice → (one : ℕ) (old new : List ℕ) → Type 0
+Marks labels choice one old new = (k : ℕ) → k < length labels → (slice_index new k ≡ one) ↔ ((slice_index old k ≡ one) ⊎ PartsLabels labels choice one k)

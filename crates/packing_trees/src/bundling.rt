@@ -23,11 +23,7 @@ pub struct Bundles {
 /// The bundles of a branch, whose choices are on pairs of required edges.
 ///
 /// With m required edges and d choices it takes time in proportion to m * (d + 1), and memory in proportion to m.
-pub fn bundles_of(
-    alloc: Global,
-    inst: &Instance,
-    branch: &[PackChoice],
-) -> Result<Bundles, Memory>
+pub fn bundles_of(alloc: Global, inst: &Instance, branch: &[PackChoice]) -> Result<Bundles, Memory>
     requires { All (IsChoice inst.now) branch.now }
     ensures bundles { IfOk result (λ found. AreBundles inst.now branch.now found.labels.items found.weights.items) }
     ensures some { IfOk result (λ found. HasBundles inst.now found.labels.items found.weights.items) }

@@ -2,12 +2,14 @@
 #![tactic(auto)]
 
 mod bundling;
+mod closing;
 mod node;
 mod packing;
 mod reason;
 mod shares;
 
 pub use bundling::{Bundles, bundle_count, bundles_of, share_value};
+pub use closing::{all_closed, is_closed};
 pub use node::{PackChoice, PackNode};
 pub use packing::Packing;
 pub use reason::{PackAnswer, PackReason};
