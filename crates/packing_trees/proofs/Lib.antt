@@ -3,4 +3,4 @@ pub mod Naming
 pub mod Weighing
 pub mod Parting
 pub mod Classes
-pub mod Grouping
+pub mod Bounding
