@@ -12,6 +12,7 @@ use Rattle.packing_trees.specs.Bundles.{AreAllClosed, AreBundled, IsChoice, IsCl
 use Rattle.packing_trees.specs.Trees.{PackTree, pair, share, settled, PairsIn, Shows}
 use Rattle.packing_trees.proofs.Naming.{named_bundles, bundle_required}
 use Rattle.packing_trees.proofs.Weighing.{alone_of, large_of, large_weight_of, middle_weight_of}
+use Rattle.packing_trees.proofs.Loading.{demand_sum}
 use Rattle.packing_trees.proofs.Classes.{weighs, Weighs, group_alone, group_full, share_bound}
 use Rattle.packing_trees.proofs.Sums.{sum_to-zero, sum_to-one, sum_to-add, sum_to-times, sum_to-same, sum_to-more, sum_to-most, sum_to-two, sum_to-single, sum_to-swap, all_or_nothing, at_most_one}
 
@@ -79,10 +80,6 @@ module _ (p : Problem) (branch : List PackChoice) (groups : List ℕ) (count : �
         ap (λ t. cond (is_in g r) (cond t d 0) 0) off ∙ cond_same (is_in g r) ∙ sym (ap (λ t. cond t (cond (group e == g) d 0) 0) off)
   ]
 
-  demand_sum : (g n : ℕ) → sum_to n (λ e. cond (group e == g) (edge_at p e).demand 0) ≡ demand_in p groups g n
-  demand_sum g zero = refl
-  demand_sum g (suc n) = omega (arith, demand_sum g n)
-
   load_of_bundles : (g : ℕ) → in_group (λ w. w) g ≡ group_load p groups g
   load_of_bundles g =
       sum_to-same p.required _ _ (λ r _ _. cond_sum (is_in g r) p.required (λ e. cond (bundle e == r) (edge_at p e).demand 0)
@@ -91,7 +88,7 @@ module _ (p : Problem) (branch : List PackChoice) (groups : List ℕ) (count : �
       ∙ sum_to-same p.required _ _ (λ e one below.
         let named = bundle_required p branch e fits (record { from_one = one; in_range = below }) in
         sum_to-single p.required (bundle e) (λ _. cond (group e == g) (edge_at p e).demand 0) named.from_one named.in_range)
-      ∙ demand_sum g p.required
+      ∙ demand_sum p groups g p.required
 
   light : (g : ℕ) → IsGroup count g → in_group (λ w. w) g ≤ p.capacity
   light g is = omega (arith, load_of_bundles g, packing.loads g is)

@@ -4,3 +4,6 @@ pub mod Weighing
 pub mod Parting
 pub mod Classes
 pub mod Bounding
+pub mod Loading
+pub mod Filling
+pub mod Passing
