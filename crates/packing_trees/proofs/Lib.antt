@@ -7,3 +7,4 @@ pub mod Bounding
 pub mod Loading
 pub mod Filling
 pub mod Passing
+pub mod Ordering

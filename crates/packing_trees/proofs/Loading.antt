@@ -1,16 +1,16 @@
 -- The demand of groups, and which of them are empty.
-use Rattle.std.proofs.Common.{◌≡◌, ◌≢◌, ℕ, zero, suc, ◌+◌, ◌-◌, ◌*◌, ◌≤◌, ◌<◌, ◌==◌, cond, Bool, true, false, Option, Some, None, List, length, slice_index, refl, sym, ap, ◌∙◌, subst, arith, inl, inr, ◌⊎◌}
+use Rattle.std.proofs.Common.{◌≡◌, ℕ, zero, suc, ◌+◌, ◌-◌, ◌*◌, ◌≤◌, ◌<◌, ◌==◌, cond, Option, Some, None, List, length, slice_index, refl, sym, ap, ◌∙◌, arith, inl, inr}
 use Rattle.std.specs.Prelude.{if◌then◌else◌}
 use Rattle.std.proofs.lemmas.Bool.{cases_eq, cases_lt, eq-eqb, ne_eqb, eqb-true}
 use Rattle.carp_base.specs.Problem.{Problem, IsRequired, IsValid, edge_at}
-use Rattle.carp_base.specs.Packings.{IsGroup, IsPacking, demand_in, group_load, group_of}
+use Rattle.carp_base.specs.Packings.{IsGroup, demand_in, group_load, group_of}
 use Rattle.plan_model.specs.Sums.{sum_to}
 use Rattle.packing_trees.specs.declared.node.PackNode.{PackNode}
 use Rattle.packing_trees.specs.declared.reason.PackReason.{PackReason}
 use Rattle.packing_trees.specs.declared.reason.PackReason.TheVariants.{GroupEmpty, Overload}
-use Rattle.packing_trees.specs.Reasons.{Claim, GroupsArePlaced, GroupsAreFilled, IsFilled, IsFirstEmpty, IsFirstOverload, IsFirstPackReason}
-use Rattle.packing_trees.specs.Layers.{AllSomething, AllWithin, GroupsSay, IsFirstAbove, IsFirstNothing, LoadsSay, PlacesSay, claimed}
-use Rattle.packing_trees.proofs.Sums.{sum_to-one, sum_to-more, sum_to-most, sum_to-term, sum_to-swap, at_most_one}
+use Rattle.packing_trees.specs.Reasons.{GroupsArePlaced, IsFirstEmpty, IsFirstOverload}
+use Rattle.packing_trees.specs.Layers.{AllSomething, GroupsSay, IsFirstAbove, IsFirstNothing, LoadsSay, PlacesSay, claimed}
+use Rattle.packing_trees.proofs.Sums.{sum_to-one, sum_to-more, sum_to-term, sum_to-swap, at_most_one}
 
 pub demand_sum : (p : Problem) (groups : List ℕ) (g n : ℕ) → sum_to n (λ e. cond (group_of groups e == g) (edge_at p e).demand 0) ≡ demand_in p groups g n
 demand_sum p groups g zero = refl

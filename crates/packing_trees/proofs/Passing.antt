@@ -1,5 +1,5 @@
 -- From a node to the next one, and what is known of all nodes then.
-use Rattle.std.proofs.Common.{◌≡◌, ℕ, zero, suc, ◌+◌, ◌-◌, ◌≤◌, ◌<◌, true, false, Bool, List, [], ◌∷◌, ◌++◌, length, get_or, drop, refl, sym, ap, ◌∙◌, subst, arith, append_assoc, append-nil, length-append, Option, Some, None, inl, inr, ◌⊎◌}
+use Rattle.std.proofs.Common.{◌≡◌, ℕ, ◌+◌, ◌<◌, true, false, List, [], ◌∷◌, ◌++◌, length, get_or, drop, refl, sym, ap, ◌∙◌, subst, arith, append_assoc, append-nil, length-append, Option, Some, None, Result, Ok, Err, IfOk, inl, inr}
 use Rattle.std.specs.Option.{is_some}
 use Rattle.std.specs.List.{All}
 use Rattle.std.proofs.lemmas.List.{drop_more, get_or_append_left}
@@ -11,8 +11,12 @@ use Rattle.packing_trees.specs.declared.node.PackChoice.TheVariants.{Together, A
 use Rattle.packing_trees.specs.declared.node.PackNode.{PackNode}
 use Rattle.packing_trees.specs.declared.reason.PackReason.{PackReason}
 use Rattle.packing_trees.specs.Bundles.{IsChoice, IsPair}
-use Rattle.packing_trees.specs.Reasons.{FirstNodeFails, NodeFails, NodeIsRight, branches_below}
-use Rattle.packing_trees.specs.Layers.{AreRight, NodeSays, NodesSay, seconds_from, seconds_of, waits}
+use Rattle.packing_trees.specs.Reasons.{FirstNodeFails, NodeIsRight, branches_below}
+use Rattle.packing_trees.specs.Layers.{AreRight, NodeSays, NodesSay, seconds_from, seconds_of}
+
+pub if_ok_more : {T E : Type 0} {P Q : T → Type 0} (r : Result T E) → ((x : T) → P x → Q x) → IfOk r P → IfOk r Q
+if_ok_more (Ok x) more holds = more x holds
+if_ok_more (Err e) more holds = tt
 
 -- The branches that wait.
 seconds_together : (rest before : List PackChoice) (a b : ℕ) → seconds_from before (rest ++ Together a b ∷ []) ≡ ((before ++ rest) ++ Apart a b ∷ []) ∷ seconds_from before rest

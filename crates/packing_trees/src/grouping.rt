@@ -40,7 +40,11 @@ fn places(required: u32, count: u32) -> u32
     ensures within { result ≤ count }
     ensures all { result < count → result ≡ required + 1 }
 {
-    if count <= required { count } else { required + 1 }
+    if count <= required {
+        count
+    } else {
+        required + 1
+    }
 }
 
 // The first edge whose number is none of a group.
@@ -57,12 +61,7 @@ fn first_outside(groups: &[u32], count: u32) -> Option<u32>
 }
 
 // The demand of each group up to a number, at the place of its number.
-fn loads_of(
-    alloc: Global,
-    inst: &Instance,
-    groups: &[u32],
-    most: u32,
-) -> Result<Vec<u64>, Memory>
+fn loads_of(alloc: Global, inst: &Instance, groups: &[u32], most: u32) -> Result<Vec<u64>, Memory>
     requires each { length groups.now ≡ inst.now.required }
     requires few { most ≤ 601 }
     ensures long { IfOk result (λ loads. length loads.items ≡ most + 1) }
@@ -80,7 +79,11 @@ fn add_up(loads: &mut [u64], inst: &Instance, groups: &[u32])
     ensures { (g : ℕ) → g < length loads.new → slice_index loads.new g ≡ group_load inst.now groups.now g }
 {
     for edge in 1..inst.required() + 1 {
-        add(loads, groups[edge as usize - 1] as usize, inst.edge(edge).demand);
+        add(
+            loads,
+            groups[edge as usize - 1] as usize,
+            inst.edge(edge).demand,
+        );
     }
 }
 

@@ -34,7 +34,11 @@ fn first_not_whole(nodes: &[PackNode]) -> Option<u64>
         }
         subtrees = open_after(subtrees, node);
     }
-    if subtrees == 0 { None } else { Some(nodes.len() as u64) }
+    if subtrees == 0 {
+        None
+    } else {
+        Some(nodes.len() as u64)
+    }
 }
 
 // How many subtrees are still to come after a node.

@@ -1,4 +1,4 @@
-use Rattle.std.proofs.Common.{◌≤◌, ◌+◌, arith}
+use Rattle.std.proofs.Common.{arith}
 use Rattle.packing_trees.proofs.Filling.{after_most, fails_more, fills_more, whole_early}
 use Rattle.packing_trees.proofs.shape.first_not_whole.Goals as goal
 

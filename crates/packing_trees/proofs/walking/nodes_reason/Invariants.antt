@@ -1,4 +1,4 @@
-use Rattle.std.proofs.Common.{ℕ, ◌+◌, List, [], ◌∷◌, drop}
+use Rattle.std.proofs.Common.{◌+◌, [], ◌∷◌, drop}
 use Rattle.std.specs.List.{All}
 use Rattle.packing_trees.specs.declared.reason.PackReason.{PackReason}
 use Rattle.packing_trees.specs.Bundles.{IsChoice}
