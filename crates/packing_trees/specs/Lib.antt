@@ -5,3 +5,4 @@ pub mod Laws
 pub mod Claims
 pub mod Tables
 pub mod Layers
+pub mod Examples

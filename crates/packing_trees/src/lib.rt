@@ -1,9 +1,13 @@
 //! Trees that prove how many groups a packing of the required edges takes.
 #![tactic(auto)]
 
+#[cfg(test)]
+mod bundle_tests;
 mod bundling;
 mod checking;
 mod closing;
+#[cfg(test)]
+mod examples;
 mod grouping;
 mod laws;
 mod node;
@@ -11,6 +15,8 @@ mod packing;
 mod reason;
 mod shape;
 mod shares;
+#[cfg(test)]
+mod tests;
 mod walking;
 
 pub use bundling::{Bundles, bundle_count, bundles_of, share_value};
