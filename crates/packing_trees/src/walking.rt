@@ -56,6 +56,7 @@ fn pass(branch: &mut Vec<PackChoice>, node: &PackNode) -> Result<bool, Memory>
 }
 
 // Goes to the first child of a pair.
+#[tactic(auto, using(crate::proofs::Passing::entered))]
 fn enter(branch: &mut Vec<PackChoice>, a: u32, b: u32) -> Result<bool, Memory>
     ensures waits { IfOk result (λ goes. branches_below branch.old.items (kinds.Pair a b) ++ seconds_of branch.old.items ≡ waits goes branch.new.items) }
     ensures choices { IfOk result (λ goes. (p : Problem) → IsPair p a b → All (IsChoice p) branch.old.items → All (IsChoice p) branch.new.items) }
