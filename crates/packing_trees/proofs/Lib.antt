@@ -7,4 +7,5 @@ pub mod Bounding
 pub mod Loading
 pub mod Filling
 pub mod Passing
+pub mod Standing
 pub mod Ordering

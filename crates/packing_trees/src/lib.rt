@@ -1,4 +1,9 @@
 //! Trees that prove how many groups a packing of the required edges takes.
+//!
+//! A packing gives each required edge a group that one vehicle carries. A tree splits all packings by whether two edges share
+//! a group ([`PackNode`], [`PackChoice`]); at each leaf the edges that are together make bundles ([`Bundles`]), whose weights
+//! bound the number of groups from below. [`check_pack`] checks a packing with such a tree, and names the first reason why it
+//! is none.
 #![tactic(auto)]
 
 #[cfg(test)]
