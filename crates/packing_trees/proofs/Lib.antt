@@ -1,0 +1,11 @@
+pub mod Sums
+pub mod Naming
+pub mod Weighing
+pub mod Parting
+pub mod Classes
+pub mod Bounding
+pub mod Loading
+pub mod Filling
+pub mod Passing
+pub mod Standing
+pub mod Ordering
