@@ -1,0 +1,6 @@
+//! The fewest vehicles: packings of the required edges, and trees that prove that no packing has fewer groups.
+#![tactic(auto)]
+
+mod first_fit;
+mod grouping;
+mod item;
