@@ -1,2 +1,4 @@
 pub mod FirstFit
 pub mod Groups
+pub mod Search
+pub mod Laws

@@ -4,3 +4,7 @@
 mod first_fit;
 mod grouping;
 mod item;
+mod laws;
+mod share;
+
+pub use laws::lean_trees_are_small;

@@ -1,0 +1,92 @@
+-- What a search keeps: the nodes that are done, the branch of the leaf at hand, and the leaves that wait. No public contract speaks of this.
+use Rattle.std.specs.Prelude.{◌≡◌, ℕ, ◌+◌, ◌*◌, ◌≤◌, List, [], ◌∷◌, ◌++◌, length, reverse, map, sum_by, if◌then◌else◌, nat_le}
+use Rattle.std.specs.List.{All, flat_map}
+use Rattle.carp_base.specs.Problem.{Problem}
+use Rattle.packing_trees.specs.declared.node.PackChoice.{PackChoice}
+use Rattle.packing_trees.specs.declared.node.PackChoice.TheVariants as choices
+use Rattle.packing_trees.specs.declared.node.PackNode.{PackNode}
+use Rattle.packing_trees.specs.declared.node.PackNode.TheVariants as nodes
+use Rattle.packing_trees.specs.Bundles.{IsPair, IsChoice, IsClosedPair, AreAllClosed, bundle_count, bundle_weight, share_value}
+use Rattle.packing_trees.specs.Reasons.{branches_below}
+use Rattle.fleet_pack.specs.declared.share.Share.{Share}
+
+-- the branches that wait after some nodes, each of which stands under the first of those that wait before it
+abbrev pub waiting_for : List PackNode → List (List PackChoice) → List (List PackChoice)
+waiting_for [] waiting = waiting
+waiting_for (node ∷ nodes) [] = []
+waiting_for (node ∷ nodes) (branch ∷ waiting) = waiting_for nodes (branches_below branch node ++ waiting)
+
+-- each node is so under its branch
+abbrev pub NodesAre : (List PackChoice → PackNode → Type 0) → List PackNode → List (List PackChoice) → Type 0
+NodesAre P [] waiting = Unit {0}
+NodesAre P (node ∷ nodes) [] = ⊥
+NodesAre P (node ∷ nodes) (branch ∷ waiting) = P branch node × NodesAre P nodes (branches_below branch node ++ waiting)
+
+-- each bundle fits into a group
+abbrev pub IsLight : Problem → List PackChoice → Type 0
+IsLight p branch = (bundle : ℕ) → bundle_weight p branch bundle ≤ p.capacity
+
+-- a leaf that is not done, with a lawful share and its value
+pub record IsLeaf (p : Problem) (branch : List PackChoice) (share : Share) : Type 0 where
+  pub choices : All (IsChoice p) branch
+  pub light : IsLight p branch
+  pub fits : 2 * share.s ≤ p.capacity
+  pub value_is : share.value ≡ share_value p branch share.s
+
+abbrev pub AreLeaves : Problem → List (List PackChoice) → List Share → Type 0
+AreLeaves p [] [] = Unit {0}
+AreLeaves p [] (share ∷ shares) = ⊥
+AreLeaves p (branch ∷ branches) [] = ⊥
+AreLeaves p (branch ∷ branches) (share ∷ shares) = IsLeaf p branch share × AreLeaves p branches shares
+
+-- A branch whose last choices are these, behind those before: for each pair put together the branch in which it is apart, the deepest first,
+-- and then those that wait besides
+abbrev pub apart_waits : (before branch : List PackChoice) → (later : List (List PackChoice)) → List (List PackChoice)
+apart_waits before [] later = later
+apart_waits before (choices.Together a b ∷ branch) later =
+    apart_waits (before ++ choices.Together a b ∷ []) branch ((before ++ choices.Apart a b ∷ []) ∷ later)
+apart_waits before (choices.Apart a b ∷ branch) later = apart_waits (before ++ choices.Apart a b ∷ []) branch later
+
+abbrev pub aparts_of : List PackChoice → List (List PackChoice)
+aparts_of branch = apart_waits [] branch []
+
+-- the branches of the leaves that are not done, the one at hand first; the shares are those of these leaves
+abbrev pub leaves_of : List PackChoice → List Share → List (List PackChoice)
+leaves_of path [] = []
+leaves_of path (share ∷ shares) = path ∷ aparts_of path
+
+-- a node is done: an inner node is lean, and a leaf is lawful and its value is at least the count
+abbrev pub IsDone : Problem → ℕ → List PackChoice → PackNode → Type 0
+IsDone p count branch (nodes.Pair a b) = IsPair p a b × ¬ (IsClosedPair p branch a b)
+IsDone p count branch (nodes.Share s) = (2 * s ≤ p.capacity) × (count ≤ share_value p branch s)
+IsDone p count branch nodes.Apart = AreAllClosed p branch × (count ≤ bundle_count p branch)
+
+-- a node of which no node comes
+abbrev pub IsOuter : PackNode → Type 0
+IsOuter (nodes.Pair a b) = ⊥
+IsOuter (nodes.Share s) = Unit {0}
+IsOuter nodes.Apart = Unit {0}
+
+-- the state of a search: the shares of the leaves that are not done, the one at hand first
+pub record IsState (p : Problem) (count : ℕ) (nodes : List PackNode) (path : List PackChoice) (shares : List Share) : Type 0 where
+  pub leaves : AreLeaves p (leaves_of path shares) shares
+  pub reads : waiting_for nodes ([] ∷ []) ≡ leaves_of path shares
+  pub done : NodesAre (IsDone p count) nodes ([] ∷ [])
+
+-- a path goes back to the nearest branch in which a pair is apart, where one waits
+pub record IsBack (before after : List PackChoice) : Type 0 where
+  pub leads : (first : List PackChoice) (rest : List (List PackChoice)) → aparts_of before ≡ first ∷ rest → (after ≡ first) × (aparts_of after ≡ rest)
+
+-- how many leaves have at least this value
+abbrev pub closed_count : ℕ → List Share → ℕ
+closed_count count shares = sum_by (λ share. if nat_le count share.value then 1 else 0) shares
+
+-- the least value of these leaves, or the count where it is no greater
+pub record IsLeastValue (count : ℕ) (shares : List Share) (bound : ℕ) : Type 0 where
+  pub most : bound ≤ count
+  pub each : All (λ share. bound ≤ share.value) shares
+  pub greatest : (b : ℕ) → b ≤ count → All (λ share. b ≤ share.value) shares → b ≤ bound
+
+-- these leaves as nodes
+abbrev pub share_nodes : List Share → List PackNode
+share_nodes shares = map (λ share. nodes.Share share.s) shares
