@@ -74,7 +74,7 @@ pub record AreParted (branch : List PackChoice) (a b : ℕ) : Type 0 where
   pub d : ℕ
   pub apart : Contains branch (Apart c d)
   pub between : ((bundle_of branch c ≡ bundle_of branch a) × (bundle_of branch d ≡ bundle_of branch b))
-              ⊎ ((bundle_of branch c ≡ bundle_of branch b) × (bundle_of branch d ≡ bundle_of branch a))
+      ⊎ ((bundle_of branch c ≡ bundle_of branch b) × (bundle_of branch d ≡ bundle_of branch a))
 
 -- a pair is closed: its edges lie in one bundle, or in two that are parted or are too heavy together
 abbrev pub IsClosedPair : Problem → List PackChoice → ℕ → ℕ → Type 0
@@ -115,3 +115,9 @@ pub record AreBundles (p : Problem) (branch : List PackChoice) (labels weights :
   pub weight_each : length weights ≡ p.required + 1
   pub labelled : (e : ℕ) → IsRequired p e → slice_index labels e ≡ bundle_of branch e
   pub weighed : (e : ℕ) → IsRequired p e → slice_index weights e ≡ bundle_weight p branch e
+
+-- the lists are of the bundles of some branch of choices on required edges
+pub record HasBundles (p : Problem) (labels weights : List ℕ) : Type 0 where
+  pub branch : List PackChoice
+  pub choices : All (IsChoice p) branch
+  pub are : AreBundles p branch labels weights

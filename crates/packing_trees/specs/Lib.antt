@@ -3,3 +3,4 @@ pub mod Trees
 pub mod Reasons
 pub mod Laws
 pub mod Claims
+pub mod Tables

@@ -1,0 +1,9 @@
+use Rattle.std.proofs.Common.{◌≡◌, ℕ, ◌-◌, ◌≤◌, List}
+use Rattle.packing_trees.specs.Tables.{over_labels}
+use Rattle.packing_trees.proofs.shares.count_bundles.Given as goal
+
+abbrev pub invariant-loop-edge : goal.invariant-loop-edge
+invariant-loop-edge l = record {
+  all : (weights : List ℕ) → l.count ≡ over_labels l.labels weights (l.edge - 1) (λ w. 1);
+  few : l.count ≤ l.edge - 1;
+}
