@@ -10,7 +10,7 @@ use Rattle.packing_trees.specs.declared.node.PackChoice.TheVariants.{Together, A
 use Rattle.packing_trees.specs.Bundles.{IsPair, IsChoice, IsClosedPair, joined, bundles_after, bundle_of, bundle_weight, share_value}
 use Rattle.fleet_pack.specs.declared.share.Share.{Share}
 use Rattle.fleet_pack.specs.FirstFit.{demand_of}
-use Rattle.fleet_pack.specs.Search.{IsLeaf, IsLight}
+use Rattle.fleet_pack.specs.States.{IsLeaf, IsLight}
 
 after_append : (before : ℕ → ℕ) (branch more : List PackChoice) → bundles_after before (branch ++ more) ≡ bundles_after (bundles_after before branch) more
 after_append before [] more = refl
@@ -110,8 +110,7 @@ pub leaf_apart : (p : Problem) (branch : List PackChoice) (share : Share) (a b :
 leaf_apart p branch share a b leaf pair = record {
   choices = choice_more p branch (Apart a b) leaf.choices pair;
   light = λ bundle. rw (of_apart branch a b) (leaf.light bundle);
-  fits = leaf.fits;
-  value_is = rw (of_apart branch a b) leaf.value_is;
+  share = record { fits = leaf.share.fits; value_is = rw (of_apart branch a b) leaf.share.value_is };
 }
 
 -- at first each edge is a bundle of its own

@@ -14,7 +14,7 @@ use Rattle.packing_trees.specs.Bundles.{IsPair, IsChoice, IsClosedPair, bundle_c
 use Rattle.packing_trees.specs.Reasons.{branches_below}
 use Rattle.packing_trees.specs.Trees.{PackTree, pair, share, settled, preorder, PairsIn, IsLean, Shows, turns_of}
 use Rattle.fleet_pack.specs.declared.share.Share.{Share}
-use Rattle.fleet_pack.specs.Search.{waiting_for, NodesAre, IsLeaf, AreLeaves, leaves_of, IsDone, IsState, closed_count, IsLeastValue, share_nodes}
+use Rattle.fleet_pack.specs.States.{waiting_for, NodesAre, IsLeaf, AreLeaves, leaves_of, IsDone, IsState, closed_count, IsLeastValue, share_nodes}
 use Rattle.fleet_pack.proofs.State.{are_weaker, done_fewer}
 
 abbrev Branches : Type 0
@@ -180,7 +180,7 @@ module _ (p : Problem) where
   left_done bound [] (s ∷ shares) leaves above = absurd leaves
   left_done bound (b ∷ branches) (s ∷ shares) leaves above =
       let here : bound ≤ s.value = All-head (λ (x : Share). bound ≤ x.value) s shares above in
-      ((leaves.0.fits, omega (arith, here, leaves.0.value_is)), left_done bound branches shares leaves.1 (All-tail (λ (x : Share). bound ≤ x.value) s shares above))
+      ((leaves.0.share.fits, omega (arith, here, leaves.0.share.value_is)), left_done bound branches shares leaves.1 (All-tail (λ (x : Share). bound ≤ x.value) s shares above))
 
   left_whole : (branches : Branches) (shares : List Share) → AreLeaves p branches shares → waiting_for (share_nodes shares) branches ≡ []
   left_whole [] [] leaves = refl
@@ -193,7 +193,7 @@ module _ (p : Problem) where
   left_turns count (b ∷ branches) [] leaves = absurd leaves
   left_turns count [] (s ∷ shares) leaves = absurd leaves
   left_turns count (b ∷ branches) (s ∷ shares) leaves =
-      let here : turn_of count b (nodes.Share s.s) ≡ (if nat_le count s.value then 1 else 0) = ap {B = ℕ} (λ v. if nat_le count v then 1 else 0) (sym leaves.0.value_is) in
+      let here : turn_of count b (nodes.Share s.s) ≡ (if nat_le count s.value then 1 else 0) = ap {B = ℕ} (λ v. if nat_le count v then 1 else 0) (sym leaves.0.share.value_is) in
       omega (arith, here, left_turns count branches shares leaves.1, sum_by-cons (λ (x : Share). if nat_le count x.value then 1 else 0) s shares)
 
   left_above : (x : ℕ) (branches : Branches) (shares : List Share) → AreLeaves p branches shares → NodesAre (IsAbove x) (share_nodes shares) branches → All (λ s. x ≤ s.value) shares
@@ -201,7 +201,7 @@ module _ (p : Problem) where
   left_above x (b ∷ branches) [] leaves above = absurd leaves
   left_above x [] (s ∷ shares) leaves above = absurd leaves
   left_above x (b ∷ branches) (s ∷ shares) leaves above =
-      All-cons (λ (s : Share). x ≤ s.value) s shares (omega (arith, above.0, leaves.0.value_is)) (left_above x branches shares leaves.1 above.1)
+      All-cons (λ (s : Share). x ≤ s.value) s shares (omega (arith, above.0, leaves.0.share.value_is)) (left_above x branches shares leaves.1 above.1)
 
   -- a search ends with a tree
   pub record Ends (count bound turns : ℕ) (all : List PackNode) : Type 0 where

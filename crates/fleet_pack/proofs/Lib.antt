@@ -4,3 +4,7 @@ pub mod State
 pub mod Bundling
 pub mod Growing
 pub mod FewTurns
+pub mod Pairing
+pub mod Ranking
+pub mod Stepping
+pub mod Finishing

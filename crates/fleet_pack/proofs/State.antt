@@ -9,7 +9,7 @@ use Rattle.packing_trees.specs.declared.node.PackNode.TheVariants as nodes
 use Rattle.packing_trees.specs.Bundles.{IsPair, IsChoice, IsClosedPair, bundle_count, share_value}
 use Rattle.packing_trees.specs.Reasons.{branches_below}
 use Rattle.fleet_pack.specs.declared.share.Share.{Share}
-use Rattle.fleet_pack.specs.Search.{waiting_for, NodesAre, IsLeaf, AreLeaves, apart_waits, aparts_of, leaves_of, IsDone, IsOuter, IsState, IsBack}
+use Rattle.fleet_pack.specs.States.{waiting_for, NodesAre, IsLeaf, AreLeaves, apart_waits, aparts_of, leaves_of, IsDone, IsOuter, IsState, IsBack}
 
 abbrev Branches : Type 0
 Branches = List (List PackChoice)

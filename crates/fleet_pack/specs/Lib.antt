@@ -1,4 +1,6 @@
 pub mod FirstFit
 pub mod Groups
-pub mod Search
+pub mod States
 pub mod Laws
+pub mod Ranks
+pub mod Packed

@@ -1,10 +1,14 @@
 //! The fewest vehicles: packings of the required edges, and trees that prove that no packing has fewer groups.
 #![tactic(auto)]
 
+mod ending;
 mod first_fit;
 mod grouping;
 mod item;
 mod laws;
+mod numbering;
+mod pairs;
+mod search;
 mod share;
 
 pub use laws::lean_trees_are_small;

@@ -1,5 +1,5 @@
 -- What a search keeps: the nodes that are done, the branch of the leaf at hand, and the leaves that wait. No public contract speaks of this.
-use Rattle.std.specs.Prelude.{◌≡◌, ℕ, ◌+◌, ◌*◌, ◌≤◌, List, [], ◌∷◌, ◌++◌, length, reverse, map, sum_by, if◌then◌else◌, nat_le}
+use Rattle.std.specs.Prelude.{◌≡◌, ℕ, ◌+◌, ◌*◌, ◌<◌, ◌≤◌, List, [], ◌∷◌, ◌++◌, length, reverse, map, sum_by, if◌then◌else◌, nat_le}
 use Rattle.std.specs.List.{All, flat_map}
 use Rattle.carp_base.specs.Problem.{Problem}
 use Rattle.packing_trees.specs.declared.node.PackChoice.{PackChoice}
@@ -8,7 +8,11 @@ use Rattle.packing_trees.specs.declared.node.PackNode.{PackNode}
 use Rattle.packing_trees.specs.declared.node.PackNode.TheVariants as nodes
 use Rattle.packing_trees.specs.Bundles.{IsPair, IsChoice, IsClosedPair, AreAllClosed, bundle_count, bundle_weight, share_value}
 use Rattle.packing_trees.specs.Reasons.{branches_below}
+use Rattle.std.specs.Prelude.{Option, Some, None, ◌⊎◌}
 use Rattle.fleet_pack.specs.declared.share.Share.{Share}
+use Rattle.fleet_pack.specs.declared.pairs.OpenPair.{OpenPair}
+use Rattle.fleet_pack.specs.declared.search.Search.{Search}
+use Rattle.fleet_pack.specs.Groups.{IsGrouping}
 
 -- the branches that wait after some nodes, each of which stands under the first of those that wait before it
 abbrev pub waiting_for : List PackNode → List (List PackChoice) → List (List PackChoice)
@@ -26,12 +30,16 @@ NodesAre P (node ∷ nodes) (branch ∷ waiting) = P branch node × NodesAre P n
 abbrev pub IsLight : Problem → List PackChoice → Type 0
 IsLight p branch = (bundle : ℕ) → bundle_weight p branch bundle ≤ p.capacity
 
--- a leaf that is not done, with a lawful share and its value
-pub record IsLeaf (p : Problem) (branch : List PackChoice) (share : Share) : Type 0 where
-  pub choices : All (IsChoice p) branch
-  pub light : IsLight p branch
+-- a lawful share, with its value under a branch
+pub record IsShare (p : Problem) (branch : List PackChoice) (share : Share) : Type 0 where
   pub fits : 2 * share.s ≤ p.capacity
   pub value_is : share.value ≡ share_value p branch share.s
+
+-- a leaf that is not done, with its share
+pub record IsLeaf (p : Problem) (branch : List PackChoice) (found : Share) : Type 0 where
+  pub choices : All (IsChoice p) branch
+  pub light : IsLight p branch
+  pub share : IsShare p branch found
 
 abbrev pub AreLeaves : Problem → List (List PackChoice) → List Share → Type 0
 AreLeaves p [] [] = Unit {0}
@@ -90,3 +98,35 @@ pub record IsLeastValue (count : ℕ) (shares : List Share) (bound : ℕ) : Type
 -- these leaves as nodes
 abbrev pub share_nodes : List Share → List PackNode
 share_nodes shares = map (λ share. nodes.Share share.s) shares
+
+-- an open pair, or none where each pair is closed
+abbrev pub FindsOpen : Problem → List PackChoice → Option OpenPair → Type 0
+FindsOpen p branch None = AreAllClosed p branch
+FindsOpen p branch (Some found) = IsPair p found.a found.b × ¬ (IsClosedPair p branch found.a found.b)
+
+-- the same of the pairs that stand before a pair, row by row
+abbrev pub FindsBefore : Problem → List PackChoice → (a b : ℕ) → Option OpenPair → Type 0
+FindsBefore p branch a b None = (c d : ℕ) → IsPair p c d → (c < a) ⊎ ((c ≡ a) × (d < b)) → IsClosedPair p branch c d
+FindsBefore p branch a b (Some found) = IsPair p found.a found.b × ¬ (IsClosedPair p branch found.a found.b)
+
+-- the better of an open pair and another pair, if that is open
+abbrev pub FindsOneMore : Problem → List PackChoice → (a b : ℕ) → (before after : Option OpenPair) → Type 0
+FindsOneMore p branch a b before None = (before ≡ None) × IsClosedPair p branch a b
+FindsOneMore p branch a b before (Some found) = (before ≡ Some found) ⊎ ((found.a ≡ a) × (found.b ≡ b) × ¬ (IsClosedPair p branch a b))
+
+-- the best packing so far, and the state of the search for its count
+pub record IsSearch (p : Problem) (search : Search) : Type 0 where
+  pub best : IsGrouping p search.best
+  pub state : IsState p search.best.count search.nodes.items search.path.items (reverse search.shares.items)
+
+-- the same where the share of the leaf at hand was taken from the others
+pub record IsAtHand (p : Problem) (search : Search) (share : Share) : Type 0 where
+  pub best : IsGrouping p search.best
+  pub state : IsState p search.best.count search.nodes.items search.path.items (share ∷ reverse search.shares.items)
+
+abbrev pub turns_now : Search → ℕ
+turns_now search = length search.nodes.items + closed_count search.best.count search.shares.items
+
+-- each leaf has a value of at least the count, or the turns are at least so many
+abbrev pub HasEnded : ℕ → Search → Type 0
+HasEnded turns search = All (λ share. search.best.count ≤ share.value) search.shares.items ⊎ (turns ≤ turns_now search)

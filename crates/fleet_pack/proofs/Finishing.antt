@@ -1,0 +1,65 @@
+-- What the leaves that are left say at the end.
+use Rattle.std.proofs.Common.{◌≡◌, ℕ, ◌+◌, ◌≤◌, ◌<◌, List, [], ◌∷◌, ◌++◌, length, reverse, take, get_or, min, if◌then◌else◌, nat_le, refl, sym, ap, ◌∙◌, subst, arith, inl, inr, ◌⊎◌}
+use Rattle.std.specs.List.{All}
+use Rattle.std.proofs.lemmas.List.{take_more, take_all, reverse-reverse}
+use Rattle.std.proofs.lemmas.List.Elements.{All-append, All-cons, All-nil, All-weaker, All-tail, All-head, All-get_or}
+use Rattle.std.proofs.lemmas.List.Sorted.{All-permutation, IsPermutation-reverse, sum_by-IsPermutation, IsPermutation-sym}
+use Rattle.carp_base.specs.Problem.{Problem}
+use Rattle.packing_trees.specs.declared.node.PackChoice.{PackChoice}
+use Rattle.packing_trees.specs.declared.node.PackNode.{PackNode}
+use Rattle.packing_trees.specs.declared.packing.Packing.{Packing}
+use Rattle.packing_trees.specs.Trees.{PackTree, Shows}
+use Rattle.fleet_pack.specs.declared.share.Share.{Share}
+use Rattle.fleet_pack.specs.Packed.{HasTree}
+use Rattle.fleet_pack.specs.States.{IsLeastValue, IsState, closed_count, share_nodes}
+use Rattle.fleet_pack.proofs.Growing.{ends}
+
+All-last : {X : Type 0} (P : X → Type 0) (xs : List X) (x : X) → All P (xs ++ x ∷ []) → All P xs × P x
+All-last P [] x all = (All-nil P, All-head P x [] all)
+All-last P (y ∷ xs) x all = let rest = All-last P xs x (All-tail P y (xs ++ x ∷ []) all) in (All-cons P y xs (All-head P y (xs ++ x ∷ []) all) rest.0, rest.1)
+
+least_with : (count least : ℕ) (shares : List Share) (x : Share) → IsLeastValue count shares least → IsLeastValue count (shares ++ x ∷ []) (min least x.value)
+least_with count least shares x was = record {
+  most = omega (arith, was.most);
+  each = All-append (λ (y : Share). min least x.value ≤ y.value) shares (x ∷ [])
+      (All-weaker (λ (y : Share). least ≤ y.value) (λ (y : Share). min least x.value ≤ y.value) (λ y le. omega (arith, le)) shares was.each)
+      (All-cons (λ (y : Share). min least x.value ≤ y.value) x [] (omega arith) (All-nil (λ (y : Share). min least x.value ≤ y.value)));
+  greatest = λ b le all.
+      let parts = All-last (λ (y : Share). b ≤ y.value) shares x all in
+      omega (arith, was.greatest b le parts.0, parts.1);
+}
+
+pub least_more : (count least now : ℕ) (shares : List Share) (i : ℕ) (d : Share) → i < length shares → now ≡ min least (get_or shares i d).value → IsLeastValue count (take i shares) least →
+    IsLeastValue count (take (i + 1) shares) now
+least_more count least now shares i d less is was =
+    subst (IsLeastValue count (take (i + 1) shares)) (sym is)
+    (subst (λ xs. IsLeastValue count xs (min least (get_or shares i d).value)) (sym (take_more shares i d less)) (least_with count least (take i shares) (get_or shares i d) was))
+
+least_turned : (count bound : ℕ) (shares : List Share) → IsLeastValue count shares bound → IsLeastValue count (reverse shares) bound
+least_turned count bound shares was = record {
+  most = was.most;
+  each = All-permutation (λ (y : Share). bound ≤ y.value) shares (reverse shares) (IsPermutation-reverse shares) was.each;
+  greatest = λ b le all. was.greatest b le (All-permutation (λ (y : Share). b ≤ y.value) (reverse shares) shares (IsPermutation-sym shares (reverse shares) (IsPermutation-reverse shares)) all);
+}
+
+count_turned : (count : ℕ) (shares : List Share) → closed_count count (reverse shares) ≡ closed_count count shares
+count_turned count shares = sum_by-IsPermutation (λ (x : Share). if nat_le count x.value then 1 else 0) shares (reverse shares) (IsPermutation-reverse shares)
+
+pub has_tree : (p : Problem) (taken : List PackNode) (path : List PackChoice) (shares : List Share) (found : Packing) →
+    IsState p found.count taken path (reverse shares) → IsLeastValue found.count shares found.bound → found.turns ≡ length taken + closed_count found.count shares →
+    found.tree.items ≡ taken ++ share_nodes (reverse shares) → HasTree p found
+has_tree p taken path shares found state least turns are =
+    let end = ends p found.count found.bound found.turns taken path (reverse shares) state (least_turned found.count found.bound shares least) (omega (arith, turns, count_turned found.count shares)) in record {
+  tree = end.tree;
+  nodes_are = end.are ∙ sym are;
+  pairs = end.pairs;
+  lean = end.lean;
+  shows = end.shows;
+  most = least.most;
+  greatest = end.greatest;
+  turns_are = end.turns_are;
+}
+
+pub has_ended : (count bound limit turns : ℕ) (shares : List Share) → IsLeastValue count shares bound → All (λ x. count ≤ x.value) shares ⊎ (limit ≤ turns) → bound < count → limit ≤ turns
+has_ended count bound limit turns shares least (inl all) low = absurd (omega (arith, least.greatest count (omega arith) all, low))
+has_ended count bound limit turns shares least (inr up) low = up
