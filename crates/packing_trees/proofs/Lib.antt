@@ -2,3 +2,5 @@ pub mod Sums
 pub mod Naming
 pub mod Weighing
 pub mod Parting
+pub mod Classes
+pub mod Grouping

@@ -128,16 +128,16 @@ over_same p branch labels weights n all are h =
     let required : IsRequired p e = record { from_one = one; in_range = below } in
     ap (λ l. if l == e then h (slice_index weights e) else 0) (are.labelled e required) ∙ ap (λ w. if bundle_of branch e == e then h w else 0) (are.weighed e required))
 
-abbrev alone_of : (capacity s w : ℕ) → ℕ
+abbrev pub alone_of : (capacity s w : ℕ) → ℕ
 alone_of capacity s w = if nat_lt (capacity - s) w then 1 else 0
 
-abbrev large_of : (capacity s w : ℕ) → ℕ
+abbrev pub large_of : (capacity s w : ℕ) → ℕ
 large_of capacity s w = if is_large capacity s w then 1 else 0
 
-abbrev large_weight_of : (capacity s w : ℕ) → ℕ
+abbrev pub large_weight_of : (capacity s w : ℕ) → ℕ
 large_weight_of capacity s w = if is_large capacity s w then w else 0
 
-abbrev middle_weight_of : (capacity s w : ℕ) → ℕ
+abbrev pub middle_weight_of : (capacity s w : ℕ) → ℕ
 middle_weight_of capacity s w = if nat_le (2 * w) capacity && nat_le s w then w else 0
 
 value_same : (a b x y a' b' x' y' q : ℕ) → a ≡ a' → b ≡ b' → x ≡ x' → y ≡ y' → a + b + div_ceil (x - (b * q - y)) q ≡ a' + b' + div_ceil (x' - (b' * q - y')) q

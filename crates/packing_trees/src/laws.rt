@@ -1,0 +1,16 @@
+// Laws over bundles and packing trees, as functions whose contract is the law.
+ghost use Rattle.packing_trees.specs.Laws.{BundlesAreJoined, BundlesAreNamedByTheLeast, ProofsBoundPackings, TreesBoundPackings};
+
+/// Every packing that meets a branch has at least as many groups as a tree shows there, and so every packing has at least
+/// as many as a proof shows.
+pub fn trees_bound_packings()
+    ensures trees { TreesBoundPackings }
+    ensures proofs { ProofsBoundPackings }
+{}
+
+/// Two edges have one bundle's number exactly where together choices join them, and that number is the least edge of the
+/// bundle.
+pub fn bundles_are_joined()
+    ensures joined { BundlesAreJoined }
+    ensures least { BundlesAreNamedByTheLeast }
+{}
