@@ -1,13 +1,13 @@
 -- What one more choice does to the bundles.
-use Rattle.std.proofs.Common.{◌≡◌, ◌≢◌, ℕ, zero, suc, ◌+◌, ◌*◌, ◌≤◌, ◌<◌, ◌==◌, Bool, true, false, if◌then◌else◌, min, max, List, [], ◌∷◌, ◌++◌, refl, sym, ap, ◌∙◌, subst, arith, inl, inr, ◌⊎◌}
+use Rattle.std.proofs.Common.{◌≡◌, ℕ, zero, suc, ◌+◌, ◌≤◌, ◌<◌, ◌==◌, if◌then◌else◌, min, max, List, [], ◌∷◌, ◌++◌, refl, sym, ap, ◌∙◌, subst, arith, inl, inr}
 use Rattle.std.specs.List.{All}
 use Rattle.std.proofs.lemmas.List.Elements.{All-append, All-cons, All-nil}
 use Rattle.std.proofs.lemmas.Bool.{cases_eq, cases_lt, eq-eqb, ne_eqb}
-use Rattle.carp_base.specs.Problem.{Problem, IsRequired, IsValid}
+use Rattle.carp_base.specs.Problem.{Problem, IsValid}
 use Rattle.plan_model.specs.Sums.{sum_to}
 use Rattle.packing_trees.specs.declared.node.PackChoice.{PackChoice}
 use Rattle.packing_trees.specs.declared.node.PackChoice.TheVariants.{Together, Apart}
-use Rattle.packing_trees.specs.Bundles.{IsPair, IsChoice, IsClosedPair, joined, bundles_after, bundle_of, bundle_weight, share_value}
+use Rattle.packing_trees.specs.Bundles.{IsPair, IsChoice, IsClosedPair, joined, bundles_after, bundle_of}
 use Rattle.fleet_pack.specs.declared.share.Share.{Share}
 use Rattle.fleet_pack.specs.FirstFit.{demand_of}
 use Rattle.fleet_pack.specs.States.{IsLeaf, IsLight}
@@ -87,7 +87,7 @@ light_names p names a b light fit bundle = elim (cases_eq bundle (min (names a) 
   | inl is ↦
       let less = sum_le p.required (share_of p (joined names a b) (min (names a) (names b))) (λ e. share_of p names (names a) e + share_of p names (names b) e) (share_of_both p names a b) in
       let here : sum_to p.required (share_of p (joined names a b) bundle) ≡ sum_to p.required (share_of p (joined names a b) (min (names a) (names b))) =
-          ap (λ g. sum_to p.required (share_of p (joined names a b) g)) is in
+      ap (λ g. sum_to p.required (share_of p (joined names a b) g)) is in
       omega (arith, here, less, fit, sum_plus p.required (share_of p names (names a)) (share_of p names (names b)))
   | inr other ↦ omega (arith, light bundle, sum_le p.required (share_of p (joined names a b) bundle) (share_of p names bundle) (λ e. share_of_other p names a b bundle e other))
 ]
@@ -96,10 +96,10 @@ pub light_together : (p : Problem) (branch : List PackChoice) (a b : ℕ) → Is
 unfolding share_of
 light_together p branch a b light stays_open = λ bundle.
     let fit : sum_to p.required (share_of p (bundle_of branch) (bundle_of branch a)) + sum_to p.required (share_of p (bundle_of branch) (bundle_of branch b)) ≤ p.capacity =
-        elim (cases_lt p.capacity (sum_to p.required (share_of p (bundle_of branch) (bundle_of branch a)) + sum_to p.required (share_of p (bundle_of branch) (bundle_of branch b)))) [
-          | inl heavy ↦ absurd (stays_open (inr (inr heavy)))
-          | inr fits ↦ fits
-        ] in
+    elim (cases_lt p.capacity (sum_to p.required (share_of p (bundle_of branch) (bundle_of branch a)) + sum_to p.required (share_of p (bundle_of branch) (bundle_of branch b)))) [
+      | inl heavy ↦ absurd (stays_open (inr (inr heavy)))
+      | inr fits ↦ fits
+    ] in
     subst (λ (names : ℕ → ℕ). sum_to p.required (share_of p names bundle) ≤ p.capacity) (sym (of_together branch a b)) (light_names p (bundle_of branch) a b light fit bundle)
 
 pub choice_more : (p : Problem) (branch : List PackChoice) (choice : PackChoice) → All (IsChoice p) branch → IsChoice p choice → All (IsChoice p) (branch ++ choice ∷ [])

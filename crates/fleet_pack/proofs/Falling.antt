@@ -130,15 +130,25 @@ module _ (p : Problem) where
   never_above e zero less = refl
   never_above e (suc n) less =
       let last : Item = record { edge = suc n; demand = demand_of p (suc n) } in
-      omega (arith, never_above e n (omega (arith, less)), sum_by-append (λ (i : Item). tick e i.edge) (numbered p n) (last ∷ []), sum_by-cons (λ (i : Item). tick e i.edge) last [],
-      tick_other e (suc n) (λ same. absurd (omega (arith, same, less))))
+      omega (
+        arith,
+        never_above e n (omega (arith, less)),
+        sum_by-append (λ (i : Item). tick e i.edge) (numbered p n) (last ∷ []),
+        sum_by-cons (λ (i : Item). tick e i.edge) last [],
+        tick_other e (suc n) (λ same. absurd (omega (arith, same, less))),
+      )
 
   never_zero : (n : ℕ) → sum_by (λ (i : Item). tick 0 i.edge) (numbered p n) ≡ 0
   never_zero zero = refl
   never_zero (suc n) =
       let last : Item = record { edge = suc n; demand = demand_of p (suc n) } in
-      omega (arith, never_zero n, sum_by-append (λ (i : Item). tick 0 i.edge) (numbered p n) (last ∷ []), sum_by-cons (λ (i : Item). tick 0 i.edge) last [],
-      tick_other 0 (suc n) (λ same. absurd (omega (arith, same))))
+      omega (
+        arith,
+        never_zero n,
+        sum_by-append (λ (i : Item). tick 0 i.edge) (numbered p n) (last ∷ []),
+        sum_by-cons (λ (i : Item). tick 0 i.edge) last [],
+        tick_other 0 (suc n) (λ same. absurd (omega (arith, same))),
+      )
 
   once_each : (e n : ℕ) → 1 ≤ e → e ≤ n → sum_by (λ (i : Item). tick e i.edge) (numbered p n) ≡ 1
   once_each e zero low high = absurd (omega (arith, low, high))
@@ -174,8 +184,8 @@ module _ (p : Problem) where
   each_item : (items : List Item) → IsValid p → AreFalling p items → All (IsItem p) items
   each_item items valid falling_ones = All-permutation (IsItem p) (numbered p p.required) items falling_ones.same
       (each_numbered p.required (λ e low high.
-        let required : IsRequired p e = record { from_one = low; in_range = high } in
-        record { required = required; demand_is = refl; fits = (valid.tasks e required).demand_fits }))
+      let required : IsRequired p e = record { from_one = low; in_range = high } in
+      record { required = required; demand_is = refl; fits = (valid.tasks e required).demand_fits }))
 
   small_item : (i : Item) → IsValid p → IsItem p i → i.demand < 2 ^ 64
   small_item i valid item = omega (arith, item.fits, valid.capacity_in)

@@ -2,14 +2,14 @@
 use Rattle.std.proofs.Common.{◌≡◌, ℕ, zero, suc, ◌+◌, ◌-◌, ◌*◌, ◌/◌, ◌^◌, ◌≤◌, ◌<◌, ◌==◌, Bool, true, false, ◌||◌, ◌&&◌, cond, if◌then◌else◌, nat_le, List, [], ◌∷◌, ◌++◌, refl, sym, ap, ◌∙◌, subst, arith, add-one, inl, inr, ◌⊎◌}
 use Rattle.std.specs.List.{list_any, Contains}
 use Rattle.std.proofs.lemmas.List.Folds.{list_any-append}
-use Rattle.std.proofs.lemmas.Bool.{or_cases, and_from, false_from_ne_true, eq-eqb, eqb-true, cases_eq, cases_Bool}
+use Rattle.std.proofs.lemmas.Bool.{or_cases, and_from, false_from_ne_true, eq-eqb, eqb-true, cases_eq}
 use Rattle.std.proofs.Math.Pow.{pow_mono}
 use Rattle.std.proofs.Math.Nat.{two-pow-succ}
 use Rattle.carp_base.specs.Problem.{Problem}
 use Rattle.plan_model.specs.Sums.{sum_to}
 use Rattle.packing_trees.specs.declared.node.PackChoice.{PackChoice}
 use Rattle.packing_trees.specs.declared.node.PackChoice.TheVariants.{Together, Apart}
-use Rattle.packing_trees.specs.Bundles.{IsPair, IsClosedPair, AreParted, joined, bundle_of, bundles_after, bundle_count, share_value}
+use Rattle.packing_trees.specs.Bundles.{IsPair, IsClosedPair, joined, bundles_after, bundle_count, share_value}
 use Rattle.packing_trees.specs.Trees.{PackTree, pair, share, settled, PairsIn, IsLean, turns_of}
 use Rattle.fleet_pack.proofs.Bundling.{sum_le, together_same}
 

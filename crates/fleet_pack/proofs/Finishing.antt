@@ -1,16 +1,21 @@
 -- What the leaves that are left say at the end.
-use Rattle.std.proofs.Common.{◌≡◌, ℕ, ◌+◌, ◌≤◌, ◌<◌, List, [], ◌∷◌, ◌++◌, length, reverse, take, get_or, min, if◌then◌else◌, nat_le, refl, sym, ap, ◌∙◌, subst, arith, inl, inr, ◌⊎◌}
+use Rattle.std.proofs.Common.{◌≡◌, ℕ, ◌+◌, ◌≤◌, ◌<◌, List, [], ◌∷◌, ◌++◌, length, reverse, take, get_or, min, if◌then◌else◌, nat_le, sym, ◌∙◌, subst, arith, inl, inr, ◌⊎◌, Result, Ok, Err, IfOk}
 use Rattle.std.specs.List.{All}
-use Rattle.std.proofs.lemmas.List.{take_more, take_all, reverse-reverse}
-use Rattle.std.proofs.lemmas.List.Elements.{All-append, All-cons, All-nil, All-weaker, All-tail, All-head, All-get_or}
+use Rattle.std.proofs.lemmas.List.{take_more}
+use Rattle.std.proofs.lemmas.List.Elements.{All-append, All-cons, All-nil, All-weaker, All-tail, All-head}
 use Rattle.std.proofs.lemmas.List.Sorted.{All-permutation, IsPermutation-reverse, sum_by-IsPermutation, IsPermutation-sym}
-use Rattle.carp_base.specs.Problem.{Problem}
+use Rattle.std.proofs.lemmas.Bool.{cases_lt}
+use Rattle.carp_base.specs.Problem.{Problem, IsValid}
+use Rattle.carp_base.specs.Packings.{IsPacking}
 use Rattle.packing_trees.specs.declared.node.PackChoice.{PackChoice}
 use Rattle.packing_trees.specs.declared.node.PackNode.{PackNode}
+use Rattle.carp_base.specs.declared.fail.Memory.{Memory}
 use Rattle.packing_trees.specs.declared.packing.Packing.{Packing}
-use Rattle.packing_trees.specs.Trees.{PackTree, Shows}
+use Rattle.packing_trees.specs.Laws.{ProofsBoundPackings}
 use Rattle.fleet_pack.specs.declared.share.Share.{Share}
-use Rattle.fleet_pack.specs.Packed.{HasTree}
+use Rattle.fleet_pack.specs.Packed.{HasTree, IsPacked}
+use Rattle.fleet_pack.specs.Laws.{LeanTreesAreSmall}
+use Rattle.fleet_pack.specs.FirstFit.{first_fit_count}
 use Rattle.fleet_pack.specs.States.{IsLeastValue, IsState, closed_count, share_nodes}
 use Rattle.fleet_pack.proofs.Growing.{ends}
 
@@ -50,16 +55,38 @@ pub has_tree : (p : Problem) (taken : List PackNode) (path : List PackChoice) (s
     found.tree.items ≡ taken ++ share_nodes (reverse shares) → HasTree p found
 has_tree p taken path shares found state least turns are =
     let end = ends p found.count found.bound found.turns taken path (reverse shares) state (least_turned found.count found.bound shares least) (omega (arith, turns, count_turned found.count shares)) in record {
-  tree = end.tree;
-  nodes_are = end.are ∙ sym are;
-  pairs = end.pairs;
-  lean = end.lean;
-  shows = end.shows;
-  most = least.most;
-  greatest = end.greatest;
-  turns_are = end.turns_are;
+      tree = end.tree;
+      nodes_are = end.are ∙ sym are;
+      pairs = end.pairs;
+      lean = end.lean;
+      shows = end.shows;
+      most = least.most;
+      greatest = end.greatest;
+      turns_are = end.turns_are;
+    }
+
+pub has_ended : (count bound limit turns now : ℕ) (shares : List Share) → IsLeastValue count shares bound → All (λ x. count ≤ x.value) shares ⊎ (limit ≤ turns) → now ≡ turns → bound < count → limit ≤ now
+has_ended count bound limit turns now shares least (inl all) same low = absurd (omega (arith, least.greatest count (omega arith) all, low))
+has_ended count bound limit turns now shares least (inr up) same low = omega (arith, up, same)
+
+-- the whole answer
+pub is_packed : (p : Problem) (turns : ℕ) (found : Packing) → IsValid p → ProofsBoundPackings → LeanTreesAreSmall → IsPacking p found.groups.items found.count → found.count ≤ first_fit_count p →
+    HasTree p found → (found.bound < found.count → turns ≤ found.turns) → IsPacked p turns found
+is_packed p turns found valid bounds small packing first_fit tree ended = record {
+  packing = packing;
+  first_fit = first_fit;
+  tree = tree;
+  ended = ended;
+  whole = λ many. elim (cases_lt found.bound found.count) [
+    | inl low ↦ absurd (omega (arith, many, ended low, tree.turns_are, small p found.count tree.tree tree.pairs tree.lean))
+    | inr high ↦ omega (arith, high, tree.most)
+  ];
+  exact = λ groups count packs. bounds p found.tree.items found.bound groups count valid
+      (record { tree = tree.tree; nodes_are = tree.nodes_are; pairs = tree.pairs; lean = tree.lean; shows = tree.shows }) packs;
 }
 
-pub has_ended : (count bound limit turns : ℕ) (shares : List Share) → IsLeastValue count shares bound → All (λ x. count ≤ x.value) shares ⊎ (limit ≤ turns) → bound < count → limit ≤ turns
-has_ended count bound limit turns shares least (inl all) low = absurd (omega (arith, least.greatest count (omega arith) all, low))
-has_ended count bound limit turns shares least (inr up) low = up
+pub answers : (p : Problem) (turns count : ℕ) (r : Result Packing Memory) → IsValid p → ProofsBoundPackings → LeanTreesAreSmall → count ≤ first_fit_count p →
+    IfOk r (λ found. IsPacking p found.groups.items found.count) → IfOk r (λ found. found.count ≡ count) → IfOk r (HasTree p) → IfOk r (λ found. found.bound < found.count → turns ≤ found.turns) →
+    IfOk r (IsPacked p turns)
+answers p turns count (Ok found) valid bounds small few packing is tree ended = is_packed p turns found valid bounds small packing (omega (arith, is, few)) tree ended
+answers p turns count (Err e) valid bounds small few packing is tree ended = tt

@@ -1,7 +1,6 @@
 -- The tree whose nodes these are.
-use Rattle.std.proofs.Common.{◌≡◌, ℕ, suc, ◌+◌, ◌*◌, ◌≤◌, true, if◌then◌else◌, nat_le, List, [], ◌∷◌, ◌++◌, length, refl, sym, ap, ◌∙◌, subst, arith, append_assoc, append-nil}
-use Rattle.std.specs.List.{All, flat_map, sum_by}
-use Rattle.std.proofs.lemmas.List.{length-append}
+use Rattle.std.proofs.Common.{◌≡◌, ℕ, ◌+◌, ◌≤◌, if◌then◌else◌, nat_le, List, [], ◌∷◌, ◌++◌, length, refl, sym, ap, ◌∙◌, subst, arith, append_assoc, append-nil}
+use Rattle.std.specs.List.{All, flat_map}
 use Rattle.std.proofs.lemmas.List.Sums.{sum_by-cons}
 use Rattle.std.proofs.lemmas.List.Elements.{All-nil, All-cons, All-head, All-tail}
 use Rattle.std.proofs.lemmas.Bool.{le-leb}
@@ -10,11 +9,11 @@ use Rattle.packing_trees.specs.declared.node.PackChoice.{PackChoice}
 use Rattle.packing_trees.specs.declared.node.PackChoice.TheVariants as choices
 use Rattle.packing_trees.specs.declared.node.PackNode.{PackNode}
 use Rattle.packing_trees.specs.declared.node.PackNode.TheVariants as nodes
-use Rattle.packing_trees.specs.Bundles.{IsPair, IsChoice, IsClosedPair, bundle_count, share_value}
+use Rattle.packing_trees.specs.Bundles.{bundle_count, share_value}
 use Rattle.packing_trees.specs.Reasons.{branches_below}
 use Rattle.packing_trees.specs.Trees.{PackTree, pair, share, settled, preorder, PairsIn, IsLean, Shows, turns_of}
 use Rattle.fleet_pack.specs.declared.share.Share.{Share}
-use Rattle.fleet_pack.specs.States.{waiting_for, NodesAre, IsLeaf, AreLeaves, leaves_of, IsDone, IsState, closed_count, IsLeastValue, share_nodes}
+use Rattle.fleet_pack.specs.States.{waiting_for, NodesAre, AreLeaves, leaves_of, IsDone, IsState, closed_count, IsLeastValue, share_nodes}
 use Rattle.fleet_pack.proofs.State.{are_weaker, done_fewer}
 
 abbrev Branches : Type 0
@@ -71,20 +70,23 @@ module _ (p : Problem) where
         IsDone p bound branch (nodes.Pair a b) → flat_map preorder trees ≡ all →
         AllStand bound ((branch ++ choices.Together a b ∷ []) ∷ ((branch ++ choices.Apart a b ∷ []) ∷ waiting)) trees →
         all_turns count ((branch ++ choices.Together a b ∷ []) ∷ ((branch ++ choices.Apart a b ∷ []) ∷ waiting)) trees
-            ≡ turns_along count all ((branch ++ choices.Together a b ∷ []) ∷ ((branch ++ choices.Apart a b ∷ []) ∷ waiting)) →
+        ≡ turns_along count all ((branch ++ choices.Together a b ∷ []) ∷ ((branch ++ choices.Apart a b ∷ []) ∷ waiting)) →
         ((x : ℕ) → AllShow x ((branch ++ choices.Together a b ∷ []) ∷ ((branch ++ choices.Apart a b ∷ []) ∷ waiting)) trees →
-            NodesAre (IsAbove x) all ((branch ++ choices.Together a b ∷ []) ∷ ((branch ++ choices.Apart a b ∷ []) ∷ waiting))) →
+        NodesAre (IsAbove x) all ((branch ++ choices.Together a b ∷ []) ∷ ((branch ++ choices.Apart a b ∷ []) ∷ waiting))) →
         Forest bound count (nodes.Pair a b ∷ all) (branch ∷ waiting)
     join a b branch waiting all [] done are stand turns above = absurd stand
     join a b branch waiting all (t ∷ []) done are stand turns above = absurd stand.1
     join a b branch waiting all (t ∷ (u ∷ rest)) done are stand turns above = record {
       trees = pair a b t u ∷ rest;
       are = ap (λ (xs : List PackNode). nodes.Pair a b ∷ xs) (append_assoc (preorder t) (preorder u) (flat_map preorder rest) ∙ are);
-      stand = (record {
-        pairs = (done.0, stand.0.pairs, stand.1.0.pairs);
-        lean = (done.1, stand.0.lean, stand.1.0.lean);
-        shows = (stand.0.shows, stand.1.0.shows);
-      }, stand.1.1);
+      stand = (
+        record {
+          pairs = (done.0, stand.0.pairs, stand.1.0.pairs);
+          lean = (done.1, stand.0.lean, stand.1.0.lean);
+          shows = (stand.0.shows, stand.1.0.shows);
+        },
+        stand.1.1,
+      );
       turns = omega (arith, turns);
       above = λ x shown. (tt, above x (shown.0.0, (shown.0.1, shown.1)));
     }
@@ -98,20 +100,20 @@ module _ (p : Problem) where
         join a b branch waiting all forest.trees are.0 forest.are forest.stand forest.turns forest.above
     grow (nodes.Share s ∷ all) (branch ∷ waiting) are none =
         let forest = grow all waiting are.1 none in record {
-      trees = share s ∷ forest.trees;
-      are = ap (λ (xs : List PackNode). nodes.Share s ∷ xs) forest.are;
-      stand = (record { pairs = tt; lean = tt; shows = are.0 }, forest.stand);
-      turns = omega (arith, forest.turns);
-      above = λ x shown. (shown.0.1, forest.above x shown.1);
-    }
+          trees = share s ∷ forest.trees;
+          are = ap (λ (xs : List PackNode). nodes.Share s ∷ xs) forest.are;
+          stand = (record { pairs = tt; lean = tt; shows = are.0 }, forest.stand);
+          turns = omega (arith, forest.turns);
+          above = λ x shown. (shown.0.1, forest.above x shown.1);
+        }
     grow (nodes.Apart ∷ all) (branch ∷ waiting) are none =
         let forest = grow all waiting are.1 none in record {
-      trees = settled ∷ forest.trees;
-      are = ap (λ (xs : List PackNode). nodes.Apart ∷ xs) forest.are;
-      stand = (record { pairs = tt; lean = tt; shows = are.0 }, forest.stand);
-      turns = omega (arith, forest.turns);
-      above = λ x shown. (shown.0.1, forest.above x shown.1);
-    }
+          trees = settled ∷ forest.trees;
+          are = ap (λ (xs : List PackNode). nodes.Apart ∷ xs) forest.are;
+          stand = (record { pairs = tt; lean = tt; shows = are.0 }, forest.stand);
+          turns = omega (arith, forest.turns);
+          above = λ x shown. (shown.0.1, forest.above x shown.1);
+        }
 
   -- the tree of all nodes
   record OneTree (bound count : ℕ) (all : List PackNode) : Type 0 where
@@ -217,17 +219,17 @@ module _ (p : Problem) where
       turns ≡ length taken + closed_count count shares → Ends count bound turns (taken ++ share_nodes shares)
   ends count bound turns taken path shares state least are =
       let fine = are_append (IsDone p bound) taken (share_nodes shares) ([] ∷ []) (are_weaker (IsDone p count) (IsDone p bound) (done_fewer p count bound least.most) taken ([] ∷ []) state.done)
-          (subst (NodesAre (IsDone p bound) (share_nodes shares)) (sym state.reads) (left_done bound (leaves_of path shares) shares state.leaves least.each)) in
+      (subst (NodesAre (IsDone p bound) (share_nodes shares)) (sym state.reads) (left_done bound (leaves_of path shares) shares state.leaves least.each)) in
       let none = waiting_append taken (share_nodes shares) ([] ∷ []) ∙ ap (waiting_for (share_nodes shares)) state.reads ∙ left_whole (leaves_of path shares) shares state.leaves in
       let one = tree_of bound count (taken ++ share_nodes shares) fine none in
       let behind : turns_along count (share_nodes shares) (waiting_for taken ([] ∷ [])) ≡ closed_count count shares =
-          ap (turns_along count (share_nodes shares)) state.reads ∙ left_turns count (leaves_of path shares) shares state.leaves in record {
-    tree = one.tree;
-    are = one.are;
-    pairs = one.stand.pairs;
-    lean = one.stand.lean;
-    shows = one.stand.shows;
-    greatest = λ b le shown. least.greatest b le (left_above b (leaves_of path shares) shares state.leaves
-        (subst (NodesAre (IsAbove b) (share_nodes shares)) state.reads (are_behind (IsAbove b) taken (share_nodes shares) ([] ∷ []) (one.above b shown))));
-    turns_are = omega (arith, are, one.turns, turns_append count taken (share_nodes shares) ([] ∷ []), done_turns count taken ([] ∷ []) state.done, behind);
-  }
+      ap (turns_along count (share_nodes shares)) state.reads ∙ left_turns count (leaves_of path shares) shares state.leaves in record {
+        tree = one.tree;
+        are = one.are;
+        pairs = one.stand.pairs;
+        lean = one.stand.lean;
+        shows = one.stand.shows;
+        greatest = λ b le shown. least.greatest b le (left_above b (leaves_of path shares) shares state.leaves
+            (subst (NodesAre (IsAbove b) (share_nodes shares)) state.reads (are_behind (IsAbove b) taken (share_nodes shares) ([] ∷ []) (one.above b shown))));
+        turns_are = omega (arith, are, one.turns, turns_append count taken (share_nodes shares) ([] ∷ []), done_turns count taken ([] ∷ []) state.done, behind);
+      }

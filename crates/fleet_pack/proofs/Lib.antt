@@ -7,4 +7,5 @@ pub mod FewTurns
 pub mod Pairing
 pub mod Ranking
 pub mod Stepping
+pub mod Judgement
 pub mod Finishing

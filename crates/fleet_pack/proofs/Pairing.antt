@@ -1,5 +1,5 @@
 -- Open pairs, row by row.
-use Rattle.std.proofs.Common.{◌≡◌, ℕ, ◌+◌, ◌≤◌, ◌<◌, List, refl, sym, ap, ◌∙◌, subst, arith, inl, inr, ◌⊎◌, Option, Some, None}
+use Rattle.std.proofs.Common.{ℕ, ◌+◌, ◌<◌, List, sym, subst, arith, inl, inr, Option, Some, None}
 use Rattle.std.proofs.lemmas.Bool.{cases_eq}
 use Rattle.carp_base.specs.Problem.{Problem}
 use Rattle.packing_trees.specs.declared.node.PackChoice.{PackChoice}
@@ -19,9 +19,10 @@ one_more p branch a b before None pair finds more =
       ]
     ]
 one_more p branch a b before (Some found) pair finds (inl is) = subst (FindsBefore p branch a b) is finds
-one_more p branch a b before (Some found) pair finds (inr new) =
-    (subst (λ x. IsPair p x found.b) (sym new.0) (subst (IsPair p a) (sym new.1) pair),
-    λ closed. new.2 (subst (λ x. IsClosedPair p branch x b) new.0 (subst (IsClosedPair p branch found.a) new.1 closed)))
+one_more p branch a b before (Some found) pair finds (inr new) = (
+  subst (λ x. IsPair p x found.b) (sym new.0) (subst (IsPair p a) (sym new.1) pair),
+  λ closed. new.2 (subst (λ x. IsClosedPair p branch x b) new.0 (subst (IsClosedPair p branch found.a) new.1 closed)),
+)
 
 pub next_row : (p : Problem) (branch : List PackChoice) (a : ℕ) (found : Option OpenPair) → FindsBefore p branch a (p.required + 1) found → FindsBefore p branch (a + 1) (a + 1 + 1) found
 next_row p branch a None finds = λ c d within here. elim here [

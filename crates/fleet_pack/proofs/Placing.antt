@@ -42,14 +42,14 @@ put_room capacity demand loads place first within =
     let more = slice_index loads place + demand in
     let long : length (set loads place more) ≡ length loads = length-set loads place more in
     let now : slice_index (set loads place more) place ≡ more = get_or-set_same loads place more 0 within in record {
-  within = omega (arith, long, within);
-  no_fewer = omega (arith, long);
-  one_more = omega (arith, long);
-  here = now;
-  fits = omega (arith, now, first.room within);
-  others = λ k less other. (omega (arith, less, long), get_or-set_other loads place k more 0 other);
-  is = put_at capacity demand loads place first within;
-}
+      within = omega (arith, long, within);
+      no_fewer = omega (arith, long);
+      one_more = omega (arith, long);
+      here = now;
+      fits = omega (arith, now, first.room within);
+      others = λ k less other. (omega (arith, less, long), get_or-set_other loads place k more 0 other);
+      is = put_at capacity demand loads place first within;
+    }
 
 pub put_new : (capacity demand : ℕ) (loads : List ℕ) (place : ℕ) → demand ≤ capacity → IsFirstRoom capacity demand loads place → length loads ≤ place →
     IsPut capacity demand loads (loads ++ demand ∷ []) place
@@ -57,14 +57,14 @@ put_new capacity demand loads place fits first past =
     let long : length (loads ++ demand ∷ []) ≡ length loads + 1 = length_push loads demand in
     let at : length loads ≡ place = omega (arith, past, first.within) in
     let now : slice_index (loads ++ demand ∷ []) place ≡ demand = get_or_push loads demand 0 place at in record {
-  within = omega (arith, long, at);
-  no_fewer = omega (arith, long);
-  one_more = omega (arith, long);
-  here = omega (arith, now, get_or_past loads place 0 past);
-  fits = omega (arith, now, fits);
-  others = λ k less other. let early : k < length loads = omega (arith, less, long, at, other) in (early, get_or_append_left loads (demand ∷ []) 0 k early);
-  is = put_behind capacity demand loads place first past;
-}
+      within = omega (arith, long, at);
+      no_fewer = omega (arith, long);
+      one_more = omega (arith, long);
+      here = omega (arith, now, get_or_past loads place 0 past);
+      fits = omega (arith, now, fits);
+      others = λ k less other. let early : k < length loads = omega (arith, less, long, at, other) in (early, get_or_append_left loads (demand ∷ []) 0 k early);
+      is = put_behind capacity demand loads place first past;
+    }
 
 -- An edge that gets a group.
 
@@ -99,7 +99,7 @@ module _ (p : Problem) (groups after : List ℕ) (e g : ℕ) (given : IsGiven gr
         let before : (group_of groups (suc n) == h) ≡ false = ne_eqb (group_of groups (suc n)) h (λ is. absurd (omega (arith, is, some, free))) in
         let here : (if group_of groups (suc n) == h then demand_of p (suc n) else 0) ≡ 0 = rw before refl in
         let there : (if group_of after (suc n) == h then demand_of p (suc n) else 0) ≡ (if g == h then demand_of p e else 0) =
-            ap (λ x. if x == h then demand_of p (suc n) else 0) now ∙ ap (λ d. if g == h then d else 0) (ap (demand_of p) same) in
+        ap (λ x. if x == h then demand_of p (suc n) else 0) now ∙ ap (λ d. if g == h then d else 0) (ap (demand_of p) same) in
         omega (arith, here, there, below_e h n (omega (arith, same)))
     | inr other ↦
         let same : (if group_of after (suc n) == h then demand_of p (suc n) else 0) ≡ (if group_of groups (suc n) == h then demand_of p (suc n) else 0) = rw (given.others (suc n) other) refl in

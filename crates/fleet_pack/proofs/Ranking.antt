@@ -1,5 +1,5 @@
 -- The bundles of a branch are a packing, where each fits into a group.
-use Rattle.std.proofs.Common.{◌≡◌, ℕ, zero, suc, ◌+◌, ◌-◌, ◌≤◌, ◌<◌, ◌==◌, true, false, if◌then◌else◌, min, max, List, [], ◌∷◌, length, refl, sym, ap, ◌∙◌, subst, arith, inl, inr}
+use Rattle.std.proofs.Common.{◌≡◌, ℕ, zero, suc, ◌+◌, ◌-◌, ◌≤◌, ◌<◌, ◌==◌, if◌then◌else◌, min, max, List, [], ◌∷◌, length, refl, sym, ap, ◌∙◌, subst, arith, inl, inr}
 use Rattle.std.specs.Prelude.{slice_index}
 use Rattle.std.specs.List.{All}
 use Rattle.std.proofs.lemmas.List.Elements.{All-head, All-tail}
@@ -9,11 +9,11 @@ use Rattle.carp_base.specs.Packings.{IsGroup, IsPacking, group_of, group_load, d
 use Rattle.plan_model.specs.Sums.{sum_to}
 use Rattle.packing_trees.specs.declared.node.PackChoice.{PackChoice}
 use Rattle.packing_trees.specs.declared.node.PackChoice.TheVariants.{Together, Apart}
-use Rattle.packing_trees.specs.Bundles.{AreBundles, IsChoice, joined, bundles_after, bundle_of, bundle_count, bundle_weight}
+use Rattle.packing_trees.specs.Bundles.{AreBundles, IsChoice, joined, bundles_after, bundle_of, bundle_count}
 use Rattle.fleet_pack.specs.FirstFit.{demand_of}
 use Rattle.fleet_pack.specs.Ranks.{rank}
 use Rattle.fleet_pack.specs.States.{IsLight}
-use Rattle.fleet_pack.proofs.Bundling.{AreNames, names_of, sum_le}
+use Rattle.fleet_pack.proofs.Bundling.{names_of}
 
 -- No bundle has the number 0.
 
@@ -130,9 +130,9 @@ module _ (p : Problem) (branch : List PackChoice) (labels weights groups : List 
   group_in : (e : ℕ) → IsRequired p e → IsGroup (sum_to p.required (here labels)) (group_of groups e)
   group_in e required =
       let name = name_required e required in record {
-    from_one = omega (arith, group_is e required, steps labels (slice_index labels e) name.from_one (name_itself e required));
-    in_range = omega (arith, group_is e required, rises labels (slice_index labels e) p.required name.in_range);
-  }
+        from_one = omega (arith, group_is e required, steps labels (slice_index labels e) name.from_one (name_itself e required));
+        in_range = omega (arith, group_is e required, rises labels (slice_index labels e) p.required name.in_range);
+      }
 
   has_edge : (g : ℕ) → IsGroup (sum_to p.required (here labels)) g → (e : ℕ) × IsRequired p e × (group_of groups e ≡ g)
   has_edge g group =
@@ -151,7 +151,7 @@ module _ (p : Problem) (branch : List PackChoice) (labels weights groups : List 
             omega (arith, in_bundle x g n name is (omega (arith, within)), there, one_part (group_of groups (suc n)) g (demand_of p (suc n)))
         | inr other ↦
             let away : group_of groups (suc n) ≡ g → ⊥ = λ at. other (sym (name_is (suc n) required)
-                ∙ one_name labels (slice_index labels (suc n)) x (name_itself (suc n) required) name (sym (group_is (suc n) required) ∙ at ∙ sym is)) in
+            ∙ one_name labels (slice_index labels (suc n)) x (name_itself (suc n) required) name (sym (group_is (suc n) required) ∙ at ∙ sym is)) in
             let none : (if group_of groups (suc n) == g then demand_of p (suc n) else 0) ≡ 0 = rw (ne_eqb (group_of groups (suc n)) g away) refl in
             omega (arith, in_bundle x g n name is (omega (arith, within)), none)
       ]
@@ -169,13 +169,14 @@ module _ (p : Problem) (branch : List PackChoice) (labels weights groups : List 
   count_to zero within = refl
   count_to (suc n) within =
       let same : (if slice_index labels (suc n) == suc n then 1 else 0) ≡ (if bundle_of branch (suc n) == suc n then 1 else 0) =
-          ap {B = ℕ} (λ x. if x == suc n then 1 else 0) (name_is (suc n) (record { from_one = omega arith; in_range = within })) in
+      ap {B = ℕ} (λ x. if x == suc n then 1 else 0) (name_is (suc n) (record { from_one = omega arith; in_range = within })) in
       omega (arith, count_to n (omega (arith, within)), same)
 
 pub by_groups : (p : Problem) (branch : List PackChoice) (labels weights groups : List ℕ) (count : ℕ) →
     IsValid p → AreBundles p branch labels weights → All (IsChoice p) branch → IsLight p branch → length groups ≡ p.required → count ≡ rank labels p.required →
     ((k : ℕ) → k < length groups → slice_index groups k ≡ rank labels (slice_index labels (k + 1))) → IsPacking p groups count × (count ≡ bundle_count p branch)
 unfolding here
-by_groups p branch labels weights groups count valid are choices light long is by_rank =
-    (subst (IsPacking p groups) (sym is) (bundles_pack p branch labels weights groups valid are choices light long by_rank),
-    is ∙ count_to p branch labels weights groups valid are choices light long by_rank p.required (omega arith))
+by_groups p branch labels weights groups count valid are choices light long is by_rank = (
+  subst (IsPacking p groups) (sym is) (bundles_pack p branch labels weights groups valid are choices light long by_rank),
+  is ∙ count_to p branch labels weights groups valid are choices light long by_rank p.required (omega arith),
+)

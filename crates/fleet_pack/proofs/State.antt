@@ -1,12 +1,10 @@
 -- One step of a search, on its state as plain data.
-use Rattle.std.proofs.Common.{◌≡◌, ℕ, ◌+◌, ◌≤◌, List, [], ◌∷◌, ◌++◌, length, refl, sym, ap, ◌∙◌, subst, arith, append_assoc, append-nil}
-use Rattle.std.proofs.lemmas.List.Elements.{All-nil}
+use Rattle.std.proofs.Common.{◌≡◌, ℕ, ◌≤◌, List, [], ◌∷◌, ◌++◌, refl, sym, ap, ◌∙◌, subst, arith, append_assoc, append-nil}
 use Rattle.carp_base.specs.Problem.{Problem}
 use Rattle.packing_trees.specs.declared.node.PackChoice.{PackChoice}
 use Rattle.packing_trees.specs.declared.node.PackChoice.TheVariants as choices
 use Rattle.packing_trees.specs.declared.node.PackNode.{PackNode}
 use Rattle.packing_trees.specs.declared.node.PackNode.TheVariants as nodes
-use Rattle.packing_trees.specs.Bundles.{IsPair, IsChoice, IsClosedPair, bundle_count, share_value}
 use Rattle.packing_trees.specs.Reasons.{branches_below}
 use Rattle.fleet_pack.specs.declared.share.Share.{Share}
 use Rattle.fleet_pack.specs.States.{waiting_for, NodesAre, IsLeaf, AreLeaves, apart_waits, aparts_of, leaves_of, IsDone, IsOuter, IsState, IsBack}
@@ -77,10 +75,10 @@ pub closes : (p : Problem) (count : ℕ) (taken : List PackNode) (path after : L
     IsState p count taken path (share ∷ shares) → IsOuter node → IsDone p count path node → IsBack path after → IsState p count (taken ++ node ∷ []) after shares
 closes p count taken path after share shares node state outer done back =
     let led : aparts_of path ≡ leaves_of after shares = back_to p path after (aparts_of path) shares refl state.leaves.1 back in record {
-  leaves = subst (λ w. AreLeaves p w shares) led state.leaves.1;
-  reads = wait_more taken ([] ∷ []) path (aparts_of path) node state.reads ∙ ap (λ (xs : Branches). xs ++ aparts_of path) (outer_below path node outer) ∙ led;
-  done = are_more (IsDone p count) taken ([] ∷ []) path (aparts_of path) node state.reads state.done done;
-}
+      leaves = subst (λ w. AreLeaves p w shares) led state.leaves.1;
+      reads = wait_more taken ([] ∷ []) path (aparts_of path) node state.reads ∙ ap (λ (xs : Branches). xs ++ aparts_of path) (outer_below path node outer) ∙ led;
+      done = are_more (IsDone p count) taken ([] ∷ []) path (aparts_of path) node state.reads state.done done;
+    }
 
 -- the leaf at hand is split
 pub splits : (p : Problem) (count : ℕ) (taken : List PackNode) (path : List PackChoice) (share together : Share) (shares : List Share) (a b : ℕ) →

@@ -1,6 +1,6 @@
 -- What a search keeps: the nodes that are done, the branch of the leaf at hand, and the leaves that wait. No public contract speaks of this.
 use Rattle.std.specs.Prelude.{◌≡◌, ℕ, ◌+◌, ◌*◌, ◌<◌, ◌≤◌, List, [], ◌∷◌, ◌++◌, length, reverse, map, sum_by, if◌then◌else◌, nat_le}
-use Rattle.std.specs.List.{All, flat_map}
+use Rattle.std.specs.List.{All}
 use Rattle.carp_base.specs.Problem.{Problem}
 use Rattle.packing_trees.specs.declared.node.PackChoice.{PackChoice}
 use Rattle.packing_trees.specs.declared.node.PackChoice.TheVariants as choices

@@ -41,7 +41,12 @@ pub(crate) fn finish(inst: &Instance, search: Search, turns: u64) -> Result<Pack
     ensures tree { IfOk result (HasTree inst.now) }
     ensures ended { IfOk result (λ found. found.bound < found.count → turns ≤ found.turns) }
 {
-    let Search { mut nodes, mut shares, best, .. } = search;
+    let Search {
+        mut nodes,
+        mut shares,
+        best,
+        ..
+    } = search;
     let _ = inst.vertices();
     let bound = least_value(&shares, best.count);
     let turns = (nodes.len() + closed_leaves(&shares, best.count)) as u64;

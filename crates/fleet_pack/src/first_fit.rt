@@ -40,7 +40,12 @@ fn put(loads: &mut Vec<u64>, demand: u64, capacity: u64) -> Result<usize, Memory
 }
 
 // Puts items, one after another, each into the first group with room, and gives the loads of the groups.
-fn place(alloc: Global, inst: &Instance, items: &[Item], groups: &mut [u32]) -> Result<Vec<u64>, Memory>
+fn place(
+    alloc: Global,
+    inst: &Instance,
+    items: &[Item],
+    groups: &mut [u32],
+) -> Result<Vec<u64>, Memory>
     requires { IsPlaced inst.now items.now groups.old [] }
     ensures placed { IfOk result (λ loads. IsPlaced inst.now [] groups.new loads.items) }
     ensures loads { IfOk result (λ loads. loads.items ≡ loads_after inst.now.capacity (demands_of items.now) []) }

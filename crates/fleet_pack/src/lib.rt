@@ -4,11 +4,15 @@
 mod ending;
 mod first_fit;
 mod grouping;
+mod improving;
 mod item;
+mod judging;
 mod laws;
 mod numbering;
+mod packing;
 mod pairs;
 mod search;
 mod share;
 
 pub use laws::lean_trees_are_small;
+pub use packing::pack;

@@ -84,7 +84,11 @@ fn heaviest_with(
 ///
 /// With m required edges and d choices it takes time in proportion to m * m and to d for each closed pair that is heavier and that only
 /// an apart choice closes.
-pub(crate) fn heaviest_open(inst: &Instance, bundles: &Bundles, branch: &[PackChoice]) -> Option<OpenPair>
+pub(crate) fn heaviest_open(
+    inst: &Instance,
+    bundles: &Bundles,
+    branch: &[PackChoice],
+) -> Option<OpenPair>
     requires bundles { AreBundles inst.now branch.now bundles.now.labels.items bundles.now.weights.items }
     requires choices { All (IsChoice inst.now) branch.now }
     ensures { FindsOpen inst.now branch.now result }

@@ -93,7 +93,14 @@ impl Search {
     }
 
     // The leaf at hand is split at a pair.
-    fn split(&mut self, alloc: Global, inst: &Instance, share: Share, a: u32, b: u32) -> Result<(), Memory>
+    fn split(
+        &mut self,
+        alloc: Global,
+        inst: &Instance,
+        share: Share,
+        a: u32,
+        b: u32,
+    ) -> Result<(), Memory>
         requires at_hand { IsAtHand inst.now self.old share }
         requires pair { IsPair inst.now a b }
         requires stays { ¬ (IsClosedPair inst.now self.old.path.items a b) }
@@ -110,7 +117,13 @@ impl Search {
     }
 
     // The bundles of the leaf at hand become the best packing, where they are fewer than its groups.
-    fn take_bundles(&mut self, alloc: Global, inst: &Instance, share: Share, bundles: &Bundles) -> Result<(), Memory>
+    fn take_bundles(
+        &mut self,
+        alloc: Global,
+        inst: &Instance,
+        share: Share,
+        bundles: &Bundles,
+    ) -> Result<(), Memory>
         requires at_hand { IsAtHand inst.now self.old share }
         requires bundles { AreBundles inst.now self.old.path.items bundles.now.labels.items bundles.now.weights.items }
         requires some { HasBundles inst.now bundles.now.labels.items bundles.now.weights.items }
@@ -127,7 +140,13 @@ impl Search {
     }
 
     // The leaf at hand, in which each pair is closed, is done.
-    fn settle(&mut self, alloc: Global, inst: &Instance, share: Share, bundles: &Bundles) -> Result<(), Memory>
+    fn settle(
+        &mut self,
+        alloc: Global,
+        inst: &Instance,
+        share: Share,
+        bundles: &Bundles,
+    ) -> Result<(), Memory>
         requires at_hand { IsAtHand inst.now self.old share }
         requires bundles { AreBundles inst.now self.old.path.items bundles.now.labels.items bundles.now.weights.items }
         requires some { HasBundles inst.now bundles.now.labels.items bundles.now.weights.items }

@@ -65,7 +65,9 @@ fn value_at(sums: &[u64], least: usize, half: usize, alone: usize, capacity: u64
         .saturating_sub(sums[alone].saturating_sub(sums[half]));
     let middle = sums[half].saturating_sub(sums[least]);
     let more = middle.saturating_sub(room).div_ceil(capacity);
-    (sums.len() as u64 - 1).saturating_sub(half as u64).saturating_add(more)
+    (sums.len() as u64 - 1)
+        .saturating_sub(half as u64)
+        .saturating_add(more)
 }
 
 // The share whose value is greatest, of 0 and the weights of at most half the capacity, in one pass over the sorted weights: as the
@@ -108,7 +110,11 @@ fn best_share(alloc: Global, inst: &Instance, bundles: &Bundles) -> Result<u64, 
 }
 
 /// The best share of a branch with its value (Martello and Toth 1990, section 8.3).
-pub(crate) fn share_of(alloc: Global, inst: &Instance, branch: &[PackChoice]) -> Result<Share, Memory>
+pub(crate) fn share_of(
+    alloc: Global,
+    inst: &Instance,
+    branch: &[PackChoice],
+) -> Result<Share, Memory>
     requires { All (IsChoice inst.now) branch.now }
     ensures { IfOk result (IsShare inst.now branch.now) }
 {

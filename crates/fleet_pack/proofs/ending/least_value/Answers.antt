@@ -1,4 +1,3 @@
-use Rattle.std.proofs.Common.{◌≡◌, min, get_or, arith}
 use Rattle.fleet_pack.proofs.Finishing.{least_more}
 use Rattle.fleet_pack.proofs.ending.least_value.Goals as goal
 

@@ -1,4 +1,4 @@
-use Rattle.std.proofs.Common.{◌≡◌, ◌≤◌, take}
+use Rattle.std.proofs.Common.{take}
 use Rattle.fleet_pack.specs.States.{IsLeastValue}
 use Rattle.fleet_pack.proofs.ending.least_value.Given as goal
 

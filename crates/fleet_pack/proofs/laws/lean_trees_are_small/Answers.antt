@@ -1,6 +1,4 @@
 use Rattle.fleet_pack.proofs.FewTurns.{few_turns}
-use Rattle.fleet_pack.proofs.State.{begins}
-use Rattle.fleet_pack.proofs.Growing.{ends}
 use Rattle.fleet_pack.proofs.laws.lean_trees_are_small.Goals as goal
 
 pub returns : goal.returns

@@ -1,4 +1,4 @@
-use Rattle.std.proofs.Common.{◌≡◌, arith, sym, ◌∙◌}
+use Rattle.std.proofs.Common.{arith}
 use Rattle.fleet_pack.proofs.Pairing.{one_more}
 use Rattle.fleet_pack.proofs.pairs.heaviest_with.Goals as goal
 

@@ -1,4 +1,3 @@
-use Rattle.std.proofs.Common.{◌≤◌, ◌+◌}
 use Rattle.fleet_pack.specs.States.{FindsBefore}
 use Rattle.fleet_pack.proofs.pairs.heaviest_with.Given as goal
 

@@ -1,4 +1,4 @@
-use Rattle.std.proofs.Common.{◌≡◌, ◌<◌, arith, sym, ◌∙◌}
+use Rattle.std.proofs.Common.{arith}
 use Rattle.std.proofs.lemmas.List.{get_or_read}
 use Rattle.fleet_pack.proofs.Bundling.{names_of}
 use Rattle.fleet_pack.proofs.pairs.weight_of.Goals as goal

@@ -1,7 +1,7 @@
-use Rattle.std.proofs.Common.{◌≡◌, ◌++◌, ◌∷◌, [], List, ap, arith, sym, subst, ◌∙◌}
+use Rattle.std.proofs.Common.{◌++◌, ◌∷◌, [], ap, sym, subst, ◌∙◌}
 use Rattle.packing_trees.specs.declared.node.PackChoice.{PackChoice}
 use Rattle.fleet_pack.specs.States.{IsBack}
-use Rattle.fleet_pack.proofs.Stepping.{past_apart, back_at, back_none}
+use Rattle.fleet_pack.proofs.Stepping.{past_apart, back_at}
 use Rattle.fleet_pack.proofs.search.turn_back.Goals as goal
 
 pub returns-in-Together : goal.returns-in-Together

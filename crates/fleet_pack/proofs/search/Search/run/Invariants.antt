@@ -1,4 +1,4 @@
-use Rattle.std.proofs.Common.{◌≡◌, ◌≤◌, ◌-◌, length}
+use Rattle.std.proofs.Common.{◌≤◌, ◌-◌, length}
 use Rattle.fleet_pack.specs.States.{IsSearch}
 use Rattle.fleet_pack.proofs.search.Search.run.Given as goal
 

@@ -1,4 +1,4 @@
-use Rattle.std.proofs.Common.{sym, subst, reverse}
+use Rattle.std.proofs.Common.{subst}
 use Rattle.fleet_pack.specs.States.{IsShare}
 use Rattle.fleet_pack.proofs.Stepping.{split_state}
 use Rattle.fleet_pack.proofs.search.Search.split.Goals as goal
