@@ -4,3 +4,4 @@ pub mod States
 pub mod Laws
 pub mod Ranks
 pub mod Packed
+pub mod Examples

@@ -2,6 +2,8 @@
 #![tactic(auto)]
 
 mod ending;
+#[cfg(test)]
+mod examples;
 mod first_fit;
 mod grouping;
 mod improving;
@@ -13,6 +15,8 @@ mod packing;
 mod pairs;
 mod search;
 mod share;
+#[cfg(test)]
+mod tests;
 
 pub use laws::lean_trees_are_small;
 pub use packing::pack;
