@@ -1,6 +1,7 @@
 // The search for a tree, depth first.
 ghost use Rattle.std.specs.Prelude.{◌≡◌, ℕ, ◌+◌, ◌*◌, ◌<◌, ◌≤◌, ◌++◌, ◌∷◌, [], All, IfOk, OnOk, false, true, length, reverse};
 ghost use Rattle.packing_trees.specs.Bundles.{AreAllClosed, AreBundles, HasBundles, IsClosedPair, IsPair, bundle_count};
+ghost use Rattle.packing_trees.specs.declared.node.PackChoice.TheVariants.{Together};
 ghost use Rattle.fleet_pack.specs.Groups.{IsGrouping};
 ghost use Rattle.fleet_pack.specs.States.{HasEnded, IsAtHand, IsBack, IsDone, IsLeastValue, IsOuter, IsSearch, closed_count, share_nodes, turns_now};
 
@@ -32,6 +33,14 @@ fn turn_back(path: &mut Vec<PackChoice>) -> Result<(), Memory>
             return Ok(());
         }
     }
+    Ok(())
+}
+
+// Goes to the branch in which a pair is put together too.
+fn put_together(path: &mut Vec<PackChoice>, a: u32, b: u32) -> Result<(), Memory>
+    ensures { OnOk result (path.new.items ≡ path.old.items ++ Together a b ∷ []) }
+{
+    path.push(PackChoice::Together { a, b })?;
     Ok(())
 }
 
@@ -109,7 +118,7 @@ impl Search {
         ensures fewer { OnOk result (self.new.best.count ≤ self.old.best.count) }
     {
         self.nodes.push(PackNode::Pair { a, b })?;
-        self.path.push(PackChoice::Together { a, b })?;
+        put_together(&mut self.path, a, b)?;
         let together = share_of(alloc, inst, &self.path)?;
         self.shares.push(share)?;
         self.shares.push(together)?;
