@@ -3,4 +3,9 @@ pub mod Naming
 pub mod Weighing
 pub mod Parting
 pub mod Classes
-pub mod Grouping
+pub mod Bounding
+pub mod Loading
+pub mod Filling
+pub mod Passing
+pub mod Standing
+pub mod Ordering

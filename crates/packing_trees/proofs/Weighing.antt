@@ -1,5 +1,5 @@
 -- The lists of labels and weights are those of the bundles.
-use Rattle.std.proofs.Common.{◌≡◌, ◌≢◌, ℕ, zero, suc, ◌+◌, ◌-◌, ◌*◌, ◌≤◌, ◌<◌, ◌==◌, ◌&&◌, Bool, true, false, List, [], ◌∷◌, ◌++◌, length, get_or, slice_index, take, refl, sym, ap, ◌∙◌, subst, arith, inl, inr}
+use Rattle.std.proofs.Common.{◌≡◌, ◌≢◌, ℕ, zero, suc, ◌+◌, ◌-◌, ◌*◌, ◌≤◌, ◌<◌, ◌==◌, ◌&&◌, Bool, true, false, List, [], ◌∷◌, ◌++◌, length, get_or, slice_index, take, refl, sym, ap, ◌∙◌, arith, inl, inr}
 use Rattle.std.specs.Prelude.{if◌then◌else◌, max, min, nat_lt, nat_le}
 use Rattle.std.specs.Int.{div_ceil}
 use Rattle.std.specs.List.{All}
@@ -11,7 +11,7 @@ use Rattle.plan_model.specs.Sums.{sum_to}
 use Rattle.packing_trees.specs.declared.node.PackChoice.{PackChoice}
 use Rattle.packing_trees.specs.declared.node.PackChoice.TheVariants.{Together, Apart}
 use Rattle.packing_trees.specs.declared.shares.Shares.{Shares}
-use Rattle.packing_trees.specs.Bundles.{AreBundles, HasBundles, IsChoice, bundle_of, bundle_weight, bundle_count, joined, over_bundles, is_large, share_value}
+use Rattle.packing_trees.specs.Bundles.{AreBundles, IsChoice, bundle_of, bundle_weight, over_bundles, is_large, share_value}
 use Rattle.packing_trees.specs.Tables.{AddsBundle, AreLabels, AreMerged, AreShares, AreSmallShares, IsBelow, IsSmallTable, merged, over_labels, value_of, weight_to}
 use Rattle.packing_trees.proofs.Naming.{named_bundles, after_together, after_apart}
 use Rattle.packing_trees.proofs.Sums.{sum_to-same, sum_to-most}

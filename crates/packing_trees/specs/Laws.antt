@@ -1,5 +1,5 @@
 -- What packing trees say of all packings, and what bundles are.
-use Rattle.std.specs.Prelude.{◌≡◌, ℕ, ◌≤◌, ◌↔◌, List, []}
+use Rattle.std.specs.Prelude.{◌≡◌, ℕ, ◌≤◌, ◌↔◌, List}
 use Rattle.std.specs.List.{All}
 use Rattle.carp_base.specs.Problem.{Problem, IsValid}
 use Rattle.carp_base.specs.Packings.{IsPacking}

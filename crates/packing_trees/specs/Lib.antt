@@ -4,3 +4,5 @@ pub mod Reasons
 pub mod Laws
 pub mod Claims
 pub mod Tables
+pub mod Layers
+pub mod Examples

@@ -156,3 +156,11 @@ IsPackAnswer p c (Rejected reason) = IsFirstPackReason p c reason
 abbrev pub ProvesBound : Problem → Claim → PackAnswer → Type 0
 ProvesBound p c Accepted = (groups : List ℕ) (count : ℕ) → IsPacking p groups count → c.bound ≤ count
 ProvesBound p c (Rejected reason) = Unit {0}
+
+-- no good packing has a first reason
+abbrev pub GoodHasNoReason : Type 0
+GoodHasNoReason = (p : Problem) (c : Claim) (reason : PackReason) → IsGoodPacking p c → ¬ (IsFirstPackReason p c reason)
+
+-- a packing has at most one first reason
+abbrev pub ReasonIsUnique : Type 0
+ReasonIsUnique = (p : Problem) (c : Claim) (reason other : PackReason) → IsFirstPackReason p c reason → IsFirstPackReason p c other → reason ≡ other

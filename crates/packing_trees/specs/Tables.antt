@@ -1,6 +1,6 @@
 -- How the numbers and the weights of bundles are kept in lists, and what is read from them. No public contract speaks of this.
-use Rattle.std.specs.Prelude.{◌≡◌, ℕ, ◌+◌, ◌-◌, ◌*◌, ◌<◌, ◌≤◌, ◌==◌, ◌&&◌, ◌⊎◌, ◌↔◌, Bool, List, if◌then◌else◌, max, min, nat_lt, nat_le, slice_index, length}
-use Rattle.std.specs.List.{All, Contains}
+use Rattle.std.specs.Prelude.{◌≡◌, ℕ, ◌+◌, ◌-◌, ◌*◌, ◌<◌, ◌≤◌, ◌==◌, ◌&&◌, ◌⊎◌, ◌↔◌, List, if◌then◌else◌, nat_lt, nat_le, slice_index, length}
+use Rattle.std.specs.List.{Contains}
 use Rattle.std.specs.Int.{div_ceil}
 use Rattle.carp_base.specs.Problem.{Problem, edge_at}
 use Rattle.plan_model.specs.Sums.{sum_to}

@@ -72,8 +72,8 @@ pub(crate) fn count_bundles(labels: &[u32]) -> u32
     ensures { (weights : List ℕ) → result ≡ over_labels labels.now weights (length labels.now - 1) (λ w. 1) }
 {
     let mut count = 0;
-    for edge in 1..labels.len() {
-        if labels[edge] as usize == edge {
+    for bundle in 1..labels.len() {
+        if labels[bundle] as usize == bundle {
             count += 1;
         }
     }

@@ -1,4 +1,4 @@
-use Rattle.std.proofs.Common.{◌≡◌, ◌-◌, arith, ◌∙◌, length}
+use Rattle.std.proofs.Common.{arith, ◌∙◌}
 use Rattle.packing_trees.proofs.Weighing.{over_same}
 use Rattle.packing_trees.proofs.bundling.bundle_count.Goals as goal
 

@@ -1,4 +1,3 @@
-use Rattle.std.proofs.Common.{ap, arith, ◌∙◌, length}
 use Rattle.packing_trees.proofs.Weighing.{are_bundles, labels_within}
 use Rattle.packing_trees.proofs.bundling.bundles_of.Goals as goal
 

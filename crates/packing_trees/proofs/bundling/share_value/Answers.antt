@@ -1,6 +1,5 @@
-use Rattle.std.proofs.Common.{◌≡◌, ◌-◌, ap, arith, sym, ◌∙◌, length, List, ℕ}
-use Rattle.packing_trees.specs.declared.shares.Shares.{Shares}
-use Rattle.packing_trees.specs.Tables.{AreShares, value_of}
+use Rattle.std.proofs.Common.{ap, arith, ◌∙◌}
+use Rattle.packing_trees.specs.Tables.{value_of}
 use Rattle.packing_trees.proofs.Weighing.{small_table, value_is}
 use Rattle.packing_trees.proofs.bundling.share_value.Goals as goal
 

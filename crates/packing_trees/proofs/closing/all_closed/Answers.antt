@@ -1,4 +1,3 @@
-use Rattle.std.proofs.Common.{◌≡◌, ◌<◌, ℕ, ap, arith, sym, ◌∙◌, length, slice_index}
 use Rattle.packing_trees.proofs.Weighing.{small_table}
 use Rattle.packing_trees.proofs.Parting.{labels_in, all_from, rows_from}
 use Rattle.packing_trees.proofs.closing.all_closed.Goals as goal

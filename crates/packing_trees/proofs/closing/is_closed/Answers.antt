@@ -1,5 +1,4 @@
-use Rattle.std.proofs.Common.{◌≡◌, ◌<◌, ◌≤◌, arith, sym, ◌∙◌, length}
-use Rattle.packing_trees.specs.Bundles.{bundle_of}
+use Rattle.std.proofs.Common.{arith, sym, ◌∙◌}
 use Rattle.packing_trees.proofs.Weighing.{small_table}
 use Rattle.packing_trees.proofs.Parting.{first_label, second_label, first_in, second_in, closed_from, refused_from}
 use Rattle.packing_trees.proofs.closing.is_closed.Goals as goal

@@ -1,4 +1,4 @@
-use Rattle.std.proofs.Common.{◌≡◌, ◌≤◌, sym, arith}
+use Rattle.std.proofs.Common.{sym, arith}
 use Rattle.packing_trees.specs.Bundles.{bundle_of}
 use Rattle.packing_trees.proofs.Naming.{named_bundles}
 use Rattle.packing_trees.proofs.laws.bundles_are_joined.Goals as goal

@@ -1,7 +1,7 @@
 use Rattle.std.proofs.Common.{[]}
 use Rattle.std.proofs.lemmas.List.Elements.{All-nil}
 use Rattle.packing_trees.specs.Bundles.{IsChoice, MeetsChoice}
-use Rattle.packing_trees.proofs.Grouping.{tree_bounds}
+use Rattle.packing_trees.proofs.Bounding.{tree_bounds}
 use Rattle.packing_trees.proofs.laws.trees_bound_packings.Goals as goal
 
 pub returns : goal.returns

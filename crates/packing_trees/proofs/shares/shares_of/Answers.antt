@@ -1,5 +1,4 @@
-use Rattle.std.proofs.Common.{◌≤◌, arith, sym, subst, ◌≡◌, ◌-◌, ◌+◌}
-use Rattle.packing_trees.specs.Tables.{AreShares, AreSmallShares}
+use Rattle.std.proofs.Common.{◌≤◌, arith}
 use Rattle.packing_trees.proofs.Weighing.{shares_more, shares_kept, small_more, small_on}
 use Rattle.packing_trees.proofs.shares.shares_of.Goals as goal
 use Rattle.packing_trees.proofs.shares.shares_of.Goals.{then-labels-edge, else-labels-edge}

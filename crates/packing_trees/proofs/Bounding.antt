@@ -1,18 +1,19 @@
 -- Packings that meet a branch: each bundle lies in one group, and what is summed over bundles is summed over groups.
-use Rattle.std.proofs.Common.{◌≡◌, ◌≢◌, ℕ, zero, suc, ◌+◌, ◌-◌, ◌*◌, ◌≤◌, ◌<◌, ◌==◌, ◌&&◌, Bool, true, false, cond, List, [], ◌∷◌, ◌++◌, refl, sym, ap, ◌∙◌, subst, arith, inl, inr, ◌⊎◌, eqb}
+use Rattle.std.proofs.Common.{◌≡◌, ℕ, ◌+◌, ◌-◌, ◌*◌, ◌≤◌, ◌<◌, ◌==◌, ◌&&◌, Bool, true, false, cond, List, [], ◌∷◌, ◌++◌, refl, sym, ap, ◌∙◌, subst, arith, inl, inr, ◌⊎◌}
 use Rattle.std.specs.List.{All, Contains}
-use Rattle.std.proofs.lemmas.Bool.{cases_eq, eq-eqb, eqb-true, ne_eqb, and_parts, and_from}
+use Rattle.std.proofs.lemmas.Bool.{cases_eq, eq-eqb, eqb-true, ne_eqb, and_parts}
 use Rattle.std.proofs.lemmas.List.Elements.{All-append, All-cons, All-nil}
 use Rattle.carp_base.specs.Problem.{Problem, IsRequired, IsValid, edge_at}
-use Rattle.carp_base.specs.Packings.{IsGroup, IsPacking, demand_in, group_load, group_of}
+use Rattle.carp_base.specs.Packings.{IsGroup, IsPacking, group_load, group_of}
 use Rattle.plan_model.specs.Sums.{sum_to}
 use Rattle.packing_trees.specs.declared.node.PackChoice.{PackChoice}
 use Rattle.packing_trees.specs.declared.node.PackChoice.TheVariants as choices
-use Rattle.packing_trees.specs.Bundles.{AreAllClosed, AreBundled, IsChoice, IsClosedPair, IsPair, IsTied, MeetsBranch, MeetsChoice, TiesLead, bundle_count, bundle_of, bundle_weight, over_bundles, share_value}
+use Rattle.packing_trees.specs.Bundles.{AreAllClosed, IsChoice, IsTied, MeetsBranch, MeetsChoice, TiesLead, bundle_count, bundle_of, bundle_weight, over_bundles, share_value}
 use Rattle.packing_trees.specs.Trees.{PackTree, pair, share, settled, PairsIn, Shows}
 use Rattle.packing_trees.proofs.Naming.{named_bundles, bundle_required}
 use Rattle.packing_trees.proofs.Weighing.{alone_of, large_of, large_weight_of, middle_weight_of}
-use Rattle.packing_trees.proofs.Classes.{weighs, Weighs, group_alone, group_full, share_bound}
+use Rattle.packing_trees.proofs.Loading.{demand_sum}
+use Rattle.packing_trees.proofs.Classes.{weighs, group_alone, group_full, share_bound}
 use Rattle.packing_trees.proofs.Sums.{sum_to-zero, sum_to-one, sum_to-add, sum_to-times, sum_to-same, sum_to-more, sum_to-most, sum_to-two, sum_to-single, sum_to-swap, all_or_nothing, at_most_one}
 
 cond_same : (b : Bool) → ◌≡◌ {A = ℕ} (cond b 0 0) 0
@@ -79,19 +80,15 @@ module _ (p : Problem) (branch : List PackChoice) (groups : List ℕ) (count : �
         ap (λ t. cond (is_in g r) (cond t d 0) 0) off ∙ cond_same (is_in g r) ∙ sym (ap (λ t. cond t (cond (group e == g) d 0) 0) off)
   ]
 
-  demand_sum : (g n : ℕ) → sum_to n (λ e. cond (group e == g) (edge_at p e).demand 0) ≡ demand_in p groups g n
-  demand_sum g zero = refl
-  demand_sum g (suc n) = omega (arith, demand_sum g n)
-
   load_of_bundles : (g : ℕ) → in_group (λ w. w) g ≡ group_load p groups g
   load_of_bundles g =
       sum_to-same p.required _ _ (λ r _ _. cond_sum (is_in g r) p.required (λ e. cond (bundle e == r) (edge_at p e).demand 0)
-        ∙ sum_to-same p.required _ _ (λ e _ _. point g r e (edge_at p e).demand))
+      ∙ sum_to-same p.required _ _ (λ e _ _. point g r e (edge_at p e).demand))
       ∙ sum_to-swap p.required p.required (λ r e. cond (bundle e == r) (cond (group e == g) (edge_at p e).demand 0) 0)
       ∙ sum_to-same p.required _ _ (λ e one below.
-        let named = bundle_required p branch e fits (record { from_one = one; in_range = below }) in
-        sum_to-single p.required (bundle e) (λ _. cond (group e == g) (edge_at p e).demand 0) named.from_one named.in_range)
-      ∙ demand_sum g p.required
+      let named = bundle_required p branch e fits (record { from_one = one; in_range = below }) in
+      sum_to-single p.required (bundle e) (λ _. cond (group e == g) (edge_at p e).demand 0) named.from_one named.in_range)
+      ∙ demand_sum p groups g p.required
 
   light : (g : ℕ) → IsGroup count g → in_group (λ w. w) g ≤ p.capacity
   light g is = omega (arith, load_of_bundles g, packing.loads g is)
@@ -135,7 +132,7 @@ module _ (p : Problem) (branch : List PackChoice) (groups : List ℕ) (count : �
         let times = sum_to-times p.required (q + 1 - s) (term (alone_of q s) g) in
         let sums = sum_to-add p.required (λ r. (q + 1 - s) * term (alone_of q s) g r) (λ r. term (large_weight_of q s) g r + term (middle_weight_of q s) g r) in
         let more = sum_to-more p.required (λ r. (q + 1 - s) * term (alone_of q s) g r + (term (large_weight_of q s) g r + term (middle_weight_of q s) g r)) (term (λ w. w) g)
-            (λ r _ _. gate_fills (is_in g r) (weight r)) in
+        (λ r _ _. gate_fills (is_in g r) (weight r)) in
         rw (← times) (rw (← rest_is g) (rw (← sums) more))
 
     whole : (g : ℕ) → rest g < s → rest g ≡ 0

@@ -1,0 +1,5 @@
+use Rattle.std.proofs.Common.{ℕ, ◌<◌, ◌≤◌, slice_index}
+use Rattle.packing_trees.proofs.grouping.first_nothing.Given as goal
+
+abbrev pub invariant-loop-group : goal.invariant-loop-group
+invariant-loop-group l = (g : ℕ) → 1 ≤ g → g < l.group → 1 ≤ slice_index l.loads g
