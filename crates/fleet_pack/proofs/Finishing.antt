@@ -1,5 +1,5 @@
 -- What the leaves that are left say at the end.
-use Rattle.std.proofs.Common.{◌≡◌, ℕ, ◌+◌, ◌≤◌, ◌<◌, List, [], ◌∷◌, ◌++◌, length, reverse, take, get_or, min, if◌then◌else◌, nat_le, sym, ◌∙◌, subst, arith, inl, inr, ◌⊎◌, Result, Ok, Err, IfOk}
+use Rattle.std.proofs.Common.{ap, refl, ◌≡◌, ℕ, ◌+◌, ◌*◌, ◌≤◌, ◌<◌, List, [], ◌∷◌, ◌++◌, length, reverse, take, get_or, min, if◌then◌else◌, nat_le, sym, ◌∙◌, subst, arith, inl, inr, ◌⊎◌, Result, Ok, Err, IfOk}
 use Rattle.std.specs.List.{All}
 use Rattle.std.proofs.lemmas.List.{take_more}
 use Rattle.std.proofs.lemmas.List.Elements.{All-append, All-cons, All-nil, All-weaker, All-tail, All-head}
@@ -16,7 +16,10 @@ use Rattle.fleet_pack.specs.declared.share.Share.{Share}
 use Rattle.fleet_pack.specs.Packed.{HasTree, IsPacked}
 use Rattle.fleet_pack.specs.Laws.{LeanTreesAreSmall}
 use Rattle.fleet_pack.specs.FirstFit.{first_fit_count}
-use Rattle.fleet_pack.specs.States.{IsLeastValue, IsState, closed_count, share_nodes}
+use Rattle.fleet_pack.specs.States.{AreLeaves, IsLeastValue, IsState, closed_count, leaves_of, share_nodes, waiting_for}
+use Rattle.packing_trees.specs.Reasons.{branches_below}
+use Rattle.packing_trees.specs.declared.node.PackNode.TheVariants as nodes
+use Rattle.std.proofs.lemmas.List.{length-append, length-map}
 use Rattle.fleet_pack.proofs.Growing.{ends}
 
 All-last : {X : Type 0} (P : X → Type 0) (xs : List X) (x : X) → All P (xs ++ x ∷ []) → All P xs × P x
@@ -69,13 +72,40 @@ pub has_ended : (count bound limit turns now : ℕ) (shares : List Share) → Is
 has_ended count bound limit turns now shares least (inl all) same low = absurd (omega (arith, least.greatest count (omega arith) all, low))
 has_ended count bound limit turns now shares least (inr up) same low = omega (arith, up, same)
 
+-- Few nodes.
+
+wait_fewer : (branch : List PackChoice) (node : PackNode) (waiting : List (List PackChoice)) → length (branches_below branch node ++ waiting) ≤ length waiting + 2
+wait_fewer branch (nodes.Pair a b) waiting = omega arith
+wait_fewer branch (nodes.Share s) waiting = omega arith
+wait_fewer branch nodes.Apart waiting = omega arith
+
+few_wait : (taken : List PackNode) (waiting : List (List PackChoice)) → length (waiting_for taken waiting) ≤ length waiting + length taken
+few_wait [] waiting = omega arith
+few_wait (x ∷ taken) [] = omega arith
+few_wait (x ∷ taken) (b ∷ waiting) = omega (arith, few_wait taken (branches_below b x ++ waiting), wait_fewer b x waiting)
+
+one_each : (p : Problem) (branches : List (List PackChoice)) (shares : List Share) → AreLeaves p branches shares → length shares ≡ length branches
+one_each p [] [] leaves = refl
+one_each p [] (x ∷ shares) leaves = absurd leaves
+one_each p (b ∷ branches) [] leaves = absurd leaves
+one_each p (b ∷ branches) (x ∷ shares) leaves = omega (arith, one_each p branches shares leaves.1)
+
+pub few_nodes : (p : Problem) (count turns : ℕ) (taken all : List PackNode) (path : List PackChoice) (shares : List Share) → IsState p count taken path (reverse shares) →
+    all ≡ taken ++ share_nodes (reverse shares) → length taken ≤ turns → length all ≤ 2 * turns + 1
+few_nodes p count turns taken all path shares state is few =
+    let long : length all ≡ length taken + length (share_nodes (reverse shares)) = ap length is ∙ length-append taken (share_nodes (reverse shares)) in
+    let same : length (share_nodes (reverse shares)) ≡ length (reverse shares) = length-map (reverse shares) (λ (x : Share). nodes.Share x.s) in
+    let wait : length (waiting_for taken ([] ∷ [])) ≡ length (leaves_of path (reverse shares)) = ap length state.reads in
+    omega (arith, few, long, same, wait, one_each p (leaves_of path (reverse shares)) (reverse shares) state.leaves, few_wait taken ([] ∷ []))
+
 -- the whole answer
 pub is_packed : (p : Problem) (turns : ℕ) (found : Packing) → IsValid p → ProofsBoundPackings → LeanTreesAreSmall → IsPacking p found.groups.items found.count → found.count ≤ first_fit_count p →
-    HasTree p found → (found.bound < found.count → turns ≤ found.turns) → IsPacked p turns found
-is_packed p turns found valid bounds small packing first_fit tree ended = record {
+    HasTree p found → length found.tree.items ≤ 2 * turns + 1 → (found.bound < found.count → turns ≤ found.turns) → IsPacked p turns found
+is_packed p turns found valid bounds small packing first_fit tree few ended = record {
   packing = packing;
   first_fit = first_fit;
   tree = tree;
+  few = few;
   ended = ended;
   whole = λ many. elim (cases_lt found.bound found.count) [
     | inl low ↦ absurd (omega (arith, many, ended low, tree.turns_are, small p found.count tree.tree tree.pairs tree.lean))
@@ -86,7 +116,8 @@ is_packed p turns found valid bounds small packing first_fit tree ended = record
 }
 
 pub answers : (p : Problem) (turns count : ℕ) (r : Result Packing Memory) → IsValid p → ProofsBoundPackings → LeanTreesAreSmall → count ≤ first_fit_count p →
-    IfOk r (λ found. IsPacking p found.groups.items found.count) → IfOk r (λ found. found.count ≡ count) → IfOk r (HasTree p) → IfOk r (λ found. found.bound < found.count → turns ≤ found.turns) →
+    IfOk r (λ found. IsPacking p found.groups.items found.count) → IfOk r (λ found. found.count ≡ count) → IfOk r (HasTree p) → IfOk r (λ found. length found.tree.items ≤ 2 * turns + 1) →
+    IfOk r (λ found. found.bound < found.count → turns ≤ found.turns) →
     IfOk r (IsPacked p turns)
-answers p turns count (Ok found) valid bounds small few packing is tree ended = is_packed p turns found valid bounds small packing (omega (arith, is, few)) tree ended
-answers p turns count (Err e) valid bounds small few packing is tree ended = tt
+answers p turns count (Ok found) valid bounds small few packing is tree nodes_few ended = is_packed p turns found valid bounds small packing (omega (arith, is, few)) tree nodes_few ended
+answers p turns count (Err e) valid bounds small few packing is tree nodes_few ended = tt

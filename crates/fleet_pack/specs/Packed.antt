@@ -1,5 +1,5 @@
 -- What a search for the fewest groups finds.
-use Rattle.std.specs.Prelude.{◌≡◌, ℕ, ◌+◌, ◌-◌, ◌*◌, ◌/◌, ◌^◌, ◌<◌, ◌≤◌, List, []}
+use Rattle.std.specs.Prelude.{◌≡◌, ℕ, ◌+◌, ◌-◌, ◌*◌, ◌/◌, ◌^◌, ◌<◌, ◌≤◌, List, [], length}
 use Rattle.carp_base.specs.Problem.{Problem}
 use Rattle.carp_base.specs.Packings.{IsPacking}
 use Rattle.packing_trees.specs.declared.packing.Packing.{Packing}
@@ -21,12 +21,13 @@ pub record HasTree (p : Problem) (found : Packing) : Type 0 where
 abbrev pub all_turns : Problem → ℕ
 all_turns p = 2 ^ (p.required * (p.required - 1) / 2 + 1)
 
--- a packing of no more groups than first fit takes, with such a tree: where the bound is below the count the turns were used up, so that
+-- a packing of no more groups than first fit takes, with such a tree of few nodes: where the bound is below the count the turns were used up, so that
 -- with enough turns no packing has fewer groups; and every packing has at least as many groups as the bound says
 pub record IsPacked (p : Problem) (turns : ℕ) (found : Packing) : Type 0 where
   pub packing : IsPacking p found.groups.items found.count
   pub first_fit : found.count ≤ first_fit_count p
   pub tree : HasTree p found
+  pub few : length found.tree.items ≤ 2 * turns + 1
   pub ended : found.bound < found.count → turns ≤ found.turns
   pub whole : all_turns p ≤ turns → found.bound ≡ found.count
   pub exact : (groups : List ℕ) (count : ℕ) → IsPacking p groups count → found.bound ≤ count

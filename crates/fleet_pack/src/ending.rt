@@ -1,5 +1,5 @@
 // What a search found.
-ghost use Rattle.std.specs.Prelude.{◌≡◌, ◌+◌, ◌<◌, ◌≤◌, ◌++◌, ◌^◌, IfOk, OnOk, length, reverse};
+ghost use Rattle.std.specs.Prelude.{◌≡◌, ◌+◌, ◌*◌, ◌<◌, ◌≤◌, ◌++◌, ◌^◌, IfOk, OnOk, length, reverse};
 ghost use Rattle.fleet_pack.specs.Packed.{HasTree};
 ghost use Rattle.fleet_pack.specs.Groups.{IsGrouping};
 ghost use Rattle.carp_base.specs.Packings.{IsPacking};
@@ -35,10 +35,12 @@ fn put_shares(nodes: &mut Vec<PackNode>, shares: &mut Vec<Share>) -> Result<(), 
 pub(crate) fn finish(inst: &Instance, search: Search, turns: u64) -> Result<Packing, Memory>
     requires search { IsSearch inst.now search }
     requires ended { HasEnded turns search }
-    requires few { length search.nodes.items < 2 ^ 32 }
+    requires few { length search.nodes.items ≤ turns }
+    requires limit { turns < 2 ^ 32 }
     ensures packing { IfOk result (λ found. IsPacking inst.now found.groups.items found.count) }
     ensures count { IfOk result (λ found. found.count ≡ search.best.count) }
     ensures tree { IfOk result (HasTree inst.now) }
+    ensures few { IfOk result (λ found. length found.tree.items ≤ 2 * turns + 1) }
     ensures ended { IfOk result (λ found. found.bound < found.count → turns ≤ found.turns) }
 {
     let Search {

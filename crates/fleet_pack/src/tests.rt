@@ -3,6 +3,7 @@ ghost use Rattle.std.specs.Prelude.{◌≡◌, ◌≤◌, length};
 
 use crate::pack;
 use carp_base::{Instance, RawEdge};
+use packing_trees::{PackAnswer, Packing, check_pack};
 use std::alloc::Global;
 use std::process::Abort;
 use std::test::Fail;
@@ -17,12 +18,25 @@ fn street(u: u64, v: u64, cost: u64, demand: u64) -> RawEdge {
     }
 }
 
+// What is found within so many turns, where the check accepts it.
+fn accepted(alloc: Global, inst: &Instance, turns: u64) -> Result<Packing, Fail>
+    requires some { 1 ≤ turns }
+    requires few { turns ≤ 1048576 }
+{
+    let _ = inst.vertices();
+    let found = pack(alloc, inst, turns)?;
+    match check_pack(alloc, inst, &found)? {
+        PackAnswer::Accepted => Ok(found),
+        PackAnswer::Rejected(_) => Err("rejected")?,
+    }
+}
+
 // Whether so many groups are found and shown within so many turns.
 fn finds(alloc: Global, inst: &Instance, turns: u64, count: u32, bound: u32) -> Result<bool, Fail>
     requires some { 1 ≤ turns }
     requires few { turns ≤ 1048576 }
 {
-    let found = pack(alloc, inst, turns)?;
+    let found = accepted(alloc, inst, turns)?;
     Ok(found.count == count && found.bound == bound)
 }
 
@@ -47,7 +61,7 @@ fn no_two_of_three_fit_together(rt: HostRuntime) -> Result<(), Fail> {
     let alloc = rt.alloc();
     let required = [street(2, 3, 1, 2), street(3, 4, 1, 2), street(4, 2, 1, 2)];
     let inst = Instance::build(alloc, 4, 1, 3, &required, &[street(1, 2, 10, 0)])?;
-    let found = pack(alloc, &inst, 64)?;
+    let found = accepted(alloc, &inst, 64)?;
     assert!(&rt; found.count == 3 && found.bound == 3 && found.turns == 1);
     Ok(())
 }
@@ -65,7 +79,7 @@ fn one_group_takes_a_triangle(rt: HostRuntime) -> Result<(), Fail> {
 fn nothing_takes_no_group(rt: HostRuntime) -> Result<(), Fail> {
     let alloc = rt.alloc();
     let inst = Instance::build(alloc, 1, 1, 1, &[], &[])?;
-    let found = pack(alloc, &inst, 1)?;
+    let found = accepted(alloc, &inst, 1)?;
     assert!(&rt; found.count == 0 && found.bound == 0 && found.turns == 1);
     Ok(())
 }
