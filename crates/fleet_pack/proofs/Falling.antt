@@ -208,6 +208,9 @@ module _ (p : Problem) where
     | inr past ↦ get_or_past (replicate n 0) k 0 (omega (arith, past, length-replicate {A = ℕ} n 0))
   ]
 
+  pub few_items : (items : List Item) → IsValid p → AreFalling p items → length items ≤ 600
+  few_items items valid falling_ones = omega (arith, length_permutation (numbered p p.required) items falling_ones.same, long_numbered p.required, valid.few_required)
+
   -- before the first item no edge has a group
   pub none_placed : (items : List Item) (groups : List ℕ) → IsValid p → AreFalling p items → groups ≡ replicate p.required 0 → IsPlaced p items groups []
   none_placed items groups valid falling_ones is = record {

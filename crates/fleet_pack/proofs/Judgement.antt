@@ -2,7 +2,7 @@
 use Rattle.std.proofs.Common.{◌≡◌, ℕ, zero, suc, ◌+◌, ◌-◌, ◌*◌, ◌≤◌, ◌<◌, ◌==◌, if◌then◌else◌, List, length, set, refl, sym, ap, ◌∙◌, arith, inl, inr}
 use Rattle.std.specs.Prelude.{slice_index}
 use Rattle.std.specs.List.{All}
-use Rattle.std.proofs.lemmas.List.Elements.{All-get_or, All-from_get_or}
+use Rattle.std.proofs.lemmas.List.Elements.{All-get_or}
 use Rattle.std.proofs.lemmas.List.{get_or-set_same, get_or-set_other, length-set}
 use Rattle.std.proofs.lemmas.Bool.{cases_eq, eq-eqb, ne_eqb}
 use Rattle.carp_base.specs.Problem.{Problem, IsRequired}
@@ -70,9 +70,3 @@ judged p groups loads count one_each all long are fine = record {
       (found.0, record { from_one = found.1; in_range = found.2 }, found.3);
   loads = λ g group. let less : g < length loads = omega (arith, long, group.in_range) in omega (arith, are g less, (fine g group.from_one less).1);
 }
-
-pub within_loads : (p : Problem) (groups : List ℕ) (count long : ℕ) → IsPacking p groups count → long ≡ count + 1 → All (λ g. g < long) groups
-within_loads p groups count long packing is =
-    All-from_get_or (λ g. g < long) groups 0 (λ k less.
-    let group = packing.placed (suc k) (record { from_one = omega arith; in_range = omega (arith, less, packing.one_each) }) in
-    omega (arith, group.in_range, is))

@@ -75,8 +75,3 @@ pub record IsPlaced (p : Problem) (left : List Item) (groups loads : List ℕ) :
 -- each load but that at place 0 is above 0 and at most the capacity
 abbrev pub AreFineLoads : ℕ → List ℕ → Type 0
 AreFineLoads capacity loads = (k : ℕ) → 1 ≤ k → k < length loads → (1 ≤ slice_index loads k) × (slice_index loads k ≤ capacity)
-
--- there is a group for each required edge, and a load for each group and one more
-pub record AreGroupsIn (p : Problem) (groups loads : List ℕ) : Type 0 where
-  pub one_each : length groups ≡ p.required
-  pub within : All (λ g. g < length loads) groups

@@ -4,9 +4,9 @@
 mod ending;
 #[cfg(test)]
 mod examples;
+mod filling;
 mod first_fit;
 mod grouping;
-mod improving;
 mod item;
 mod judging;
 mod laws;

@@ -3,8 +3,8 @@ ghost use Rattle.std.specs.Prelude.{◌≤◌, IfOk};
 ghost use Rattle.fleet_pack.specs.Packed.{IsPacked};
 
 use crate::ending::finish;
+use crate::filling::improved;
 use crate::first_fit::first_fit;
-use crate::improving::improved;
 use crate::laws::lean_trees_are_small;
 use crate::search::Search;
 use carp_base::{Instance, Memory};
