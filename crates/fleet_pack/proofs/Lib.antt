@@ -1,0 +1,11 @@
+pub mod Falling
+pub mod Placing
+pub mod State
+pub mod Bundling
+pub mod Growing
+pub mod FewTurns
+pub mod Pairing
+pub mod Ranking
+pub mod Stepping
+pub mod Judgement
+pub mod Finishing
