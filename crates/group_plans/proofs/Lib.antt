@@ -1,0 +1,4 @@
+pub mod GroupTasks
+pub mod GroupTours
+pub mod Numbering
+pub mod Packed

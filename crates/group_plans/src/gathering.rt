@@ -1,0 +1,47 @@
+// The tasks of a group.
+ghost use Rattle.std.specs.Prelude.{◌≡◌, ℕ, zero, suc, ◌+◌, ◌++◌, ◌<◌, ◌^◌, IfOk, OnOk, if◌then◌else◌, length};
+ghost use Rattle.carp_base.specs.Problem.{IsValid};
+ghost use Rattle.group_plans.specs.Gathering.{ServesGroup, gathered, own_task};
+
+use carp_base::{Instance, Memory, Task};
+use std::alloc::Global;
+
+// Adds the edge, forward, where it lies in the group.
+fn add_own(tasks: &mut Vec<Task>, owner: u32, group: u32, edge: u32) -> Result<(), Memory>
+    ensures { OnOk result (tasks.new.items ≡ tasks.old.items ++ own_task owner group edge) }
+{
+    if owner == group {
+        tasks.push(Task {
+            edge,
+            forward: true,
+        })?;
+    }
+    Ok(())
+}
+
+// The edges of a group, in rising number and forward.
+fn gather(alloc: Global, groups: &[u32], group: u32) -> Result<Vec<Task>, Memory>
+    requires { length groups.now < 2 ^ 32 }
+    ensures { IfOk result (λ tasks. tasks.items ≡ gathered groups.now group (length groups.now)) }
+{
+    let mut tasks = Vec::new(alloc);
+    for place in 0..groups.len() {
+        add_own(&mut tasks, groups[place], group, place as u32 + 1)?;
+    }
+    Ok(tasks)
+}
+
+// The tasks of a group of the required edges.
+pub(crate) fn group_tasks(
+    alloc: Global,
+    inst: &Instance,
+    groups: &[u32],
+    group: u32,
+) -> Result<Vec<Task>, Memory>
+    requires { length groups.now ≡ inst.now.required }
+    ensures { IfOk result (λ tasks. ServesGroup inst.now groups.now group tasks.items) }
+{
+    // What a read of the instance says of it is needed: that it is valid.
+    let _ = inst.vertices();
+    gather(alloc, groups, group)
+}

@@ -1,0 +1,12 @@
+// What packings say of plans, as functions whose contract is the law.
+ghost use Rattle.group_plans.specs.Laws.{PlansArePackings};
+
+use plan_model::required_edges_are_served_once;
+
+/// The walks of a lawful plan that serve make a packing with as many groups as there are such walks: each required edge lies in
+/// the group of the one walk that serves it. So no lawful plan has fewer walks that serve than the least packing has groups.
+pub fn plans_are_packings()
+    ensures { PlansArePackings }
+{
+    required_edges_are_served_once();
+}

@@ -1,0 +1,47 @@
+// The plan of a packing.
+ghost use Rattle.std.specs.Prelude.{◌≡◌, ℕ, IfOk};
+ghost use Rattle.carp_base.specs.Packings.{IsPacking};
+ghost use Rattle.plan_model.specs.Plans.{IsLawful};
+ghost use Rattle.deadhead_paths.specs.Prices.{costs_of};
+ghost use Rattle.task_tours.specs.Tours.{PlanGoesByLeastPaths};
+ghost use Rattle.group_plans.specs.Groups.{ServesGroups};
+
+use crate::gathering::group_tasks;
+use carp_base::{Instance, Memory};
+use deadhead_paths::Distances;
+use plan_model::Plan;
+use std::alloc::Global;
+use task_tours::{add_tour, plans_are_tours};
+
+/// A lawful plan with one walk for each group of a packing, in the order of the groups: of the `count` groups from 1, `groups` has for
+/// each required edge, in the order of the edges, the one that it lies in. Each walk serves the edges of its group, joined by
+/// least paths from the depot and back. The distances are those by cost. Without groups it is the plan of no walks.
+///
+/// The walks are not short: each takes the edges of its group in the order of their numbers, and serves each of them forward.
+///
+/// With m required edges in k groups it takes time in proportion to k * m, and to the steps that it writes. The only error is
+/// want of memory.
+pub fn plan_of_groups(
+    alloc: Global,
+    inst: &Instance,
+    dist: &Distances,
+    groups: &[u32],
+    count: u32,
+) -> Result<Plan, Memory>
+    requires problem { dist.now.problem ≡ inst.now }
+    requires prices { dist.now.prices ≡ costs_of inst.now }
+    requires packing { IsPacking inst.now groups.now count }
+    ensures lawful { IfOk result (λ plan. IsLawful inst.now plan) }
+    ensures serves { IfOk result (λ plan. ServesGroups inst.now groups.now count plan) }
+    ensures paths { IfOk result (λ plan. PlanGoesByLeastPaths inst.now plan) }
+{
+    plans_are_tours();
+    // What a read of the instance says of it is needed: that it is valid.
+    let _ = inst.vertices();
+    let mut plan = Plan::new(alloc);
+    for group in 0..count {
+        let tasks = group_tasks(alloc, inst, groups, group + 1)?;
+        add_tour(alloc, inst, dist, &mut plan, &tasks)?;
+    }
+    Ok(plan)
+}
