@@ -5,7 +5,7 @@ use Rattle.std.specs.List.{AllByRecursion}
 use Rattle.std.specs.Prelude.{◌⊎◌}
 use Rattle.carp_outside.specs.Causes.{Rose}
 use Rattle.carp_outside.specs.Told.{SameContents, WroteFront}
-use Rattle.command_words.specs.Commands.{Command, Solve, Check, Sheet, Make, Drill, Upgrade}
+use Rattle.command_words.specs.Commands.{Command, Solve, Check, Sheet, Make, Drill, Upgrade, Postman, Fleet}
 use Rattle.command_works.specs.Works.{Kept, Work}
 use Rattle.carp_cli.specs.Outside.{Outside, found, AreKept, AreKeptInPart}
 use Rattle.carp_cli.specs.Runs.{IsHelped, Leaves}
@@ -130,6 +130,8 @@ cut_is_not_helped (Some (Sheet file cert)) (is, e) = cc
 cut_is_not_helped (Some (Make file seed)) (is, e) = cc
 cut_is_not_helped (Some (Drill turns seed)) (is, e) = cc
 cut_is_not_helped (Some (Upgrade file cert renewed)) (is, e) = cc
+cut_is_not_helped (Some (Postman file)) (is, e) = cc
+cut_is_not_helped (Some (Fleet file turns)) (is, e) = cc
 
 pub memory_is_not_helped : (command : Option Command) → IsHelped command Memory → ⊥
 memory_is_not_helped None none = none
@@ -140,3 +142,5 @@ memory_is_not_helped (Some (Sheet file cert)) (is, e) = cc
 memory_is_not_helped (Some (Make file seed)) (is, e) = cc
 memory_is_not_helped (Some (Drill turns seed)) (is, e) = cc
 memory_is_not_helped (Some (Upgrade file cert renewed)) (is, e) = cc
+memory_is_not_helped (Some (Postman file)) (is, e) = cc
+memory_is_not_helped (Some (Fleet file turns)) (is, e) = cc

@@ -6,17 +6,18 @@ use Rattle.carp_base.specs.declared.fail.Fail.{Fail}
 use Rattle.carp_base.specs.declared.fail.Fail.TheVariants.{Refused}
 use Rattle.carp_base.specs.declared.fail.Memory.{Memory as Want}
 use Rattle.cert_lines.specs.Texts as certificates
-use Rattle.command_words.specs.Commands.{Command, Solve, Check, Sheet, Make, Drill, Upgrade, Source, asks_helpers, keeps, reads, seed_of}
+use Rattle.command_words.specs.Commands.{Command, Solve, Check, Sheet, Make, Drill, Upgrade, Postman, Fleet, Source, asks_helpers, keeps, reads, seed_of}
 use Rattle.command_files.specs.Reads.{IsTried, IsRefusal}
 use Rattle.command_files.specs.declared.status.Status.{Status}
 use Rattle.command_files.specs.declared.status.Status.TheVariants.{Proven, Gap, Accepted, Done, BadUsage, ReadFault}
 use Rattle.command_jobs.specs.Inputs.{IsRefused, CanBeDone}
-use Rattle.command_jobs.specs.Jobs.{IsFor, IsJobOf, WasRead}
+use Rattle.command_jobs.specs.Jobs.{IsFor, IsJobOf, IsSoundJob, WasRead}
 use Rattle.command_jobs.specs.declared.job.Job.{Job}
 use Rattle.command_jobs.specs.declared.job.Job.TheVariants as jobs
 use Rattle.command_works.specs.Made.{IsMade, job_asks, job_seed}
 use Rattle.command_works.specs.Solving.{IsSolvedBy}
 use Rattle.command_works.specs.Drills.{IsDrilled}
+use Rattle.command_works.specs.Fleets.{IsFleetFound}
 use Rattle.command_works.specs.Texts.{answer_text, made_text}
 use Rattle.command_works.specs.Works.{Kept, Work}
 use Rattle.carp_cli.specs.Outside.{Finding}
@@ -109,14 +110,41 @@ module _ (held : Bool) (found : Finding) (status : Status) (work : Work) where
   }
   upgraded file cert renewed _ fails read made = absurd fails
 
-  performed : (c : Command) (job : Job) → IsFor c job → (IsTrue held → WasRead c found.contents job)
+  round_found : (file : List ℕ) (job : Job) → IsFor (Postman file) job → IsSoundJob job → (IsTrue held → WasRead (Postman file) found.contents job)
+      → IsMade job found.offered status work → IsPerformed held (Postman file) found status work
+  round_found file (jobs.Postman laid) is sound read made = record {
+    status_is = made.0;
+    names = ap (λ (w : Work). map (λ k. k.name) w.kept) made.1;
+    done = λ told. record {
+      instance = laid.inst;
+      read = read told;
+      walk = laid.round.walk;
+      shores = laid.round.shores.items;
+      cost = laid.round.cost;
+      round = sound;
+      keeps = ap (λ (w : Work). w.kept) made.1;
+      writes = ap (λ (w : Work). w.text) made.1;
+    };
+  }
+  round_found file _ fails sound read made = absurd fails
+
+  fleet_counted : (file : List ℕ) (turns : ℕ) (job : Job) → IsFor (Fleet file turns) job → (IsTrue held → WasRead (Fleet file turns) found.contents job)
+      → IsMade job found.offered status work → IsPerformed held (Fleet file turns) found status work
+  fleet_counted file turns (jobs.Fleet inst asked) is read made =
+      let by : IsFleetFound inst turns status work = subst (λ (t : ℕ). IsFleetFound inst t status work) is made.1 in
+      record { status_is = made.0; names = ap (map (λ k. k.name)) by.keeps; done = λ told. record { instance = inst; read = read told; fleet = by } }
+  fleet_counted file turns _ fails read made = absurd fails
+
+  performed : (c : Command) (job : Job) → IsFor c job → IsSoundJob job → (IsTrue held → WasRead c found.contents job)
       → IsMade job found.offered status work → IsPerformed held c found status work
-  performed (Solve file cert turns seed) job = solved file cert turns seed job
-  performed (Check file cert) job = accepted file cert job
-  performed (Sheet file cert) job = spelled_out file cert job
-  performed (Make file seed) job = town_kept file seed job
-  performed (Drill turns seed) job = drilled turns seed job
-  performed (Upgrade file cert renewed) job = upgraded file cert renewed job
+  performed (Solve file cert turns seed) job is sound = solved file cert turns seed job is
+  performed (Check file cert) job is sound = accepted file cert job is
+  performed (Sheet file cert) job is sound = spelled_out file cert job is
+  performed (Make file seed) job is sound = town_kept file seed job is
+  performed (Drill turns seed) job is sound = drilled turns seed job is
+  performed (Upgrade file cert renewed) job is sound = upgraded file cert renewed job is
+  performed (Postman file) job is sound = round_found file job is sound
+  performed (Fleet file turns) job is sound = fleet_counted file turns job is
 
 -- a job asks the helpers where its command does, and with its seed
 abbrev AsksAlike : Command → Job → Type 0
@@ -147,6 +175,14 @@ asks_alike (Upgrade file cert renewed) job is = by job is where
   by : (job : Job) → IsFor (Upgrade file cert renewed) job → AsksAlike (Upgrade file cert renewed) job
   by (jobs.Upgrade c name) is = (refl, refl)
   by _ fails = absurd fails
+asks_alike (Postman file) job is = by job is where
+  by : (job : Job) → IsFor (Postman file) job → AsksAlike (Postman file) job
+  by (jobs.Postman laid) is = (refl, refl)
+  by _ fails = absurd fails
+asks_alike (Fleet file turns) job is = by job is where
+  by : (job : Job) → IsFor (Fleet file turns) job → AsksAlike (Fleet file turns) job
+  by (jobs.Fleet inst asked) is = (refl, refl)
+  by _ fails = absurd fails
 
 done_reports : (c : Command) (status : Status) → IsDoneStatus c status → HasReport status
 done_reports (Solve file cert turns seed) status (inl is) = subst HasReport (sym is) tt
@@ -156,6 +192,9 @@ done_reports (Sheet file cert) status is = subst HasReport (sym is) tt
 done_reports (Make file seed) status is = subst HasReport (sym is) tt
 done_reports (Drill turns seed) status is = subst HasReport (sym is) tt
 done_reports (Upgrade file cert renewed) status is = subst HasReport (sym is) tt
+done_reports (Postman file) status is = subst HasReport (sym is) tt
+done_reports (Fleet file turns) status (inl is) = subst HasReport (sym is) tt
+done_reports (Fleet file turns) status (inr is) = subst HasReport (sym is) tt
 
 -- a refusal has no report
 refusals_report_nothing : (status : Status) → IsRefusal status → HasReport status → ⊥
@@ -178,7 +217,7 @@ pub job_prepared : {held : Bool} {c : Command} {found : Finding} {gb gn : ℕ} (
     → IsTried {X = Job} held (reads c) found.looks_before found.looks_now gb gn (IsRefused c found.contents) (CanBeDone c found.contents) (Ok job)
     → IsMade job found.offered status work → IsPrepared held (Some c) found gb gn status work
 job_prepared {held} {c} {found} job status work is tried made =
-    let performs = performed held found status work c job is.is_for is.was_read made in
+    let performs = performed held found status work c job is.is_for is.sound is.was_read made in
     let reports : HasReport status = done_reports c status performs.status_is in record {
       right = λ told. inr (inr (performs.status_is, performs.done told));
       refusal = λ no. absurd (no reports);

@@ -2,6 +2,7 @@ pub mod Outside
 pub mod Refusals
 pub mod Solving
 pub mod Checking
+pub mod Neighbours
 pub mod Answers
 pub mod Runs
 pub mod Steps

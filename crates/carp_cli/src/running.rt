@@ -35,6 +35,10 @@ use std::alloc::Global;
 ///   turns are 4 and the number is 1 where they are not given. It ends `Done`.
 /// - `upgrade FILE CERT NEWCERT` does as `check`, but holds the certificate, and where it is good keeps it at NEWCERT with the numbers of
 ///   the instance, and ends `Done`.
+/// - `postman FILE` writes a least closed walk over all required edges of the instance of FILE, for one vehicle without a limit
+///   ([`postman::postman`]), and ends `Done`; where they do not hang together with the depot it ends `NotJoined`.
+/// - `fleet FILE [--turns N]` counts the fewest vehicles that carry all demands ([`fleet_pack::pack`]), and writes a tour for each and a tree that proves how many it takes at
+///   least. It ends `Proven` where that is the count, and else `Gap`. The turns are 64 where they are not given.
 ///
 /// All other words are bad usage; [`command_words::read_words`] says which are plain. All texts are built before anything is kept or
 /// written.

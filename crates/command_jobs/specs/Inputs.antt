@@ -2,8 +2,8 @@
 use Rattle.std.specs.Prelude.{ℕ, List, Option, ◌⊎◌}
 use Rattle.carp_base.specs.Problem.{Problem}
 use Rattle.dat_text.specs.Text.{IsTextOf}
-use Rattle.command_words.specs.Commands.{Command, Solve, Check, Sheet, Make, Drill, Upgrade, instance_at, certificate_at}
-use Rattle.command_files.specs.Files.{Holds, IsInstance, IsBadInstance, IsGoodText, IsBadCertificate, IsBadFile}
+use Rattle.command_words.specs.Commands.{Command, Solve, Check, Sheet, Make, Drill, Upgrade, Postman, Fleet, instance_at, certificate_at}
+use Rattle.command_files.specs.Files.{Holds, IsInstance, IsBadInstance, IsGoodText, IsBadCertificate, IsBadFile, IsBadRound, IsJoinedText}
 use Rattle.command_files.specs.declared.status.Status.{Status}
 
 -- the first file is the text of an instance, and the second is refused so for it
@@ -30,6 +30,8 @@ IsRefused (Sheet file cert) contents status = IsBadPair file cert contents statu
 IsRefused (Make file seed) contents status = ⊥
 IsRefused (Drill turns seed) contents status = ⊥
 IsRefused (Upgrade file cert renewed) contents status = IsBadPair file cert contents status
+IsRefused (Postman file) contents status = IsBadFile IsBadRound (instance_at file) contents status
+IsRefused (Fleet file turns) contents status = IsBadFile IsBadInstance (instance_at file) contents status
 
 -- what names hold lets a command be done
 abbrev pub CanBeDone : Command → (List ℕ → Option (List ℕ)) → Type 0
@@ -39,3 +41,5 @@ CanBeDone (Sheet file cert) contents = IsGoodPair file cert contents
 CanBeDone (Make file seed) contents = Unit {0}
 CanBeDone (Drill turns seed) contents = Unit {0}
 CanBeDone (Upgrade file cert renewed) contents = IsGoodPair file cert contents
+CanBeDone (Postman file) contents = Holds (instance_at file) contents IsJoinedText
+CanBeDone (Fleet file turns) contents = Holds (instance_at file) contents IsInstance

@@ -1,5 +1,5 @@
 -- The job of a command, and what is read for it.
-use Rattle.std.specs.Prelude.{◌≡◌, ℕ, Bool, false, true, List, Option, IsTrue}
+use Rattle.std.specs.Prelude.{◌≡◌, ℕ, Bool, List, [], Option, IsTrue}
 use Rattle.carp_base.specs.Problem.{Problem}
 use Rattle.plan_model.specs.Plans.{IsLawful}
 use Rattle.plan_model.specs.declared.step.Step.{Step}
@@ -11,7 +11,8 @@ use Rattle.cert_format.specs.Certs.{certificate_in}
 use Rattle.cert_format.specs.Good.{IsGood, IsProof, with_counts}
 use Rattle.cert_format.specs.declared.cert.Cert.{Cert}
 use Rattle.cert_checker.specs.declared.streaming.Checked.{Checked}
-use Rattle.command_words.specs.Commands.{Command, Solve, Check, Sheet, Make, Drill, Upgrade, instance_at, certificate_at}
+use Rattle.command_words.specs.Commands.{Command, Solve, Check, Sheet, Make, Drill, Upgrade, Postman, Fleet, instance_at, certificate_at}
+use Rattle.postman.specs.Rounds.{IsShownRound}
 use Rattle.command_words.specs.Laws.{HasBudget}
 use Rattle.command_files.specs.Files.{Holds}
 use Rattle.command_jobs.specs.declared.job.Job.{Job}
@@ -25,9 +26,11 @@ IsFor (Sheet file cert) (jobs.Sheet inst plan) = Unit {0}
 IsFor (Make file seed) (jobs.Make name drawn) = (name.now ≡ file) × (drawn ≡ seed)
 IsFor (Drill turns seed) (jobs.Drill asked drawn) = (asked ≡ turns) × (drawn ≡ seed)
 IsFor (Upgrade file cert renewed) (jobs.Upgrade c name) = name.now ≡ renewed
+IsFor (Postman file) (jobs.Postman laid) = Unit {0}
+IsFor (Fleet file turns) (jobs.Fleet inst asked) = asked ≡ turns
 IsFor _ _ = ⊥
 
--- it can be done: its turns are in their range, its plan is lawful, and its certificate can be spelled
+-- it can be done: its turns are in their range, its plan is lawful, its certificate can be spelled, and its round is least
 abbrev pub IsSoundJob : Job → Type 0
 IsSoundJob (jobs.Solve inst name turns seed) = HasBudget (Solve name.now name.now turns seed)
 IsSoundJob (jobs.Check checked) = Unit {0}
@@ -35,6 +38,8 @@ IsSoundJob (jobs.Sheet inst plan) = IsLawful inst plan
 IsSoundJob (jobs.Make name seed) = Unit {0}
 IsSoundJob (jobs.Drill turns seed) = HasBudget (Drill turns seed)
 IsSoundJob (jobs.Upgrade c name) = IsSpellable (certificate_in c)
+IsSoundJob (jobs.Postman laid) = IsShownRound laid.inst laid.round.walk laid.round.shores.items laid.round.cost
+IsSoundJob (jobs.Fleet inst turns) = HasBudget (Fleet [] turns)
 
 -- The two files are the texts of an instance and of a certificate that is good for it: its plan is lawful and costs what is stated, and no
 -- lawful plan costs less than its bound.
@@ -74,6 +79,8 @@ WasRead (Sheet file cert) contents (jobs.Sheet inst plan) = HasPlan file cert co
 WasRead (Make file seed) contents (jobs.Make name drawn) = Unit {0}
 WasRead (Drill turns seed) contents (jobs.Drill asked drawn) = Unit {0}
 WasRead (Upgrade file cert renewed) contents (jobs.Upgrade c name) = WasRenewed file cert contents c
+WasRead (Postman file) contents (jobs.Postman laid) = Holds (instance_at file) contents (λ bytes. IsTextOf bytes laid.inst)
+WasRead (Fleet file turns) contents (jobs.Fleet inst asked) = Holds (instance_at file) contents (λ bytes. IsTextOf bytes inst)
 WasRead _ contents _ = ⊥
 
 -- the job of a command; `held` says whether contents are told

@@ -3,7 +3,7 @@ ghost use Rattle.std.specs.Prelude.{◌≡◌, ℕ, ◌≤◌, IfOk, IsTrue};
 ghost use Rattle.carp_outside.specs.Told.{SameContents};
 ghost use Rattle.cert_format.specs.Certs.{certificate_in};
 ghost use Rattle.cert_format.specs.Good.{with_counts};
-ghost use Rattle.command_words.specs.Commands.{Solve, Check, Sheet, Upgrade, reads};
+ghost use Rattle.command_words.specs.Commands.{Solve, Check, Sheet, Upgrade, Postman, Fleet, reads};
 ghost use Rattle.command_words.specs.Forms.{command_in};
 ghost use Rattle.command_words.specs.Laws.{HasBudget};
 ghost use Rattle.command_files.specs.Reads.{IsTried};
@@ -14,7 +14,7 @@ use crate::job::Job;
 use carp_base::{Fail, Instance};
 use carp_outside::Shelf;
 use cert_format::{Cert, counts_keep_good, counts_of, good_is_proof};
-use command_files::{Status, check_file, read_good, read_instance};
+use command_files::{Status, check_file, read_good, read_instance, read_round};
 use command_words::Command;
 use dat_text::readings_are_unique;
 use std::alloc::Global;
@@ -50,6 +50,8 @@ pub fn gather<'a, H: Shelf>(
             cert,
             renewed,
         } => gather_renewed(alloc, file, cert, renewed, shelf),
+        Command::Postman { file } => gather_round(alloc, file, shelf),
+        Command::Fleet { file, turns } => gather_fleet(alloc, file, turns, shelf),
     }
 }
 
@@ -163,4 +165,41 @@ fn with_counts(inst: &Instance, mut cert: Cert) -> Cert
 {
     cert.counts = Some(counts_of(inst));
     cert
+}
+
+// A least closed walk over all required edges.
+fn gather_round<'a, H: Shelf>(
+    alloc: Global,
+    file: &str,
+    shelf: &mut H,
+) -> Result<Job<'a>, Fail<Status>>
+    ensures job { IfOk result (IsJobOf H.tells (Postman file.now) (H.contents shelf.old)) }
+    ensures tried { IsTried H.tells (reads (Postman file.now)) (H.failed_looks shelf.old) (H.failed_looks shelf.new) (H.given shelf.old) (H.given shelf.new) (IsRefused (Postman file.now) (H.contents shelf.old)) (CanBeDone (Postman file.now) (H.contents shelf.old)) result }
+    ensures contents { IsTrue H.tells → SameContents (H.contents shelf.old) (H.contents shelf.new) }
+    ensures keeps { H.failed_keeps shelf.new ≡ H.failed_keeps shelf.old }
+{
+    match read_round(alloc, shelf, file) {
+        Ok(laid) => Ok(Job::Postman { laid }),
+        Err(fail) => Err(fail),
+    }
+}
+
+// The instance whose vehicles are to be counted.
+fn gather_fleet<'a, H: Shelf>(
+    alloc: Global,
+    file: &str,
+    turns: u64,
+    shelf: &mut H,
+) -> Result<Job<'a>, Fail<Status>>
+    requires some_turns { 1 ≤ turns }
+    requires turns_in_range { turns ≤ 1048576 }
+    ensures job { IfOk result (IsJobOf H.tells (Fleet file.now turns) (H.contents shelf.old)) }
+    ensures tried { IsTried H.tells (reads (Fleet file.now turns)) (H.failed_looks shelf.old) (H.failed_looks shelf.new) (H.given shelf.old) (H.given shelf.new) (IsRefused (Fleet file.now turns) (H.contents shelf.old)) (CanBeDone (Fleet file.now turns) (H.contents shelf.old)) result }
+    ensures contents { IsTrue H.tells → SameContents (H.contents shelf.old) (H.contents shelf.new) }
+    ensures keeps { H.failed_keeps shelf.new ≡ H.failed_keeps shelf.old }
+{
+    match read_instance(alloc, shelf, file) {
+        Ok(inst) => Ok(Job::Fleet { inst, turns }),
+        Err(fail) => Err(fail),
+    }
 }

@@ -3,6 +3,7 @@
 use carp_base::Instance;
 use cert_checker::Checked;
 use cert_format::Cert;
+use command_files::Laid;
 use plan_model::Plan;
 
 /// What a command has to do: its names and its numbers, and what was read of its files.
@@ -30,4 +31,12 @@ pub enum Job<'a> {
     },
     /// Keeps the certificate, which has the numbers of its instance, at `renewed`.
     Upgrade { cert: Cert, renewed: &'a str },
+    /// Writes a least closed walk over all required edges.
+    Postman { laid: Laid },
+    /// Finds the fewest vehicles.
+    Fleet {
+        inst: Instance,
+        /// 1 to 1,048,576.
+        turns: u64,
+    },
 }

@@ -128,12 +128,25 @@ row verb names seed command = record { verb = verb; names = names; turns = None;
 pub budget_in : (words : List (List ℕ)) → IfSome (command_of words) HasBudget
 budget_in [] = tt
 budget_in (verb ∷ words) =
-    by_rows forms verb words
-    (with_turns words (codes "solve") 2 64 (Some 1) solve (omega arith, omega arith) solve_in,
-    (without_turns words (row (codes "check") 2 None check) (λ names t s. check_in t s names),
-    (without_turns words (row (codes "sheet") 2 None sheet) (λ names t s. sheet_in t s names),
-    (without_turns words (row (codes "make") 1 (Some 1) make) (λ names t s. make_in t s names),
-    (with_turns words (codes "drill") 0 4 (Some 1) drill (omega arith, omega arith) drill_in,
-    (without_turns words (row (codes "upgrade") 3 None upgrade) (λ names t s. upgrade_in t s names),
-    (without_turns words (row (codes "postman") 1 None postman) (λ names t s. postman_in t s names),
-    (with_turns words (codes "fleet") 1 64 None fleet (omega arith, omega arith) fleet_in, tt))))))))
+    by_rows forms verb words (
+      with_turns words (codes "solve") 2 64 (Some 1) solve (omega arith, omega arith) solve_in,
+      (
+        without_turns words (row (codes "check") 2 None check) (λ names t s. check_in t s names),
+        (
+          without_turns words (row (codes "sheet") 2 None sheet) (λ names t s. sheet_in t s names),
+          (
+            without_turns words (row (codes "make") 1 (Some 1) make) (λ names t s. make_in t s names),
+            (
+              with_turns words (codes "drill") 0 4 (Some 1) drill (omega arith, omega arith) drill_in,
+              (
+                without_turns words (row (codes "upgrade") 3 None upgrade) (λ names t s. upgrade_in t s names),
+                (
+                  without_turns words (row (codes "postman") 1 None postman) (λ names t s. postman_in t s names),
+                  (with_turns words (codes "fleet") 1 64 None fleet (omega arith, omega arith) fleet_in, tt),
+                ),
+              ),
+            ),
+          ),
+        ),
+      ),
+    )

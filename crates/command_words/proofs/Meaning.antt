@@ -91,10 +91,10 @@ pair word number rest e =
 
 -- What is so of no option, of each option alone, and of both in either order, is so of all options that take turns and a seed.
 module _ (Is : List Text → Type 0) (none : Is [])
-  (one_turns : (n : Text) → is_number n ≡ true → IsPlainText n → Is (turns_word ∷ n ∷ []))
-  (one_seed : (n : Text) → is_number n ≡ true → IsPlainText n → Is (seed_word ∷ n ∷ []))
-  (turns_before : (n k : Text) → is_number n ≡ true → is_number k ≡ true → IsPlainText n → IsPlainText k → Is (turns_word ∷ n ∷ seed_word ∷ k ∷ []))
-  (seed_before : (n k : Text) → is_number n ≡ true → is_number k ≡ true → IsPlainText n → IsPlainText k → Is (seed_word ∷ k ∷ turns_word ∷ n ∷ [])) where
+    (one_turns : (n : Text) → is_number n ≡ true → IsPlainText n → Is (turns_word ∷ n ∷ []))
+    (one_seed : (n : Text) → is_number n ≡ true → IsPlainText n → Is (seed_word ∷ n ∷ []))
+    (turns_before : (n k : Text) → is_number n ≡ true → is_number k ≡ true → IsPlainText n → IsPlainText k → Is (turns_word ∷ n ∷ seed_word ∷ k ∷ []))
+    (seed_before : (n k : Text) → is_number n ≡ true → is_number k ≡ true → IsPlainText n → IsPlainText k → Is (seed_word ∷ k ∷ turns_word ∷ n ∷ [])) where
   one_option : (word n : Text) → Named word n → Is (word ∷ n ∷ [])
   unfolding Named
   one_option word n (inl e, d) = subst (λ w. Is (w ∷ n ∷ [])) (sym e) (one_turns n d (number_text n d))
@@ -153,7 +153,7 @@ none_read (word ∷ n ∷ more) e =
 
 -- options of which one alone is taken: this word, and a number
 module _ (turns seed : Bool) (one : Text) (only : (word n : Text) → is_option turns seed word n ≡ true → (word ≡ one) × (is_number n ≡ true))
-  (Is : List Text → Type 0) (none : Is []) (once : (n : Text) → is_number n ≡ true → IsPlainText n → Is (one ∷ n ∷ [])) where
+    (Is : List Text → Type 0) (none : Is []) (once : (n : Text) → is_number n ≡ true → IsPlainText n → Is (one ∷ n ∷ [])) where
   pub read_alone : (options : List Text) → are_options turns seed options ≡ true → Is options
   read_alone [] e = none
   read_alone (word ∷ []) e = cc

@@ -42,7 +42,9 @@ pub enum Command<'a> {
         renewed: &'a str,
     },
     /// Finds a least closed walk over all required edges of the instance of `file`.
-    Postman { file: &'a str },
+    Postman {
+        file: &'a str,
+    },
     /// Finds the fewest vehicles that the instance of `file` takes.
     Fleet {
         file: &'a str,

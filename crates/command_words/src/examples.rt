@@ -1,6 +1,6 @@
 // Words that are plain, with the commands that they are, and words that are not.
 ghost use Rattle.std.specs.Prelude.{◌≡◌, [], ◌∷◌, None, Some, codes};
-ghost use Rattle.command_words.specs.Commands.{Solve, Check, Upgrade};
+ghost use Rattle.command_words.specs.Commands.{Solve, Check, Sheet, Make, Drill, Upgrade, Postman, Fleet};
 ghost use Rattle.command_words.specs.Words.{command_of};
 
 #[tactic(auto, unfolding(crate::specs::Words::is_option, crate::specs::Words::is_given))]
@@ -12,6 +12,14 @@ fn words_are_plain()
     ensures other_order { command_of (codes "solve" ∷ codes "f" ∷ codes "c" ∷ codes "--seed" ∷ codes "0" ∷ codes "--turns" ∷ codes "1" ∷ []) ≡ Some (Solve (codes "f") (codes "c") 1 0) }
     ensures digits { command_of (codes "solve" ∷ codes "f" ∷ codes "c" ∷ codes "--seed" ∷ codes "999999999999999999" ∷ []) ≡ Some (Solve (codes "f") (codes "c") 64 999999999999999999) }
     ensures check { command_of (codes "check" ∷ codes "f" ∷ codes "c" ∷ []) ≡ Some (Check (codes "f") (codes "c")) }
+    ensures sheet { command_of (codes "sheet" ∷ codes "f" ∷ codes "c" ∷ []) ≡ Some (Sheet (codes "f") (codes "c")) }
+    ensures make { command_of (codes "make" ∷ codes "f" ∷ []) ≡ Some (Make (codes "f") 1) }
+    ensures make_seed { command_of (codes "make" ∷ codes "f" ∷ codes "--seed" ∷ codes "7" ∷ []) ≡ Some (Make (codes "f") 7) }
+    ensures drill { command_of (codes "drill" ∷ []) ≡ Some (Drill 4 1) }
+    ensures drill_both { command_of (codes "drill" ∷ codes "--seed" ∷ codes "7" ∷ codes "--turns" ∷ codes "9" ∷ []) ≡ Some (Drill 9 7) }
+    ensures postman { command_of (codes "postman" ∷ codes "f" ∷ []) ≡ Some (Postman (codes "f")) }
+    ensures fleet { command_of (codes "fleet" ∷ codes "f" ∷ []) ≡ Some (Fleet (codes "f") 64) }
+    ensures fleet_turns { command_of (codes "fleet" ∷ codes "f" ∷ codes "--turns" ∷ codes "9" ∷ []) ≡ Some (Fleet (codes "f") 9) }
     ensures upgrade { command_of (codes "upgrade" ∷ codes "f" ∷ codes "c" ∷ codes "n" ∷ []) ≡ Some (Upgrade (codes "f") (codes "c") (codes "n")) }
 {}
 
@@ -27,6 +35,9 @@ fn words_are_not_plain()
     ensures option_first { command_of (codes "solve" ∷ codes "--seed" ∷ codes "1" ∷ codes "f" ∷ codes "c" ∷ []) ≡ None }
     ensures option_twice { command_of (codes "solve" ∷ codes "f" ∷ codes "c" ∷ codes "--seed" ∷ codes "1" ∷ codes "--seed" ∷ codes "1" ∷ []) ≡ None }
     ensures option_of_another { command_of (codes "check" ∷ codes "f" ∷ codes "c" ∷ codes "--seed" ∷ codes "1" ∷ []) ≡ None }
+    ensures make_turns { command_of (codes "make" ∷ codes "f" ∷ codes "--turns" ∷ codes "1" ∷ []) ≡ None }
+    ensures drill_name { command_of (codes "drill" ∷ codes "f" ∷ []) ≡ None }
+    ensures fleet_seed { command_of (codes "fleet" ∷ codes "f" ∷ codes "--seed" ∷ codes "1" ∷ []) ≡ None }
     ensures joined { command_of (codes "solve" ∷ codes "f" ∷ codes "c" ∷ codes "--turns=9" ∷ []) ≡ None }
     ensures no_turns { command_of (codes "solve" ∷ codes "f" ∷ codes "c" ∷ codes "--turns" ∷ codes "0" ∷ []) ≡ None }
     ensures more_turns { command_of (codes "solve" ∷ codes "f" ∷ codes "c" ∷ codes "--turns" ∷ codes "1048577" ∷ []) ≡ None }

@@ -15,6 +15,17 @@ const ROWS: &str = "\
     solve help b=c | solve help b=c 64 1\n\
     check file cert | check file cert\n\
     upgrade file cert new | upgrade file cert new\n\
+    sheet file cert | sheet file cert\n\
+    make file | make file 1\n\
+    make file --seed 007 | make file 7\n\
+    drill | drill 4 1\n\
+    drill --turns 9 | drill 9 1\n\
+    drill --seed 7 | drill 4 7\n\
+    drill --turns 9 --seed 7 | drill 9 7\n\
+    drill --seed 7 --turns 9 | drill 9 7\n\
+    postman file | postman file\n\
+    fleet file | fleet file 64\n\
+    fleet file --turns 1048576 | fleet file 1048576\n\
     |\n\
     solve |\n\
     solve file |\n\
@@ -43,7 +54,27 @@ const ROWS: &str = "\
     help |\n\
     help solve |\n\
     Solve file cert |\n\
-    make file |\n\
+    make |\n\
+    make -file |\n\
+    make file other |\n\
+    make file --turns 1 |\n\
+    make file --seed 1 --seed 1 |\n\
+    make --seed 1 file |\n\
+    sheet file |\n\
+    sheet file file |\n\
+    sheet file cert --seed 1 |\n\
+    drill file |\n\
+    drill --turns 0 |\n\
+    drill --turns 1 --turns 1 |\n\
+    drill --seed |\n\
+    postman |\n\
+    postman file other |\n\
+    postman file --turns 1 |\n\
+    fleet |\n\
+    fleet file --turns 0 |\n\
+    fleet file --turns 1048577 |\n\
+    fleet file --seed 1 |\n\
+    fleet file --turns 1 --turns 1 |\n\
     check file |\n\
     check file file |\n\
     check file cert other |\n\
@@ -84,6 +115,11 @@ fn told(alloc: Global, command: Option<Command<'_>>) -> Result<String, Fail> {
                 renewed,
             },
         ) => Ok(format!(in alloc; "upgrade {file} {cert} {renewed}")?),
+        Some(Command::Sheet { file, cert }) => Ok(format!(in alloc; "sheet {file} {cert}")?),
+        Some(Command::Make { file, seed }) => Ok(format!(in alloc; "make {file} {seed}")?),
+        Some(Command::Drill { turns, seed }) => Ok(format!(in alloc; "drill {turns} {seed}")?),
+        Some(Command::Postman { file }) => Ok(format!(in alloc; "postman {file}")?),
+        Some(Command::Fleet { file, turns }) => Ok(format!(in alloc; "fleet {file} {turns}")?),
     }
 }
 

@@ -2,4 +2,6 @@ pub mod Works
 pub mod Solving
 pub mod Texts
 pub mod Drills
+pub mod Rounds
+pub mod Fleets
 pub mod Made

@@ -7,6 +7,8 @@ ghost use Rattle.command_works.specs.Works.{work_in};
 use crate::answers::{accept, keep_town, renew, spell_sheet};
 use crate::delivery::Delivery;
 use crate::drilling::drill;
+use crate::fleets::count_fleet;
+use crate::rounds::spell_round;
 use crate::solving::solve_instance;
 use carp_base::Memory;
 use command_jobs::Job;
@@ -41,5 +43,7 @@ pub fn make<'a, P: Proposer>(
         Job::Make { file, seed } => keep_town(alloc, file, *seed),
         Job::Drill { turns, seed } => drill(alloc, *turns, *seed, helpers),
         Job::Upgrade { cert, renewed } => renew(alloc, cert, renewed),
+        Job::Postman { laid } => spell_round(alloc, laid),
+        Job::Fleet { inst, turns } => count_fleet(alloc, inst, *turns),
     }
 }

@@ -37,8 +37,8 @@ pub(crate) fn solve_instance<'a, P: Proposer>(
     deliver_one(alloc, cert, bytes, text, status)
 }
 
-// What is answered for a bound and a cost.
-fn ending(bound: u64, cost: u64) -> Status
+/// What is answered for a bound and a cost.
+pub(crate) fn ending(bound: u64, cost: u64) -> Status
     ensures proven { bound ≡ cost → result ≡ Status.Proven }
     ensures gap { bound ≢ cost → result ≡ Status.Gap }
     ensures is_proven { result ≡ Status.Proven → bound ≡ cost }
