@@ -1,3 +1,4 @@
 pub mod Edits
 pub mod Texts
 pub mod Laws
+pub mod Reading

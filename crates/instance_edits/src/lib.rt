@@ -3,6 +3,9 @@
 
 mod edit;
 mod laws;
+mod line;
+mod read;
 
 pub use edit::{Edit, EditFault};
 pub use laws::edits_are_unique;
+pub use read::read_edits;

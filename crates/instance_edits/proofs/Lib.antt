@@ -1,0 +1,4 @@
+mod Pairs
+mod Numbers
+mod Lines
+mod Unique
