@@ -2,3 +2,5 @@ mod Pairs
 mod Numbers
 mod Lines
 mod Unique
+mod Known
+mod Steps

@@ -2,3 +2,4 @@ pub mod Edits
 pub mod Texts
 pub mod Laws
 pub mod Reading
+pub mod Changing

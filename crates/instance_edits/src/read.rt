@@ -1,5 +1,5 @@
 // The text of edits, line by line.
-ghost use Rattle.std.specs.Prelude.{◌≡◌, ℕ, ◌+◌, ◌<◌, ◌≤◌, ◌^◌, ◌||◌, List, [], ◌∷◌, ◌++◌, Bool, true, false, length, MatchOption, MatchResult, IfOk, IfErr, OnOk, slice_index_or};
+ghost use Rattle.std.specs.Prelude.{IsTrue, ◌≡◌, ℕ, ◌+◌, ◌<◌, ◌≤◌, ◌^◌, ◌||◌, List, [], ◌∷◌, ◌++◌, Bool, true, false, length, MatchOption, MatchResult, IfOk, IfErr, OnOk, slice_index_or};
 ghost use Rattle.std.specs.List.{list_any};
 ghost use Rattle.carp_base.specs.Problem.{IsValid};
 ghost use Rattle.instance_edits.specs.declared.edit.Edit.{Edit as AnyEdit};
@@ -35,7 +35,7 @@ fn read_lines(
 ) -> Result<Vec<Edit>, Fail<EditFault>>
     requires few { length bytes.now < 2 ^ 32 }
     requires all { length closed.old ≡ length inst.now.edges + 1 }
-    requires open { IsMarked closed.old [] }
+    requires none { IsMarked closed.old [] }
     ensures edits { IfOk result (λ edits. IsEditsText inst.now bytes.now edits.items) }
     ensures refused { IfErr result (RefusesFirstBad inst.now bytes.now) }
 {
@@ -87,7 +87,8 @@ fn next_edit<'a>(
 #[tactic(auto, unfolding(crate::specs::Reading::is_known))]
 fn is_known(inst: &Instance, closed: &[bool], line: Line) -> bool
     requires { length closed.now ≡ length inst.now.edges + 1 }
-    ensures { result ≡ is_known inst.now closed.now (edit_of line) }
+    ensures known { result ≡ is_known inst.now closed.now (edit_of line) }
+    ensures within { IsTrue result → line.edge < 2 ^ 32 }
 {
     match line.keyword {
         Keyword::Cost => is_open(inst, closed, line.edge),
@@ -101,13 +102,15 @@ fn is_known(inst: &Instance, closed: &[bool], line: Line) -> bool
 
 fn is_open(inst: &Instance, closed: &[bool], edge: u64) -> bool
     requires { length closed.now ≡ length inst.now.edges + 1 }
-    ensures { result ≡ is_open inst.now closed.now edge }
+    ensures free { result ≡ is_open inst.now closed.now edge }
+    ensures within { IsTrue result → edge < 2 ^ 32 }
 {
     edge >= 1 && edge <= u64::from(inst.edge_count()) && !closed[edge as usize]
 }
 
 fn is_required(inst: &Instance, edge: u64) -> bool
-    ensures { result ≡ is_required inst.now edge }
+    ensures required { result ≡ is_required inst.now edge }
+    ensures within { IsTrue result → edge < 2 ^ 32 }
 {
     edge >= 1 && edge <= u64::from(inst.required())
 }
