@@ -4,3 +4,4 @@ mod Lines
 mod Unique
 mod Known
 mod Steps
+mod Changes

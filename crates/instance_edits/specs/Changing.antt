@@ -43,8 +43,8 @@ pub record IsAtMost (most : ℕ) (change : Change) : Type 0 where
 
 -- what is added and the edge that is named are in range
 pub record IsInTable (count edge add : ℕ) : Type 0 where
-  pub edge : edge < count
-  pub add : add < 10 ^ 12
+  pub in_range : edge < count
+  pub short : add < 10 ^ 12
 
 abbrev pub IsApplied : ℕ → Edit → Type 0
 IsApplied count (Cost e n) = IsInTable count e n

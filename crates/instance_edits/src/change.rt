@@ -107,6 +107,7 @@ fn kept_from(
     first: u32,
     count: u32,
 ) -> Result<Vec<RawEdge>, Memory>
+    requires valid { IsValid inst.now }
     requires within { first + count ≤ length inst.now.edges }
     requires all { length changes.now ≡ length inst.now.edges + 1 }
     requires at_most { (e : ℕ) → e < length changes.now → IsAtMost (10 ^ 12 * 2 ^ 20) (slice_index_or changes.now e nothing) }
