@@ -45,7 +45,7 @@ open_parts p marks e is =
 open_from : (p : Problem) (marks : List Bool) (e : ℕ) → 1 ≤ e → e ≤ length p.edges → slice_index_or marks e false ≡ false → is_open p marks e ≡ true
 open_from p marks e low high none =
     and_from (leb 1 e && leb e (length p.edges)) (not (slice_index_or marks e false))
-      (and_from (leb 1 e) (leb e (length p.edges)) (le-leb 1 e low) (le-leb e (length p.edges) high)) (not_from_false (slice_index_or marks e false) none)
+    (and_from (leb 1 e) (leb e (length p.edges)) (le-leb 1 e low) (le-leb e (length p.edges) high)) (not_from_false (slice_index_or marks e false) none)
 
 required_parts : (p : Problem) (e : ℕ) → is_required p e ≡ true → IsRequired p e
 required_parts p e is =
@@ -64,7 +64,7 @@ module _ (p : Problem) (marks : List Bool) (before : List Edit) (all : length ma
   told_open : (e : ℕ) → IsEdgeNumber p e → ¬ (IsClosed before e) → is_open p marks e ≡ true
   told_open e edge never =
       open_from p marks e edge.from_one edge.in_range
-        (false_from_ne_true (slice_index_or marks e false) (λ on. never (closed_from e before (sym (marked e (omega (arith, edge.in_range, all))) ∙ on))))
+      (false_from_ne_true (slice_index_or marks e false) (λ on. never (closed_from e before (sym (marked e (omega (arith, edge.in_range, all))) ∙ on))))
 
   pub known_when : (edit : Edit) → is_known p marks edit ≡ true → IsKnown p before edit
   unfolding is_known
@@ -83,7 +83,7 @@ module _ (p : Problem) (marks : List Bool) (before : List Edit) (all : length ma
   when_known (Demand e n) known = required_from p e known
   when_known (Close e) known =
       and_from (is_open p marks e) (not (leb e p.required)) (told_open e known.0 known.2)
-        (not_from_false (leb e p.required) (false_from_ne_true (leb e p.required) (λ within. known.1 (record { from_one = known.0.from_one; in_range = leb-true e p.required within }))))
+      (not_from_false (leb e p.required) (false_from_ne_true (leb e p.required) (λ within. known.1 (record { from_one = known.0.from_one; in_range = leb-true e p.required within }))))
 
 -- what becomes of the next line
 module _ (p : Problem) (marks : List Bool) (before : List Edit) (all : length marks ≡ length p.edges + 1) (marked : IsMarked marks before)

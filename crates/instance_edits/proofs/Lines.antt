@@ -47,9 +47,9 @@ keyword_told : (k : Keyword) (text rest : List ℕ) → keyword_at text ≡ Some
 unfolding keyword_at
 keyword_told k text rest here =
     choose Cost k (begins (word_of Cost) text) text rest _ refl here (λ here2.
-      choose Service k (begins (word_of Service) text) text rest _ refl here2 (λ here3.
-        choose Demand k (begins (word_of Demand) text) text rest _ refl here3 (λ here4.
-          choose Close k (begins (word_of Close) text) text rest None refl here4 (λ none. (cc)))))
+    choose Service k (begins (word_of Service) text) text rest _ refl here2 (λ here3.
+    choose Demand k (begins (word_of Demand) text) text rest _ refl here3 (λ here4.
+    choose Close k (begins (word_of Close) text) text rest None refl here4 (λ none. (cc)))))
 
 -- the numbers behind the word
 regroup : (word e n rest : List ℕ) → (((((word ++ e) ++ 32 ∷ []) ++ n) ++ 10 ∷ []) ++ rest) ≡ word ++ (e ++ 32 ∷ (n ++ 10 ∷ rest))
@@ -120,17 +120,17 @@ made w e n = Some (edit_with w e n.0, n.1)
 adding_told : (w : Keyword) (text : List ℕ) (edit : Edit) (rest : List ℕ) → is_adding w ≡ true → adding_at w text ≡ Some (edit, rest) → IsLine (word_of w ++ text) edit rest
 adding_told w text edit rest adds here =
     option_and_then_some (λ (e : ℕ × List ℕ). option_and_then (made w e.0) (number_before 10 e.1)) (number_before 32 text) (edit, rest) here (λ e first more.
-      option_and_then_some (made w e.0) (number_before 10 e.1) (edit, rest) more (λ n second gives. (
-        let one = number_told 32 e.0 text e.1 first in
-        let two = number_told 10 n.0 e.1 n.1 second in
-        let same : edit_with w e.0 n.0 ≡ edit = firsts (edit_with w e.0 n.0, n.1) (edit, rest) gives in
-        let follows : n.1 ≡ rest = seconds (edit_with w e.0 n.0, n.1) (edit, rest) gives in
-        subst (λ (x : Edit). IsLine (word_of w ++ text) x rest) same (record {
-          cut =
-              ap (λ (x : List ℕ). word_of w ++ x) (one.cut ∙ ap (λ (x : List ℕ). decimal e.0 ++ 32 ∷ x) (two.cut ∙ ap (λ (x : List ℕ). decimal n.0 ++ 10 ∷ x) follows) ∙ sym (tail_adding w e.0 n.0 rest adds))
-              ∙ sym (text_is w e.0 n.0 rest);
-          short = both_short w e.0 n.0 one.small two.small;
-        }))))
+    option_and_then_some (made w e.0) (number_before 10 e.1) (edit, rest) more (λ n second gives. (
+    let one = number_told 32 e.0 text e.1 first in
+    let two = number_told 10 n.0 e.1 n.1 second in
+    let same : edit_with w e.0 n.0 ≡ edit = firsts (edit_with w e.0 n.0, n.1) (edit, rest) gives in
+    let follows : n.1 ≡ rest = seconds (edit_with w e.0 n.0, n.1) (edit, rest) gives in
+    subst (λ (x : Edit). IsLine (word_of w ++ text) x rest) same (record {
+      cut =
+          ap (λ (x : List ℕ). word_of w ++ x) (one.cut ∙ ap (λ (x : List ℕ). decimal e.0 ++ 32 ∷ x) (two.cut ∙ ap (λ (x : List ℕ). decimal n.0 ++ 10 ∷ x) follows) ∙ sym (tail_adding w e.0 n.0 rest adds))
+          ∙ sym (text_is w e.0 n.0 rest);
+      short = both_short w e.0 n.0 one.small two.small;
+    }))))
 
 abbrev closed : ℕ × List ℕ → Option (Edit × List ℕ)
 closed e = Some (edits.Close e.0, e.1)
@@ -138,13 +138,13 @@ closed e = Some (edits.Close e.0, e.1)
 closing_told : (text : List ℕ) (edit : Edit) (rest : List ℕ) → closing_at text ≡ Some (edit, rest) → IsLine (word_of Close ++ text) edit rest
 closing_told text edit rest here =
     option_and_then_some closed (number_before 10 text) (edit, rest) here (λ e first gives. (
-      let one = number_told 10 e.0 text e.1 first in
-      let same : edits.Close e.0 ≡ edit = firsts (edits.Close e.0, e.1) (edit, rest) gives in
-      let follows : e.1 ≡ rest = seconds (edits.Close e.0, e.1) (edit, rest) gives in
-      subst (λ (x : Edit). IsLine (word_of Close ++ text) x rest) same (record {
-        cut = ap (λ (x : List ℕ). word_of Close ++ x) (one.cut ∙ ap (λ (x : List ℕ). decimal e.0 ++ 10 ∷ x) follows) ∙ sym (text_is Close e.0 0 rest);
-        short = one.small;
-      })))
+    let one = number_told 10 e.0 text e.1 first in
+    let same : edits.Close e.0 ≡ edit = firsts (edits.Close e.0, e.1) (edit, rest) gives in
+    let follows : e.1 ≡ rest = seconds (edits.Close e.0, e.1) (edit, rest) gives in
+    subst (λ (x : Edit). IsLine (word_of Close ++ text) x rest) same (record {
+      cut = ap (λ (x : List ℕ). word_of Close ++ x) (one.cut ∙ ap (λ (x : List ℕ). decimal e.0 ++ 10 ∷ x) follows) ∙ sym (text_is Close e.0 0 rest);
+      short = one.small;
+    })))
 
 numbers_told : (w : Keyword) (text : List ℕ) (edit : Edit) (rest : List ℕ) → numbers_at w text ≡ Some (edit, rest) → IsLine (word_of w ++ text) edit rest
 numbers_told Cost text edit rest here = adding_told Cost text edit rest refl here
@@ -156,7 +156,7 @@ pub line_told : (text : List ℕ) (edit : Edit) (rest : List ℕ) → line_at te
 unfolding line_at
 line_told text edit rest here =
     option_and_then_some (λ (k : Keyword × List ℕ). numbers_at k.0 k.1) (keyword_at text) (edit, rest) here (λ k word more.
-      subst (λ (x : List ℕ). IsLine x edit rest) (sym (keyword_told k.0 text k.1 word)) (numbers_told k.0 k.1 edit rest more))
+    subst (λ (x : List ℕ). IsLine x edit rest) (sym (keyword_told k.0 text k.1 word)) (numbers_told k.0 k.1 edit rest more))
 
 pub none_told : (text : List ℕ) → line_at text ≡ None → NoEditBegins text
 none_told text none = λ edit rest short is. (let read : line_at text ≡ Some (edit, rest) = ap line_at is ∙ line_read edit rest short in cc)

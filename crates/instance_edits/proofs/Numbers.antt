@@ -163,16 +163,16 @@ told_from b n digits after rest false all is here = cc
 told_from b n digits after rest true all is here =
     let spelled = number_spelled digits all is in
     option_and_then_some (with_rest digits) (after_byte b after) (n, rest) here (λ r follows gives. (
-      let behind : after ≡ b ∷ r = byte_told b after r follows in
-      let value : digits_value 10 digits ≡ n = firsts (digits_value 10 digits, r) (n, rest) gives in
-      let same : r ≡ rest = seconds (digits_value 10 digits, r) (n, rest) gives in
-      record {
-        cut = ap (λ (x : List ℕ). digits ++ x) behind ∙ ap (λ (x : List ℕ). x ++ b ∷ r) (sym spelled.0) ∙ ap (λ (m : ℕ). decimal m ++ b ∷ r) value ∙ ap (λ (x : List ℕ). decimal n ++ b ∷ x) same;
-        small = omega (arith, spelled.1, value);
-      }))
+    let behind : after ≡ b ∷ r = byte_told b after r follows in
+    let value : digits_value 10 digits ≡ n = firsts (digits_value 10 digits, r) (n, rest) gives in
+    let same : r ≡ rest = seconds (digits_value 10 digits, r) (n, rest) gives in
+    record {
+      cut = ap (λ (x : List ℕ). digits ++ x) behind ∙ ap (λ (x : List ℕ). x ++ b ∷ r) (sym spelled.0) ∙ ap (λ (m : ℕ). decimal m ++ b ∷ r) value ∙ ap (λ (x : List ℕ). decimal n ++ b ∷ x) same;
+      small = omega (arith, spelled.1, value);
+    }))
 
 pub number_told : (b n : ℕ) (text rest : List ℕ) → number_before b text ≡ Some (n, rest) → IsNumberBefore b text n rest
 unfolding number_before
 number_told b n text rest here =
     subst (λ (x : List ℕ). IsNumberBefore b x n rest) (take-append-drop (prefix_len is_ascii_digit text) text)
-      (told_from b n (digits_at text) (after_digits text) rest (is_numeral (digits_at text)) (are_digits text) refl here)
+    (told_from b n (digits_at text) (after_digits text) rest (is_numeral (digits_at text)) (are_digits text) refl here)

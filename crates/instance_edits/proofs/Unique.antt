@@ -33,12 +33,12 @@ same_from p (x ∷ xs) [] before r s e xshort yshort xknown yknown rstops sstops
     absurd (sstops x (flat_map edit_text xs ++ r) xshort.0 (sym e ∙ append_assoc (edit_text x) (flat_map edit_text xs) r) (subst (λ (b : List Edit). IsKnown p b x) (sym (append-nil before)) xknown.0))
 same_from p (x ∷ xs) (y ∷ ys) before r s e xshort yshort xknown yknown rstops sstops =
     let line = line_same x y (flat_map edit_text xs ++ r) (flat_map edit_text ys ++ s) xshort.0 yshort.0
-      (sym (append_assoc (edit_text x) (flat_map edit_text xs) r) ∙ e ∙ append_assoc (edit_text y) (flat_map edit_text ys) s) in
+    (sym (append_assoc (edit_text x) (flat_map edit_text xs) r) ∙ e ∙ append_assoc (edit_text y) (flat_map edit_text ys) s) in
     let known : AreKnown p (before ++ x ∷ []) ys = subst (λ (z : Edit). AreKnown p (before ++ z ∷ []) ys) (sym line.edit) yknown.1 in
     let stops : Stops p ((before ++ x ∷ []) ++ ys) s =
     subst (λ (b : List Edit). Stops p b s) (ap (λ (z : Edit). before ++ z ∷ ys) (sym line.edit) ∙ sym (append_assoc before (x ∷ []) ys)) sstops in
     let more = same_from p xs ys (before ++ x ∷ []) r s line.rest xshort.1 yshort.1 xknown.1 known
-      (subst (λ (b : List Edit). Stops p b r) (sym (append_assoc before (x ∷ []) xs)) rstops) stops in
+    (subst (λ (b : List Edit). Stops p b r) (sym (append_assoc before (x ∷ []) xs)) rstops) stops in
     record { edits = ap (λ (z : Edit). z ∷ xs) line.edit ∙ ap (λ (zs : List Edit). y ∷ zs) more.edits; rest = more.rest }
 
 same_begin : (p : Problem) (bytes : List ℕ) (xs ys : List Edit) (r s : List ℕ) → BeginsWith p bytes xs r → BeginsWith p bytes ys s → Stops p xs r → Stops p ys s → IsSame xs ys r s
@@ -64,13 +64,13 @@ no_fault p bytes edits (Syntax line) one bad =
     bad.some (sym (same_begin p bytes edits bad.edits [] bad.rest one bad.begins (none_stops p edits) (unread_stops p bad.edits bad.rest bad.bad)).rest)
 no_fault p bytes edits (Unknown line) one bad =
     line_some bad.edit bad.rest
-      (sym (same_begin p bytes edits bad.edits [] (edit_text bad.edit ++ bad.rest) one bad.begins (none_stops p edits) (unknown_stops p bad.edits bad.edit bad.rest bad.short bad.unknown)).rest)
+    (sym (same_begin p bytes edits bad.edits [] (edit_text bad.edit ++ bad.rest) one bad.begins (none_stops p edits) (unknown_stops p bad.edits bad.edit bad.rest bad.short bad.unknown)).rest)
 no_fault p bytes edits (Refused fault) one bad = bad
 
 apart : (p : Problem) (bytes : List ℕ) (line other : ℕ) → IsUnreadAt p bytes line → IsUnknownAt p bytes other → ⊥
 apart p bytes line other one bad =
     one.bad bad.edit bad.rest bad.short
-      (same_begin p bytes one.edits bad.edits one.rest (edit_text bad.edit ++ bad.rest) one.begins bad.begins (unread_stops p one.edits one.rest one.bad) (unknown_stops p bad.edits bad.edit bad.rest bad.short bad.unknown)).rest
+    (same_begin p bytes one.edits bad.edits one.rest (edit_text bad.edit ++ bad.rest) one.begins bad.begins (unread_stops p one.edits one.rest one.bad) (unknown_stops p bad.edits bad.edit bad.rest bad.short bad.unknown)).rest
 
 pub bad_same : BadLineIsUnique
 bad_same p bytes (Syntax line) (Syntax other) one two =
@@ -78,7 +78,7 @@ bad_same p bytes (Syntax line) (Syntax other) one two =
     ap (λ (n : ℕ). Syntax n) (one.line_is ∙ ap (λ (zs : List Edit). length zs + 1) same.edits ∙ sym two.line_is)
 bad_same p bytes (Unknown line) (Unknown other) one two =
     let same = same_begin p bytes one.edits two.edits (edit_text one.edit ++ one.rest) (edit_text two.edit ++ two.rest) one.begins two.begins
-      (unknown_stops p one.edits one.edit one.rest one.short one.unknown) (unknown_stops p two.edits two.edit two.rest two.short two.unknown) in
+    (unknown_stops p one.edits one.edit one.rest one.short one.unknown) (unknown_stops p two.edits two.edit two.rest two.short two.unknown) in
     ap (λ (n : ℕ). Unknown n) (one.line_is ∙ ap (λ (zs : List Edit). length zs + 1) same.edits ∙ sym two.line_is)
 bad_same p bytes (Syntax line) (Unknown other) one two = absurd (apart p bytes line other one two)
 bad_same p bytes (Unknown line) (Syntax other) one two = absurd (apart p bytes other line two one)

@@ -20,7 +20,15 @@ struct Change {
     closed: bool,
 }
 
-/// The instance that edits make.
+/// The instance that edits make, as [`read_edits`](crate::read_edits) gives them; at most 2^20 edits.
+///
+/// All that edits add to an edge is summed, and closed edges are left out, so that the edges behind them move to smaller
+/// numbers. Vertices, depot and capacity stay.
+///
+/// Where faults of the edited instance apply, it is refused for the first of them, with the edge numbers of the edited
+/// instance. `Fail::Memory` says only that memory was not to be had.
+///
+/// The time grows with the number of edits and what it takes to build an instance, the memory with the number of edges.
 pub fn edited(
     alloc: Global,
     inst: &Instance,

@@ -11,3 +11,6 @@ pub use change::edited;
 pub use edit::{Edit, EditFault};
 pub use laws::edits_are_unique;
 pub use read::read_edits;
+
+#[cfg(test)]
+mod tests;

@@ -13,11 +13,11 @@ returns-then-not-is_known c =
     λ before marked. (
       refl,
       unknown_is c.args.inst.now c.args.closed.now before c.requires marked c.args.text.now (edit_of c.in-Some.line) c.in-Some.rest.now
-        (line_some c.args.text.now c.line_at.result c.in-Some.line c.in-Some.rest c.line_at.ensures c.in-Some.is) (sym c.is_known.ensures.known ∙ c.if-not-is_known.true),
+          (line_some c.args.text.now c.line_at.result c.in-Some.line c.in-Some.rest c.line_at.ensures c.in-Some.is) (sym c.is_known.ensures.known ∙ c.if-not-is_known.true),
     )
 
 pub returns : goal.returns
 returns c =
     λ before marked. subst (λ (x : Edit). IsNext c.args.inst.now before c.args.text.now x c.in-Some.rest.now) (sym c.edit_of.ensures)
-      (next_is c.args.inst.now c.args.closed.now before c.requires marked c.args.text.now (edit_of c.in-Some.line) c.in-Some.rest.now
-        (line_some c.args.text.now c.line_at.result c.in-Some.line c.in-Some.rest c.line_at.ensures c.in-Some.is) (sym c.is_known.ensures.known ∙ c.if-not-is_known.false))
+    (next_is c.args.inst.now c.args.closed.now before c.requires marked c.args.text.now (edit_of c.in-Some.line) c.in-Some.rest.now
+    (line_some c.args.text.now c.line_at.result c.in-Some.line c.in-Some.rest c.line_at.ensures c.in-Some.is) (sym c.is_known.ensures.known ∙ c.if-not-is_known.false))

@@ -12,7 +12,7 @@ loop-rest-preserved c =
     record {
       begun =
           subst (λ (x : List Edit). BeginsWith c.args.inst.now c.args.bytes.now x c.in-Ok.after.now) items
-            (one_more c.args.inst.now c.args.bytes.now c.loop-rest.edits.items c.loop-rest.rest.now c.in-Ok.edit c.in-Ok.after.now c.loop-rest.invariant.begun next);
+          (one_more c.args.inst.now c.args.bytes.now c.loop-rest.edits.items c.loop-rest.rest.now c.in-Ok.edit c.in-Ok.after.now c.loop-rest.invariant.begun next);
       marked = subst (λ (x : List Edit). IsMarked c.mark.new.closed x) items (c.mark.ensures c.loop-rest.edits.items c.loop-rest.invariant.marked);
       all = search rules;
     }
