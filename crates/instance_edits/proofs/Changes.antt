@@ -1,18 +1,17 @@
 -- The table of what edits do, and the edited lists.
 use Rattle.std.proofs.Common.{◌≡◌, ℕ, zero, suc, ◌+◌, ◌-◌, ◌*◌, ◌^◌, ◌<◌, ◌≤◌, Bool, true, false, cond, eqb, List, [], ◌∷◌, ◌++◌, length, take, refl, sym, ap, subst, ◌∙◌, arith}
-use Rattle.std.specs.Prelude.{slice_index_or, sum_by, if◌then◌else◌}
-use Rattle.std.specs.List.{All, AllByRecursion, list_any}
+use Rattle.std.specs.Prelude.{slice_index_or, sum_by}
+use Rattle.std.specs.List.{All, AllByRecursion}
 use Rattle.std.proofs.lemmas.List.Sums.{sum_by-cons, sum_by-take-le}
 use Rattle.std.proofs.lemmas.List.Elements.{recursion_from_All, All-from_recursion}
-use Rattle.carp_base.specs.declared.edge.Edge.{Edge}
 use Rattle.carp_base.specs.declared.edge.RawEdge.{RawEdge}
-use Rattle.carp_base.specs.Problem.{Problem, IsValid, IsRequired, described, edge_at}
+use Rattle.carp_base.specs.Problem.{Problem, IsValid, described, edge_at}
 use Rattle.instance_edits.specs.declared.edit.Edit.{Edit}
 use Rattle.instance_edits.specs.declared.edit.Edit.TheVariants.{Cost, Service, Demand, Close}
 use Rattle.instance_edits.specs.declared.change.Change.{Change}
-use Rattle.instance_edits.specs.Edits.{AreKnown, IsKnown, closes, cost_added, service_added, demand_added, changed_from, edited}
+use Rattle.instance_edits.specs.Edits.{AreKnown, IsKnown, cost_added, service_added, demand_added, changed_from, edited}
 use Rattle.instance_edits.specs.Texts.{IsShort}
-use Rattle.instance_edits.specs.Changing.{IsApplied, IsInTable, IsAtMost, IsTable, change_by, nothing, kept, kept_from}
+use Rattle.instance_edits.specs.Changing.{IsApplied, IsAtMost, IsTable, change_by, nothing, kept, kept_from}
 
 -- what short edits add is small
 cond_small : (t : Bool) (n : ℕ) → n < 10 ^ 12 → cond t n 0 ≤ 10 ^ 12

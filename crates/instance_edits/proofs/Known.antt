@@ -1,15 +1,14 @@
 -- Marks of closed edges, and edits that name an edge that they may name.
-use Rattle.std.proofs.Common.{Bor, ◌≡◌, ℕ, zero, suc, ◌+◌, ◌<◌, ◌≤◌, ◌^◌, Option, Some, None, Bool, true, false, ◌&&◌, ◌||◌, not, leb, List, [], ◌∷◌, ◌++◌, length, refl, sym, ap, subst, ◌∙◌, arith, eq-eqb, inl, inr}
+use Rattle.std.proofs.Common.{Bor, ◌≡◌, ℕ, zero, suc, ◌+◌, ◌<◌, ◌≤◌, Option, Some, None, Bool, true, false, ◌&&◌, not, leb, List, [], ◌∷◌, length, refl, sym, ap, ◌∙◌, arith, eq-eqb, inl, inr}
 use Rattle.std.specs.Prelude.{slice_index_or, ◌⊎◌}
-use Rattle.std.specs.List.{list_any, Contains}
+use Rattle.std.specs.List.{list_any}
 use Rattle.std.specs.Option.{option_map}
-use Rattle.std.proofs.lemmas.Bool.{and_parts, and_from, leb-true, leb-false, le-leb, lt-leb, false≢true, true≢false, eqb-true, or_cases, or_left, or_right, both_ways, not-true, not_from_false, cases_Bool, false_from_ne_true}
+use Rattle.std.proofs.lemmas.Bool.{and_parts, and_from, leb-true, le-leb, false≢true, eqb-true, or_cases, or_left, or_right, both_ways, not-true, not_from_false, false_from_ne_true}
 use Rattle.std.proofs.lemmas.List.Elements.{Contains-append_left, Contains-append_right}
 use Rattle.carp_base.specs.Problem.{Problem, IsEdgeNumber, IsRequired}
 use Rattle.instance_edits.specs.declared.edit.Edit.{Edit}
 use Rattle.instance_edits.specs.declared.edit.Edit.TheVariants.{Cost, Service, Demand, Close}
 use Rattle.instance_edits.specs.Edits.{closes, IsClosed, IsKnown}
-use Rattle.instance_edits.specs.Texts.{IsShort}
 use Rattle.instance_edits.specs.Reading.{edit_of, is_open, is_required, is_known, line_at, IsMarked, IsNext, IsUnknown}
 use Rattle.instance_edits.specs.declared.line.Line.{Line}
 use Rattle.instance_edits.proofs.Lines.{line_told}

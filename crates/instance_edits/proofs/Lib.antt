@@ -5,3 +5,4 @@ mod Unique
 mod Known
 mod Steps
 mod Changes
+mod ExampleTexts

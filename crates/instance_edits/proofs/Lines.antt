@@ -1,9 +1,9 @@
 -- The line at the front of a text.
-use Rattle.std.proofs.Common.{◌≡◌, ℕ, zero, suc, ◌+◌, ◌-◌, ◌*◌, ◌^◌, ◌<◌, ◌≤◌, Bool, true, false, cond, List, [], ◌∷◌, ◌++◌, length, get_or, take, drop, Option, Some, None, refl, sym, ap, subst, ◌∙◌, arith, append_assoc, nat_eq}
-use Rattle.std.specs.Prelude.{codes, ◌≢◌}
+use Rattle.std.proofs.Common.{◌≡◌, ℕ, ◌^◌, ◌<◌, Bool, true, false, cond, List, [], ◌∷◌, ◌++◌, length, take, drop, Option, Some, None, refl, sym, ap, subst, ◌∙◌, arith, append_assoc}
+use Rattle.std.specs.Prelude.{codes}
 use Rattle.std.specs.Fmt.{decimal}
 use Rattle.std.specs.Option.{option_and_then}
-use Rattle.std.specs.Cmp.Lexicographic.{pointwise, same_text}
+use Rattle.std.specs.Cmp.Lexicographic.{same_text}
 use Rattle.std.proofs.lemmas.Bool.{false≢true}
 use Rattle.std.proofs.lemmas.List.{take-append-drop}
 use Rattle.std.proofs.lemmas.Option.{option_and_then_some}
@@ -14,7 +14,7 @@ use Rattle.instance_edits.specs.declared.line.Keyword.TheVariants.{Cost, Service
 use Rattle.instance_edits.specs.Texts.{edit_text, IsShort, NoEditBegins}
 use Rattle.instance_edits.specs.Reading.{begins, keyword_at, number_before, numbers_at, adding_at, closing_at, edit_with, line_at}
 use Rattle.instance_edits.proofs.Pairs.{firsts, seconds}
-use Rattle.instance_edits.proofs.Numbers.{number_read, number_told, IsNumberBefore}
+use Rattle.instance_edits.proofs.Numbers.{number_read, number_told}
 
 abbrev pub word_of : Keyword → List ℕ
 word_of Cost = codes "cost "

@@ -1,7 +1,7 @@
 -- One line more, and the fault of a line.
-use Rattle.std.proofs.Common.{◌≡◌, ℕ, suc, ◌+◌, ◌<◌, ◌≤◌, List, [], ◌∷◌, ◌++◌, length, refl, sym, ap, subst, ◌∙◌, arith, append_assoc}
+use Rattle.std.proofs.Common.{◌≡◌, ℕ, ◌+◌, ◌<◌, List, [], ◌∷◌, ◌++◌, length, refl, sym, ap, subst, ◌∙◌, arith, append_assoc}
 use Rattle.std.specs.Prelude.{◌≢◌}
-use Rattle.std.specs.List.{All, flat_map}
+use Rattle.std.specs.List.{flat_map}
 use Rattle.std.proofs.lemmas.Grind.{flat_map-append}
 use Rattle.std.proofs.lemmas.List.{append-nil, length-append}
 use Rattle.std.proofs.lemmas.List.Elements.{All-push, All-nil}
@@ -10,8 +10,8 @@ use Rattle.instance_edits.specs.declared.edit.Edit.{Edit}
 use Rattle.instance_edits.specs.declared.edit.EditFault.{EditFault}
 use Rattle.instance_edits.specs.declared.edit.EditFault.TheVariants.{Syntax, Unknown, Refused}
 use Rattle.instance_edits.specs.Edits.{AreKnown, IsKnown}
-use Rattle.instance_edits.specs.Texts.{edit_text, IsShort, NoEditBegins, BeginsWith, IsEditsText, IsFirstBad}
-use Rattle.instance_edits.specs.Reading.{IsNext, IsUnknown, IsBad}
+use Rattle.instance_edits.specs.Texts.{edit_text, IsShort, BeginsWith, IsFirstBad}
+use Rattle.instance_edits.specs.Reading.{IsNext, IsBad}
 use Rattle.instance_edits.proofs.Lines.{line_some}
 
 pub nothing_yet : (p : Problem) (bytes : List ℕ) → BeginsWith p bytes [] bytes

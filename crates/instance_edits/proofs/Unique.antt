@@ -1,15 +1,13 @@
 -- Bytes begin with the lines of edits in one way.
 use Rattle.std.proofs.Common.{◌≡◌, ℕ, ◌+◌, List, [], ◌∷◌, ◌++◌, length, refl, sym, ap, subst, ◌∙◌, append_assoc}
-use Rattle.std.specs.Prelude.{◌≢◌}
-use Rattle.std.specs.List.{All, AllByRecursion, flat_map}
+use Rattle.std.specs.List.{AllByRecursion, flat_map}
 use Rattle.std.proofs.lemmas.List.{append-nil}
 use Rattle.std.proofs.lemmas.List.Elements.{recursion_from_All}
 use Rattle.carp_base.specs.Problem.{Problem}
 use Rattle.instance_edits.specs.declared.edit.Edit.{Edit}
-use Rattle.instance_edits.specs.declared.edit.EditFault.{EditFault}
 use Rattle.instance_edits.specs.declared.edit.EditFault.TheVariants.{Syntax, Unknown, Refused}
 use Rattle.instance_edits.specs.Edits.{AreKnown, IsKnown}
-use Rattle.instance_edits.specs.Texts.{edit_text, IsShort, NoEditBegins, BeginsWith, IsEditsText, IsUnreadAt, IsUnknownAt, IsFirstBad}
+use Rattle.instance_edits.specs.Texts.{edit_text, IsShort, NoEditBegins, BeginsWith, IsUnreadAt, IsUnknownAt}
 use Rattle.instance_edits.specs.Laws.{EditsAreUnique, EditsHaveNoFault, BadLineIsUnique}
 use Rattle.instance_edits.proofs.Lines.{line_same, line_some}
 

@@ -1,5 +1,5 @@
 -- Edits of an instance, and the instance that they make.
-use Rattle.std.specs.Prelude.{◌≡◌, ℕ, zero, suc, ◌+◌, ◌-◌, ◌==◌, length, List, [], ◌∷◌, ◌++◌, if◌then◌else◌, Bool, false, sum_by}
+use Rattle.std.specs.Prelude.{ℕ, zero, suc, ◌+◌, ◌-◌, ◌==◌, length, List, [], ◌∷◌, ◌++◌, if◌then◌else◌, Bool, false, sum_by}
 use Rattle.std.specs.List.{list_any, Contains}
 use Rattle.carp_base.specs.declared.edge.RawEdge.{RawEdge}
 use Rattle.carp_base.specs.Problem.{Problem, IsEdgeNumber, IsRequired, described, edge_at}

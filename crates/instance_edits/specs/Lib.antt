@@ -3,3 +3,4 @@ pub mod Texts
 pub mod Laws
 pub mod Reading
 pub mod Changing
+pub mod Examples

@@ -1,5 +1,5 @@
 -- The text of edits, and its first bad line.
-use Rattle.std.specs.Prelude.{◌≡◌, ◌≢◌, ℕ, ◌+◌, ◌^◌, ◌<◌, List, [], ◌∷◌, ◌++◌, length, codes, decimal}
+use Rattle.std.specs.Prelude.{◌≡◌, ◌≢◌, ℕ, ◌+◌, ◌^◌, ◌<◌, List, [], ◌++◌, length, codes, decimal}
 use Rattle.std.specs.List.{All, flat_map}
 use Rattle.carp_base.specs.Problem.{Problem}
 use Rattle.carp_base.specs.declared.fail.Fail.{Fail}

@@ -1,11 +1,11 @@
 // The instance that edits make.
-ghost use Rattle.std.specs.Prelude.{◌≡◌, ℕ, ◌+◌, ◌*◌, ◌<◌, ◌≤◌, ◌^◌, List, [], ◌++◌, length, IfOk, IfErr, OnOk, slice_index_or};
+ghost use Rattle.std.specs.Prelude.{◌≡◌, ℕ, ◌+◌, ◌*◌, ◌<◌, ◌≤◌, ◌^◌, [], ◌++◌, length, IfOk, IfErr, OnOk, slice_index_or};
 ghost use Rattle.std.specs.List.{All};
-ghost use Rattle.carp_base.specs.Problem.{IsValid, edge_at};
+ghost use Rattle.carp_base.specs.Problem.{IsValid};
 ghost use Rattle.carp_base.specs.Refusals.{RefusesFirstFault};
 ghost use Rattle.instance_edits.specs.Edits.{AreKnown, edited};
 ghost use Rattle.instance_edits.specs.Texts.{IsShort};
-ghost use Rattle.instance_edits.specs.Changing.{IsApplied, IsAtMost, IsTable, and_by, changed_by, kept, kept_from, nothing};
+ghost use Rattle.instance_edits.specs.Changing.{IsApplied, IsAtMost, IsTable, and_by, kept, kept_from, nothing};
 
 use crate::Edit;
 use carp_base::{Edge, Fail, Instance, InstanceFault, Memory, RawEdge};

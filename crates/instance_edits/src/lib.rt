@@ -13,4 +13,6 @@ pub use laws::edits_are_unique;
 pub use read::read_edits;
 
 #[cfg(test)]
+mod examples;
+#[cfg(test)]
 mod tests;

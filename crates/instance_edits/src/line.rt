@@ -1,6 +1,6 @@
 // One line of edits, read from left to right.
 ghost use Rattle.std.specs.Prelude.{◌≡◌, ◌≤◌, length, Option};
-ghost use Rattle.std.specs.List.{prefix_len, list_all};
+ghost use Rattle.std.specs.List.{prefix_len};
 ghost use Rattle.std.specs.Option.{option_map};
 ghost use Rattle.std.specs.Char.{is_ascii_digit};
 ghost use Rattle.std.specs.Str.Parse.{digits_value, AllDigits};

@@ -1,10 +1,8 @@
 // The text of edits, line by line.
-ghost use Rattle.std.specs.Prelude.{IsTrue, ◌≡◌, ℕ, ◌+◌, ◌<◌, ◌≤◌, ◌^◌, ◌||◌, List, [], ◌∷◌, ◌++◌, Bool, true, false, length, MatchOption, MatchResult, IfOk, IfErr, OnOk, slice_index_or};
-ghost use Rattle.std.specs.List.{list_any};
-ghost use Rattle.carp_base.specs.Problem.{IsValid};
+ghost use Rattle.std.specs.Prelude.{IsTrue, ◌≡◌, ◌+◌, ◌<◌, ◌^◌, List, [], ◌∷◌, ◌++◌, true, false, length, MatchResult, IfOk, IfErr};
 ghost use Rattle.instance_edits.specs.declared.edit.Edit.{Edit as AnyEdit};
-ghost use Rattle.instance_edits.specs.Edits.{closes};
-ghost use Rattle.instance_edits.specs.Texts.{BeginsWith, IsEditsText, RefusesFirstBad};
+
+ghost use Rattle.instance_edits.specs.Texts.{IsEditsText, RefusesFirstBad};
 ghost use Rattle.instance_edits.specs.Reading.{IsBad, IsMarked, IsWithin, IsNext, edit_of, is_known, is_open, is_required};
 
 use crate::line::{Keyword, Line, line_at};

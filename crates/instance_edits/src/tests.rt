@@ -1,5 +1,5 @@
 // Texts of edits that are read or refused, and the instances that edits make.
-ghost use Rattle.std.specs.Prelude.{◌≡◌, ◌^◌, ◌<◌, length};
+ghost use Rattle.std.specs.Prelude.{◌^◌, ◌<◌, length};
 
 use crate::{Edit, edited, edits_are_unique, read_edits};
 use carp_base::{Fail as Refusal, Instance, RawEdge};

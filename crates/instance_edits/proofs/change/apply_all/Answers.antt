@@ -1,4 +1,3 @@
-use Rattle.std.proofs.Common.{ℕ, sym, ap, ◌∙◌}
 use Rattle.instance_edits.proofs.Changes.{change_small}
 use Rattle.instance_edits.proofs.change.apply_all.Goals as goal
 

@@ -1,4 +1,4 @@
-use Rattle.std.proofs.Common.{ℕ, ◌≡◌, ◌<◌, ◌≤◌, ◌*◌, ◌^◌, length, take}
+use Rattle.std.proofs.Common.{◌≡◌, length, take}
 use Rattle.instance_edits.specs.Changing.{IsTable}
 use Rattle.instance_edits.proofs.change.apply_all.Given as goal
 
