@@ -33,9 +33,7 @@ pub(crate) fn line_at(text: &[u8]) -> Option<(Line, &[u8])>
 {
     let (keyword, rest) = keyword_at(text)?;
     match keyword {
-        Keyword::Cost => adding_at(keyword, rest),
-        Keyword::Service => adding_at(keyword, rest),
-        Keyword::Demand => adding_at(keyword, rest),
+        Keyword::Cost | Keyword::Service | Keyword::Demand => adding_at(keyword, rest),
         Keyword::Close => closing_at(rest),
     }
 }

@@ -102,8 +102,7 @@ fn is_known(inst: &Instance, closed: &[bool], line: Line) -> bool
 {
     match line.keyword {
         Keyword::Cost => is_open(inst, closed, line.edge),
-        Keyword::Service => is_required(inst, line.edge),
-        Keyword::Demand => is_required(inst, line.edge),
+        Keyword::Service | Keyword::Demand => is_required(inst, line.edge),
         Keyword::Close => {
             is_open(inst, closed, line.edge) && line.edge > u64::from(inst.required())
         }
