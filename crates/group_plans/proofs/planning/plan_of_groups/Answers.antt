@@ -1,7 +1,7 @@
-use Rattle.std.proofs.Common.{◌≡◌, ◌++◌, ◌∷◌, [], subst, sym, arith, refl}
+use Rattle.std.proofs.Common.{◌≡◌, subst, arith}
 use Rattle.task_tours.specs.Tours.{plan_tours}
 use Rattle.group_plans.specs.Gathering.{ServesUpTo}
-use Rattle.group_plans.proofs.GroupTours.{serves_none, serves_more, all_served, groups_served}
+use Rattle.group_plans.proofs.GroupTours.{serves_more, all_served, groups_served}
 use Rattle.group_plans.proofs.planning.plan_of_groups.Goals as goal
 
 pub loop-group-preserved : goal.loop-group-preserved
