@@ -24,7 +24,7 @@ returns-clause-first c = record {
   unserved = λ e is.
       up_to_three (λ e. 1 < group_of (2 ∷ 1 ∷ 2 ∷ []) e → count_by (λ (t : Task). t.edge == e) (on_street 2 ∷ []) ≡ 0)
       (λ above. refl) (λ above. absurd (omega (arith, above))) (λ above. refl) e is.from_one is.in_range;
-  loads = (omega arith, tt);
+  loads = λ fit. (omega arith, tt);
   each = first_serves;
 }
 
