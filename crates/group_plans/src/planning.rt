@@ -15,6 +15,7 @@ use std::alloc::Global;
 use task_tours::{add_tour, plans_are_tours};
 
 // Adds the tour of the group that follows the first `done` groups, whose tours the plan has.
+#[tactic(auto, using(crate::proofs::GroupTours::serves_step))]
 fn add_next(
     alloc: Global,
     inst: &Instance,
@@ -34,7 +35,8 @@ fn add_next(
     // What a read of the instance says of it is needed: that it is valid.
     let _ = inst.vertices();
     let tasks = group_tasks(alloc, inst, groups, done + 1)?;
-    add_tour(alloc, inst, dist, plan, &tasks)
+    add_tour(alloc, inst, dist, plan, &tasks)?;
+    Ok(())
 }
 
 /// A lawful plan with one walk for each group of a packing, in the order of the groups: of the `count` groups from 1, `groups` has for
