@@ -52,8 +52,8 @@ fn sign_of(step: Step) -> u8 {
     }
 }
 
-// A sign and a digit are a step on the edge of that number: `+` serves it forward, `-` serves it backward, `>` crosses it forward and
-// `<` backward.
+// A sign and a digit are a step on the edge of that number: `+` serves it forward, `-` serves it backward, `>` crosses it
+// forward and `<` backward.
 fn write_walk(text: &mut Vec<u8>, walk: &Walk) -> Result<(), AllocError> {
     text.push(b' ')?;
     for i in 0..walk.len() {
