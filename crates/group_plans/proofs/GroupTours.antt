@@ -1,13 +1,13 @@
 -- Tours on one group after another.
-use Rattle.std.proofs.Common.{◌≡◌, ℕ, zero, suc, ◌+◌, ◌-◌, ◌<◌, ◌≤◌, ◌==◌, Bool, true, false, cond, List, [], ◌∷◌, ◌++◌, map, length, get_or, refl, ap, sym, ◌∙◌, subst, inl, inr, arith, length-append}
-use Rattle.std.specs.List.{sum_by, count_by, flat_map, AllByRecursion}
-use Rattle.std.proofs.lemmas.Bool.{cases_eq, cases_lt, ne_eqb, eq-eqb}
+use Rattle.std.proofs.Common.{◌≡◌, ℕ, ◌+◌, ◌-◌, ◌<◌, ◌≤◌, ◌==◌, Bool, true, false, cond, List, [], ◌∷◌, ◌++◌, map, length, get_or, refl, ap, sym, ◌∙◌, subst, inl, inr, arith, length-append}
+use Rattle.std.specs.List.{sum_by, count_by, AllByRecursion}
+use Rattle.std.proofs.lemmas.Bool.{cases_eq, ne_eqb, eq-eqb}
 use Rattle.std.proofs.lemmas.List.{get_or_append_left, get_or_push, get_or-map, length-map}
 use Rattle.std.proofs.lemmas.List.Concat.{flat_map-append}
-use Rattle.std.proofs.lemmas.List.Sums.{sum_by-append, sum_by-cons, sum_by_push}
+use Rattle.std.proofs.lemmas.List.Sums.{sum_by-append, sum_by-cons}
 use Rattle.carp_base.specs.declared.edge.Task.{Task}
-use Rattle.carp_base.specs.Problem.{Problem, IsRequired, edge_at}
-use Rattle.carp_base.specs.Packings.{IsGroup, IsPacking, group_load, group_of}
+use Rattle.carp_base.specs.Problem.{Problem, IsRequired}
+use Rattle.carp_base.specs.Packings.{IsPacking, group_of}
 use Rattle.plan_model.specs.declared.step.Step.{Step}
 use Rattle.plan_model.specs.Plans.{serves, walk_at}
 use Rattle.deadhead_paths.specs.Tidy.{served_steps}
@@ -23,7 +23,7 @@ serves_none p groups = record {
   required = tt;
   served = λ e required low high. absurd (omega (arith, low, high));
   unserved = λ e required above. refl;
-  loads = tt;
+  loads = λ fit. tt;
   each = λ k e below required. absurd (omega (arith, below));
 }
 
@@ -46,9 +46,9 @@ count_push e tours tasks =
       sum_by-append on tasks [],
     )
 
-module _ (p : Problem) (groups : List ℕ) (count : ℕ) (packing : IsPacking p groups count) where
-  pub serves_more : (n : ℕ) (tours : List (List Task)) (tasks : List Task) → n < count → ServesUpTo p groups n tours → ServesGroup p groups (n + 1) tasks → ServesUpTo p groups (n + 1) (tours ++ tasks ∷ [])
-  serves_more n tours tasks below up own = record {
+module _ (p : Problem) (groups : List ℕ) where
+  pub serves_more : (n : ℕ) (tours : List (List Task)) (tasks : List Task) → ServesUpTo p groups n tours → ServesGroup p groups (n + 1) tasks → ServesUpTo p groups (n + 1) (tours ++ tasks ∷ [])
+  serves_more n tours tasks up own = record {
     one_each = omega (arith, up.one_each, length-append tours (tasks ∷ []));
     required = subst (AllByRecursion (λ t. IsRequired p t.edge)) (sym (flat_map-append (λ (tour : List Task). tour) tours (tasks ∷ [])))
         (all-append (λ t. IsRequired p t.edge) (all_tasks tours) (tasks ++ []) up.required (all-append (λ t. IsRequired p t.edge) tasks [] own.required tt));
@@ -75,8 +75,9 @@ module _ (p : Problem) (groups : List ℕ) (count : ℕ) (packing : IsPacking p 
       own.once e required,
       ap one_if (ne_eqb (group_of groups e) (n + 1) (λ same. omega (arith, above, same))),
     );
-    loads = all-append (λ tour. tour_load p tour ≤ p.capacity) tours (tasks ∷ []) up.loads
-        (omega (arith, own.load, packing.loads (n + 1) (record { from_one = omega arith; in_range = omega (arith, below) })), tt);
+    loads = λ fit. all-append (λ tour. tour_load p tour ≤ p.capacity) tours (tasks ∷ [])
+        (up.loads (λ g is. fit g (record { from_one = is.from_one; in_range = omega (arith, is.in_range) })))
+        (omega (arith, own.load, fit (n + 1) (record { from_one = omega arith; in_range = omega arith })), tt);
     each = λ k e low required. elim (cases_eq k n) [
       | inl is ↦
           let found : get_or (tours ++ tasks ∷ []) k [] ≡ tasks = get_or_push tours tasks [] k (omega (arith, is, up.one_each)) in
@@ -96,13 +97,18 @@ module _ (p : Problem) (groups : List ℕ) (count : ℕ) (packing : IsPacking p 
     ];
   }
 
+  -- the same, where the tasks are lent
+  pub serves_step : (n : ℕ) (tours new : List (List Task)) (tasks lent : List Task) → new ≡ tours ++ lent ∷ [] → lent ≡ tasks → ServesGroup p groups (n + 1) tasks → ServesUpTo p groups n tours → ServesUpTo p groups (n + 1) new
+  serves_step n tours new tasks lent is same own up = rw is (rw same (serves_more n tours tasks up own))
+
+module _ (p : Problem) (groups : List ℕ) (count : ℕ) (packing : IsPacking p groups count) where
   pub all_served : (tours : List (List Task)) → ServesUpTo p groups count tours → AreLawfulTours p tours
   all_served tours up = record {
     served = record {
       required = up.required;
       once = λ e required. let is = packing.placed e required in up.served e required is.from_one is.in_range;
     };
-    loads = up.loads;
+    loads = up.loads packing.loads;
   }
 
   -- how often a walk serves an edge is how often the edge stands among its tasks

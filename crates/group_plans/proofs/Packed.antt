@@ -1,17 +1,17 @@
 -- The walks of a lawful plan that serve, as the groups of a packing.
-use Rattle.std.proofs.Common.{◌≡◌, ℕ, zero, suc, ◌+◌, ◌<◌, ◌≤◌, ◌==◌, cond, List, map, length, get_or, refl, ap, sym, ◌∙◌, inl, inr, arith}
-use Rattle.std.specs.List.{sum_by, range_with_len}
+use Rattle.std.proofs.Common.{◌≡◌, ℕ, zero, suc, ◌≤◌, ◌==◌, List, map, refl, ap, ◌∙◌, inl, inr, arith}
+use Rattle.std.specs.List.{range_with_len}
 use Rattle.std.proofs.lemmas.Bool.{cases_lt}
 use Rattle.std.proofs.lemmas.List.FromFn.{get_or-map-range_with_len, length-map-range_with_len}
 use Rattle.carp_base.specs.Problem.{Problem, IsValid, IsRequired, edge_at}
-use Rattle.carp_base.specs.Packings.{IsGroup, IsPacking, demand_in, group_load, group_of}
+use Rattle.carp_base.specs.Packings.{IsPacking, demand_in, group_of}
 use Rattle.plan_model.specs.declared.step.Step.{Step}
 use Rattle.plan_model.specs.Laws.{ServedOnceByNumber}
-use Rattle.plan_model.specs.Plans.{IsLawful, services_of, steps_of}
+use Rattle.plan_model.specs.Plans.{IsLawful, services_of}
 use Rattle.plan_model.specs.Sums.{sum_to}
 use Rattle.group_plans.specs.Groups.{serving_walks}
 use Rattle.group_plans.proofs.GroupTasks.{given}
-use Rattle.group_plans.proofs.Numbering.{Numbered, first_of_plan, first_numbered, none_idle, number_within, plan_fits, wanted, wanted_on, served_required}
+use Rattle.group_plans.proofs.Numbering.{Numbered, first_of_plan, first_numbered, none_idle, number_within, plan_fits, wanted, served_required}
 
 module _ (p : Problem) (f : ℕ → ℕ) where
   -- the numbers of the required edges, in the order of the edges

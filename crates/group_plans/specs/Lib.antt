@@ -1,3 +1,4 @@
 pub mod Groups
 pub mod Laws
 pub mod Gathering
+pub mod Examples

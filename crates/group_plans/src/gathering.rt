@@ -1,6 +1,5 @@
 // The tasks of a group.
-ghost use Rattle.std.specs.Prelude.{◌≡◌, ℕ, zero, suc, ◌+◌, ◌++◌, ◌<◌, ◌^◌, IfOk, OnOk, if◌then◌else◌, length};
-ghost use Rattle.carp_base.specs.Problem.{IsValid};
+ghost use Rattle.std.specs.Prelude.{◌≡◌, ◌++◌, ◌<◌, ◌^◌, length, IfOk, OnOk};
 ghost use Rattle.group_plans.specs.Gathering.{ServesGroup, gathered, own_task};
 
 use carp_base::{Instance, Memory, Task};

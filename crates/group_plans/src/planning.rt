@@ -1,9 +1,10 @@
 // The plan of a packing.
-ghost use Rattle.std.specs.Prelude.{◌≡◌, ℕ, IfOk};
+ghost use Rattle.std.specs.Prelude.{◌≡◌, ◌+◌, ◌-◌, ◌<◌, ◌^◌, length, IfOk, OnOk};
 ghost use Rattle.carp_base.specs.Packings.{IsPacking};
 ghost use Rattle.plan_model.specs.Plans.{IsLawful};
 ghost use Rattle.deadhead_paths.specs.Prices.{costs_of};
-ghost use Rattle.task_tours.specs.Tours.{PlanGoesByLeastPaths};
+ghost use Rattle.task_tours.specs.Tours.{PlanGoesByLeastPaths, plan_tours};
+ghost use Rattle.group_plans.specs.Gathering.{ServesUpTo};
 ghost use Rattle.group_plans.specs.Groups.{ServesGroups};
 
 use crate::gathering::group_tasks;
@@ -13,14 +14,39 @@ use plan_model::Plan;
 use std::alloc::Global;
 use task_tours::{add_tour, plans_are_tours};
 
-/// A lawful plan with one walk for each group of a packing, in the order of the groups: of the `count` groups from 1, `groups` has for
-/// each required edge, in the order of the edges, the one that it lies in. Each walk serves the edges of its group, joined by
-/// least paths from the depot and back. The distances are those by cost. Without groups it is the plan of no walks.
+// Adds the tour of the group that follows the first `done` groups, whose tours the plan has.
+#[tactic(auto, using(crate::proofs::GroupTours::serves_step))]
+fn add_next(
+    alloc: Global,
+    inst: &Instance,
+    dist: &Distances,
+    groups: &[u32],
+    done: u32,
+    plan: &mut Plan,
+) -> Result<(), Memory>
+    requires problem { dist.now.problem ≡ inst.now }
+    requires prices { dist.now.prices ≡ costs_of inst.now }
+    requires one_each { length groups.now ≡ inst.now.required }
+    requires few { done < 2 ^ 32 - 1 }
+    requires room { length plan.old < 2 ^ 32 - 1 }
+    ensures up { OnOk result (ServesUpTo inst.now groups.now done (plan_tours plan.old) → ServesUpTo inst.now groups.now (done + 1) (plan_tours plan.new)) }
+    ensures paths { OnOk result (PlanGoesByLeastPaths inst.now plan.old → PlanGoesByLeastPaths inst.now plan.new) }
+{
+    // What a read of the instance says of it is needed: that it is valid.
+    let _ = inst.vertices();
+    let tasks = group_tasks(alloc, inst, groups, done + 1)?;
+    add_tour(alloc, inst, dist, plan, &tasks)?;
+    Ok(())
+}
+
+/// A lawful plan with one walk for each group of a packing, in the order of the groups. Of the groups 1 to `count`, `groups`
+/// has the one in which each required edge lies, in the order of the edges. Each walk serves the edges of its group once
+/// and no others, joined by least paths from the depot and back. The distances are those by cost. Without groups it is
+/// the plan of no walks. The only error is want of memory.
 ///
 /// The walks are not short: each takes the edges of its group in the order of their numbers, and serves each of them forward.
 ///
-/// With m required edges in k groups it takes time in proportion to k * m, and to the steps that it writes. The only error is
-/// want of memory.
+/// With m required edges in k groups it takes time in proportion to k * m, and to the steps that it writes.
 pub fn plan_of_groups(
     alloc: Global,
     inst: &Instance,
@@ -39,9 +65,8 @@ pub fn plan_of_groups(
     // What a read of the instance says of it is needed: that it is valid.
     let _ = inst.vertices();
     let mut plan = Plan::new(alloc);
-    for group in 0..count {
-        let tasks = group_tasks(alloc, inst, groups, group + 1)?;
-        add_tour(alloc, inst, dist, &mut plan, &tasks)?;
+    for done in 0..count {
+        add_next(alloc, inst, dist, groups, done, &mut plan)?;
     }
     Ok(plan)
 }
