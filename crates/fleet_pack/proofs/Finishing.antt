@@ -1,5 +1,5 @@
 -- What the leaves that are left say at the end.
-use Rattle.std.proofs.Common.{ap, refl, ◌≡◌, ℕ, ◌+◌, ◌*◌, ◌≤◌, ◌<◌, List, [], ◌∷◌, ◌++◌, length, reverse, take, get_or, min, if◌then◌else◌, nat_le, sym, ◌∙◌, subst, arith, inl, inr, ◌⊎◌, Result, Ok, Err, IfOk}
+use Rattle.std.proofs.Common.{ap, refl, ◌≡◌, ℕ, ◌+◌, ◌*◌, ◌≤◌, ◌<◌, List, [], ◌∷◌, ◌++◌, length, reverse, take, get_or, min, if◌then◌else◌, nat_le, sym, ◌∙◌, subst, arith, inl, inr, ◌⊎◌, Result, Ok, Err, IfOk, OnOk}
 use Rattle.std.specs.List.{All}
 use Rattle.std.proofs.lemmas.List.{take_more}
 use Rattle.std.proofs.lemmas.List.Elements.{All-append, All-cons, All-nil, All-weaker, All-tail, All-head}
@@ -121,3 +121,7 @@ pub answers : (p : Problem) (turns count : ℕ) (r : Result Packing Memory) → 
     IfOk r (IsPacked p turns)
 answers p turns count (Ok found) valid bounds small few packing is tree nodes_few ended = is_packed p turns found valid bounds small packing (omega (arith, is, few)) tree nodes_few ended
 answers p turns count (Err e) valid bounds small few packing is tree nodes_few ended = tt
+
+pub on_ok_then : {T E P Q : Type 0} (r : Result T E) → OnOk r P → (P → Q) → OnOk r Q
+on_ok_then (Ok x) holds then_so = then_so holds
+on_ok_then (Err e) holds then_so = tt

@@ -124,6 +124,11 @@ pub record IsAtHand (p : Problem) (search : Search) (share : Share) : Type 0 whe
   pub best : IsGrouping p search.best
   pub state : IsState p search.best.count search.nodes.items search.path.items (share ∷ reverse search.shares.items)
 
+-- there is a leaf at hand, whose share was taken from the others
+pub record HasLeaf (p : Problem) (search : Search) : Type 0 where
+  pub share : Share
+  pub at_hand : IsAtHand p search share
+
 abbrev pub turns_now : Search → ℕ
 turns_now search = length search.nodes.items + closed_count search.best.count search.shares.items
 
