@@ -147,12 +147,7 @@ impl Search {
     }
 
     // The leaf at hand, in which each pair is closed, is done.
-    fn settle(
-        &mut self,
-        alloc: Global,
-        inst: &Instance,
-        bundles: &Bundles,
-    ) -> Result<(), Memory>
+    fn settle(&mut self, alloc: Global, inst: &Instance, bundles: &Bundles) -> Result<(), Memory>
         requires at_hand { HasLeaf inst.now self.old }
         requires bundles { AreBundles inst.now self.old.path.items bundles.now.labels.items bundles.now.weights.items }
         requires some { HasBundles inst.now bundles.now.labels.items bundles.now.weights.items }

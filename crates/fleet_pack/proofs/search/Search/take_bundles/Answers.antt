@@ -11,6 +11,6 @@ returns-in_ok-self-clause-at_hand c =
       share = c.requires.at_hand.share;
       at_hand = record {
         best = c.in_ok-self.ensures.grouping;
-      state = falls c.args.inst.now c.args.self.now.best.count c.in_ok-self.field-0.count c.args.self.now.nodes.items c.args.self.now.path.items (c.requires.at_hand.share ∷ reverse c.args.self.now.shares.items) fewer c.requires.at_hand.at_hand.state;
+        state = falls c.args.inst.now c.args.self.now.best.count c.in_ok-self.field-0.count c.args.self.now.nodes.items c.args.self.now.path.items (c.requires.at_hand.share ∷ reverse c.args.self.now.shares.items) fewer c.requires.at_hand.at_hand.state;
       };
     }
