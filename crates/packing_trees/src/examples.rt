@@ -2,12 +2,13 @@
 ghost use Rattle.std.specs.Prelude.{◌≡◌, ◌∷◌, [], true, false};
 ghost use Rattle.packing_trees.specs.Bundles.{AreAllClosed, AreBundled, AreBundles, AreParted, IsChoice, IsClosedPair, IsTied, MeetsBranch, MeetsChoice, TiesLead, alone_count, bundle_count, bundle_of, bundle_weight, is_large, large_count, large_weight, middle_weight, share_value};
 ghost use Rattle.packing_trees.specs.Examples.{carrying, claim, split_pair};
-ghost use Rattle.packing_trees.specs.Reasons.{AreWhole, FirstNodeFails, GroupsArePlaced, HasGroupEach, IsFilled, IsFirstEmpty, IsFirstMisfit, IsFirstOverload, IsFirstWrong, NodeFails, NodeFits, NodeIsRight, NotWholeAt, branches_below};
-ghost use Rattle.packing_trees.specs.Trees.{IsLean, PairsIn, Shows, preorder, settled, share, turns_of};
+ghost use Rattle.packing_trees.specs.Reasons.{AreWhole, FirstNodeFails, GroupsArePlaced, HasGroupEach, IsFilled, IsFirstEmpty, IsFirstMisfit, IsFirstOverload, IsFirstPackReason, IsFirstWrong, IsPackAnswer, NodeFails, NodeFits, NodeIsRight, NotWholeAt, branches_below};
+ghost use Rattle.packing_trees.specs.Trees.{IsLean, IsPackProof, PairsIn, Shows, preorder, settled, share, turns_of};
 ghost use Rattle.packing_trees.specs.declared.node.PackChoice.TheVariants as choices;
 ghost use Rattle.packing_trees.specs.declared.node.PackChoice.TheVariants.{Together};
 ghost use Rattle.packing_trees.specs.declared.node.PackNode.TheVariants.{Apart, Pair, Share};
-ghost use Rattle.packing_trees.specs.declared.reason.PackReason.TheVariants.{LeafLow, NotApart, NotLean, ShareWrong};
+ghost use Rattle.packing_trees.specs.declared.reason.PackAnswer.TheVariants.{Accepted, Rejected};
+ghost use Rattle.packing_trees.specs.declared.reason.PackReason.TheVariants.{GroupsDiffer, LeafLow, NotApart, NotLean, ShareWrong};
 
 fn a_choice()
     ensures pair { IsChoice (carrying 3) (Together 1 3) }
@@ -111,4 +112,15 @@ fn a_reason_of_a_node()
     ensures not_right { ¬ (NodeIsRight (carrying 4) 3 [] (Share 2)) }
     ensures below { branches_below [] (Pair 1 2) ≡ (Together 1 2 ∷ []) ∷ (choices.Apart 1 2 ∷ []) ∷ [] }
     ensures second { FirstNodeFails (carrying 4) 2 1 (Pair 1 2 ∷ Share 3 ∷ []) ([] ∷ []) (ShareWrong 2) }
+{}
+
+fn a_whole_packing()
+    ensures proof { IsPackProof (carrying 3) (Share 0 ∷ []) 3 }
+    ensures no_proof { ¬ (IsPackProof (carrying 3) [] 0) }
+    ensures accepted { IsPackAnswer (carrying 3) (claim (1 ∷ 2 ∷ 3 ∷ []) 3 3 (Share 0 ∷ [])) Accepted }
+    ensures not_accepted { ¬ (IsPackAnswer (carrying 3) (claim (1 ∷ 2 ∷ []) 3 3 (Share 0 ∷ [])) Accepted) }
+    ensures rejected { IsPackAnswer (carrying 3) (claim (1 ∷ 2 ∷ []) 3 3 []) (Rejected (GroupsDiffer 2 3)) }
+    ensures not_rejected { ¬ (IsPackAnswer (carrying 3) (claim (1 ∷ 2 ∷ 3 ∷ []) 3 3 []) (Rejected (GroupsDiffer 3 3))) }
+    ensures low { IsFirstPackReason (carrying 3) (claim (1 ∷ 2 ∷ 3 ∷ []) 3 4 (Share 0 ∷ [])) (LeafLow 1 3) }
+    ensures not_low { ¬ (IsFirstPackReason (carrying 3) (claim (1 ∷ 2 ∷ 3 ∷ []) 3 3 (Share 0 ∷ [])) (LeafLow 1 3)) }
 {}
