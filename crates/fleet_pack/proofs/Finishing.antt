@@ -6,17 +6,17 @@ use Rattle.std.proofs.lemmas.List.Elements.{All-append, All-cons, All-nil, All-w
 use Rattle.std.proofs.lemmas.List.Sorted.{All-permutation, IsPermutation-reverse, sum_by-IsPermutation, IsPermutation-sym}
 use Rattle.std.proofs.lemmas.Bool.{cases_lt}
 use Rattle.carp_base.specs.Problem.{Problem, IsValid}
-use Rattle.carp_base.specs.Packings.{IsPacking}
 use Rattle.packing_trees.specs.declared.node.PackChoice.{PackChoice}
 use Rattle.packing_trees.specs.declared.node.PackNode.{PackNode}
 use Rattle.carp_base.specs.declared.fail.Memory.{Memory}
 use Rattle.packing_trees.specs.declared.packing.Packing.{Packing}
 use Rattle.packing_trees.specs.Laws.{ProofsBoundPackings}
+use Rattle.fleet_pack.specs.declared.search.Search.{Search}
 use Rattle.fleet_pack.specs.declared.share.Share.{Share}
 use Rattle.fleet_pack.specs.Packed.{HasTree, IsPacked}
 use Rattle.fleet_pack.specs.Laws.{LeanTreesAreSmall}
 use Rattle.fleet_pack.specs.FirstFit.{first_fit_count}
-use Rattle.fleet_pack.specs.States.{AreLeaves, IsLeastValue, IsState, closed_count, leaves_of, share_nodes, waiting_for}
+use Rattle.fleet_pack.specs.States.{HasEnded, IsFinished, AreLeaves, IsLeastValue, IsState, closed_count, leaves_of, share_nodes, waiting_for}
 use Rattle.packing_trees.specs.Reasons.{branches_below}
 use Rattle.packing_trees.specs.declared.node.PackNode.TheVariants as nodes
 use Rattle.std.proofs.lemmas.List.{length-append, length-map}
@@ -90,34 +90,31 @@ one_each p [] (x ∷ shares) leaves = absurd leaves
 one_each p (b ∷ branches) [] leaves = absurd leaves
 one_each p (b ∷ branches) (x ∷ shares) leaves = omega (arith, one_each p branches shares leaves.1)
 
-pub few_nodes : (p : Problem) (count turns : ℕ) (taken all : List PackNode) (path : List PackChoice) (shares : List Share) → IsState p count taken path (reverse shares) →
-    all ≡ taken ++ share_nodes (reverse shares) → length taken ≤ turns → length all ≤ 2 * turns + 1
-few_nodes p count turns taken all path shares state is few =
+pub few_nodes : (p : Problem) (count : ℕ) (taken all : List PackNode) (path : List PackChoice) (shares : List Share) → IsState p count taken path (reverse shares) →
+    all ≡ taken ++ share_nodes (reverse shares) → length all ≤ 2 * length taken + 1
+few_nodes p count taken all path shares state is =
     let long : length all ≡ length taken + length (share_nodes (reverse shares)) = ap length is ∙ length-append taken (share_nodes (reverse shares)) in
     let same : length (share_nodes (reverse shares)) ≡ length (reverse shares) = length-map (reverse shares) (λ (x : Share). nodes.Share x.s) in
     let wait : length (waiting_for taken ([] ∷ [])) ≡ length (leaves_of path (reverse shares)) = ap length state.reads in
-    omega (arith, few, long, same, wait, one_each p (leaves_of path (reverse shares)) (reverse shares) state.leaves, few_wait taken ([] ∷ []))
+    omega (arith, long, same, wait, one_each p (leaves_of path (reverse shares)) (reverse shares) state.leaves, few_wait taken ([] ∷ []))
 
 -- the whole answer
-pub is_packed : (p : Problem) (turns : ℕ) (found : Packing) → IsValid p → ProofsBoundPackings → LeanTreesAreSmall → IsPacking p found.groups.items found.count → found.count ≤ first_fit_count p →
-    HasTree p found → length found.tree.items ≤ 2 * turns + 1 → (found.bound < found.count → turns ≤ found.turns) → IsPacked p turns found
-is_packed p turns found valid bounds small packing first_fit tree few ended = record {
-  packing = packing;
-  first_fit = first_fit;
-  tree = tree;
-  few = few;
-  ended = ended;
+pub is_packed : (p : Problem) (turns : ℕ) (search : Search) (found : Packing) → IsValid p → ProofsBoundPackings → LeanTreesAreSmall → search.best.count ≤ first_fit_count p →
+    HasEnded turns search → length search.nodes.items ≤ turns → IsFinished p search found → IsPacked p turns found
+is_packed p turns search found valid bounds small fewer ended few done = record {
+  packing = done.packing;
+  first_fit = omega (arith, done.count_is, fewer);
+  tree = done.tree;
+  few = omega (arith, done.few, few);
+  ended = done.ended turns ended;
   whole = λ many. elim (cases_lt found.bound found.count) [
-    | inl low ↦ absurd (omega (arith, many, ended low, tree.turns_are, small p found.count tree.tree tree.pairs tree.lean))
-    | inr high ↦ omega (arith, high, tree.most)
+    | inl low ↦ absurd (omega (arith, many, done.ended turns ended low, done.tree.turns_are, small p found.count done.tree.tree done.tree.pairs done.tree.lean))
+    | inr high ↦ omega (arith, high, done.tree.most)
   ];
   exact = λ groups count packs. bounds p found.tree.items found.bound groups count valid
-      (record { tree = tree.tree; nodes_are = tree.nodes_are; pairs = tree.pairs; lean = tree.lean; shows = tree.shows }) packs;
+      (record { tree = done.tree.tree; nodes_are = done.tree.nodes_are; pairs = done.tree.pairs; lean = done.tree.lean; shows = done.tree.shows }) packs;
 }
 
-pub answers : (p : Problem) (turns count : ℕ) (r : Result Packing Memory) → IsValid p → ProofsBoundPackings → LeanTreesAreSmall → count ≤ first_fit_count p →
-    IfOk r (λ found. IsPacking p found.groups.items found.count) → IfOk r (λ found. found.count ≡ count) → IfOk r (HasTree p) → IfOk r (λ found. length found.tree.items ≤ 2 * turns + 1) →
-    IfOk r (λ found. found.bound < found.count → turns ≤ found.turns) →
-    IfOk r (IsPacked p turns)
-answers p turns count (Ok found) valid bounds small few packing is tree nodes_few ended = is_packed p turns found valid bounds small packing (omega (arith, is, few)) tree nodes_few ended
-answers p turns count (Err e) valid bounds small few packing is tree nodes_few ended = tt
+pub if_ok_then : {P Q : Packing → Type 0} (r : Result Packing Memory) → ((found : Packing) → P found → Q found) → IfOk r P → IfOk r Q
+if_ok_then (Ok found) then_so holds = then_so found holds
+if_ok_then (Err e) then_so holds = tt

@@ -12,6 +12,9 @@ use Rattle.std.specs.Prelude.{Option, Some, None, ◌⊎◌}
 use Rattle.fleet_pack.specs.declared.share.Share.{Share}
 use Rattle.fleet_pack.specs.declared.pairs.OpenPair.{OpenPair}
 use Rattle.fleet_pack.specs.declared.search.Search.{Search}
+use Rattle.carp_base.specs.Packings.{IsPacking}
+use Rattle.packing_trees.specs.declared.packing.Packing.{Packing}
+use Rattle.fleet_pack.specs.Packed.{HasTree}
 use Rattle.fleet_pack.specs.Groups.{IsGrouping}
 
 -- the branches that wait after some nodes, each of which stands under the first of those that wait before it
@@ -124,9 +127,22 @@ pub record IsAtHand (p : Problem) (search : Search) (share : Share) : Type 0 whe
   pub best : IsGrouping p search.best
   pub state : IsState p search.best.count search.nodes.items search.path.items (share ∷ reverse search.shares.items)
 
+-- there is a leaf at hand, whose share was taken from the others
+pub record HasLeaf (p : Problem) (search : Search) : Type 0 where
+  pub share : Share
+  pub at_hand : IsAtHand p search share
+
 abbrev pub turns_now : Search → ℕ
 turns_now search = length search.nodes.items + closed_count search.best.count search.shares.items
 
 -- each leaf has a value of at least the count, or the turns are at least so many
 abbrev pub HasEnded : ℕ → Search → Type 0
 HasEnded turns search = All (λ share. search.best.count ≤ share.value) search.shares.items ⊎ (turns ≤ turns_now search)
+
+-- the best packing of a search, with a tree of which its leaves are leaves as they stand
+pub record IsFinished (p : Problem) (search : Search) (found : Packing) : Type 0 where
+  pub packing : IsPacking p found.groups.items found.count
+  pub count_is : found.count ≡ search.best.count
+  pub tree : HasTree p found
+  pub few : length found.tree.items ≤ 2 * length search.nodes.items + 1
+  pub ended : (limit : ℕ) → HasEnded limit search → found.bound < found.count → limit ≤ found.turns

@@ -1,13 +1,11 @@
 // What a search found.
-ghost use Rattle.std.specs.Prelude.{◌≡◌, ◌+◌, ◌*◌, ◌<◌, ◌≤◌, ◌++◌, ◌^◌, IfOk, OnOk, length, reverse};
-ghost use Rattle.fleet_pack.specs.Packed.{HasTree};
-ghost use Rattle.fleet_pack.specs.Groups.{IsGrouping};
-ghost use Rattle.carp_base.specs.Packings.{IsPacking};
-ghost use Rattle.fleet_pack.specs.States.{HasEnded, IsLeastValue, IsSearch, closed_count, share_nodes};
+ghost use Rattle.std.specs.Prelude.{◌≡◌, ◌<◌, ◌++◌, ◌^◌, IfOk, OnOk, length, reverse};
+ghost use Rattle.carp_base.specs.Problem.{Problem};
+ghost use Rattle.fleet_pack.specs.States.{IsFinished, IsLeastValue, IsSearch, share_nodes};
 
 use crate::search::{Search, closed_leaves};
 use crate::share::Share;
-use carp_base::{Instance, Memory};
+use carp_base::Memory;
 use packing_trees::{PackNode, Packing};
 
 // The least value of these leaves, or the count where it is no greater.
@@ -32,16 +30,9 @@ fn put_shares(nodes: &mut Vec<PackNode>, shares: &mut Vec<Share>) -> Result<(), 
 }
 
 /// The best packing of a search, with the tree of which the leaves that are not done are leaves as they stand.
-pub(crate) fn finish(inst: &Instance, search: Search, turns: u64) -> Result<Packing, Memory>
-    requires search { IsSearch inst.now search }
-    requires ended { HasEnded turns search }
-    requires few { length search.nodes.items ≤ turns }
-    requires limit { turns < 2 ^ 32 }
-    ensures packing { IfOk result (λ found. IsPacking inst.now found.groups.items found.count) }
-    ensures count { IfOk result (λ found. found.count ≡ search.best.count) }
-    ensures tree { IfOk result (HasTree inst.now) }
-    ensures few { IfOk result (λ found. length found.tree.items ≤ 2 * turns + 1) }
-    ensures ended { IfOk result (λ found. found.bound < found.count → turns ≤ found.turns) }
+pub(crate) fn finish(search: Search) -> Result<Packing, Memory>
+    requires { length search.nodes.items < 2 ^ 32 }
+    ensures { (p : Problem) → IsSearch p search → IfOk result (IsFinished p search) }
 {
     let Search {
         mut nodes,
@@ -49,7 +40,6 @@ pub(crate) fn finish(inst: &Instance, search: Search, turns: u64) -> Result<Pack
         best,
         ..
     } = search;
-    let _ = inst.vertices();
     let bound = least_value(&shares, best.count);
     let turns = (nodes.len() + closed_leaves(&shares, best.count)) as u64;
     put_shares(&mut nodes, &mut shares)?;

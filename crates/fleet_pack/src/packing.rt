@@ -32,5 +32,5 @@ pub fn pack(alloc: Global, inst: &Instance, turns: u64) -> Result<Packing, Memor
     let best = improved(alloc, inst, first_fit(alloc, inst)?)?;
     let mut search = Search::begin(alloc, inst, best)?;
     search.run(alloc, inst, turns)?;
-    finish(inst, search, turns)
+    finish(search)
 }

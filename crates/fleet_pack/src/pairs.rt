@@ -1,5 +1,5 @@
 // The heaviest open pair.
-ghost use Rattle.std.specs.Prelude.{◌≡◌, ◌+◌, ◌≤◌, All, None, true};
+ghost use Rattle.std.specs.Prelude.{◌≡◌, ◌+◌, ◌<◌, ◌≤◌, All, None, length, slice_index, true};
 ghost use Rattle.packing_trees.specs.Bundles.{AreBundles, IsChoice, IsPair};
 ghost use Rattle.carp_base.specs.Problem.{IsRequired};
 ghost use Rattle.fleet_pack.specs.States.{FindsBefore, FindsOneMore, FindsOpen};
@@ -16,9 +16,9 @@ pub(crate) struct OpenPair {
 }
 
 // The weight of the bundle of an edge.
-fn weight_of(inst: &Instance, bundles: &Bundles, branch: &[PackChoice], e: u32) -> u64
-    requires bundles { AreBundles inst.now branch.now bundles.now.labels.items bundles.now.weights.items }
-    requires required { IsRequired inst.now e }
+fn weight_of(bundles: &Bundles, e: u32) -> u64
+    requires label { e < length bundles.now.labels.items }
+    requires weight { slice_index bundles.now.labels.items e < length bundles.now.weights.items }
 {
     bundles.weights[bundles.labels[e as usize] as usize]
 }
@@ -47,8 +47,8 @@ fn heavier(
     requires pair { IsPair inst.now a b }
     ensures { FindsOneMore inst.now branch.now a b found result }
 {
-    let first = weight_of(inst, bundles, branch, a);
-    let weight = first.saturating_add(weight_of(inst, bundles, branch, b));
+    let first = weight_of(bundles, a);
+    let weight = first.saturating_add(weight_of(bundles, b));
     if !outweighs(weight, found) {
         return found;
     }

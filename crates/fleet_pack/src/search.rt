@@ -1,9 +1,10 @@
 // The search for a tree, depth first.
 ghost use Rattle.std.specs.Prelude.{◌≡◌, ℕ, ◌+◌, ◌*◌, ◌<◌, ◌≤◌, ◌++◌, ◌∷◌, [], All, IfOk, OnOk, false, true, length, reverse};
+ghost use Rattle.carp_base.specs.Problem.{Problem};
 ghost use Rattle.packing_trees.specs.Bundles.{AreAllClosed, AreBundles, HasBundles, IsClosedPair, IsPair, bundle_count};
 ghost use Rattle.packing_trees.specs.declared.node.PackChoice.TheVariants.{Together};
 ghost use Rattle.fleet_pack.specs.Groups.{IsGrouping};
-ghost use Rattle.fleet_pack.specs.States.{HasEnded, IsAtHand, IsBack, IsDone, IsLeastValue, IsOuter, IsSearch, closed_count, share_nodes, turns_now};
+ghost use Rattle.fleet_pack.specs.States.{HasEnded, HasLeaf, IsAtHand, IsBack, IsDone, IsLeastValue, IsOuter, IsSearch, closed_count, share_nodes, turns_now};
 
 use crate::grouping::Grouping;
 use crate::numbering::grouping_of;
@@ -88,11 +89,9 @@ impl Search {
     }
 
     // The leaf at hand is done as this node.
-    fn close(&mut self, inst: &Instance, share: Share, node: PackNode) -> Result<(), Memory>
-        requires at_hand { IsAtHand inst.now self.old share }
-        requires outer { IsOuter node }
-        requires done { IsDone inst.now self.old.best.count self.old.path.items node }
-        ensures search { OnOk result (IsSearch inst.now self.new) }
+    fn close(&mut self, node: PackNode) -> Result<(), Memory>
+        requires { IsOuter node }
+        ensures search { OnOk result ((p : Problem) → HasLeaf p self.old → IsDone p self.old.best.count self.old.path.items node → IsSearch p self.new) }
         ensures one_more { OnOk result (length self.new.nodes.items ≡ length self.old.nodes.items + 1) }
         ensures fewer { OnOk result (self.new.best.count ≤ self.old.best.count) }
     {
@@ -130,13 +129,12 @@ impl Search {
         &mut self,
         alloc: Global,
         inst: &Instance,
-        share: Share,
         bundles: &Bundles,
     ) -> Result<(), Memory>
-        requires at_hand { IsAtHand inst.now self.old share }
+        requires at_hand { HasLeaf inst.now self.old }
         requires bundles { AreBundles inst.now self.old.path.items bundles.now.labels.items bundles.now.weights.items }
         requires some { HasBundles inst.now bundles.now.labels.items bundles.now.weights.items }
-        ensures at_hand { OnOk result (IsAtHand inst.now self.new share) }
+        ensures at_hand { OnOk result (HasLeaf inst.now self.new) }
         ensures path { self.new.path ≡ self.old.path }
         ensures nodes { self.new.nodes ≡ self.old.nodes }
         ensures fewer { OnOk result (self.new.best.count ≤ self.old.best.count) }
@@ -149,14 +147,8 @@ impl Search {
     }
 
     // The leaf at hand, in which each pair is closed, is done.
-    fn settle(
-        &mut self,
-        alloc: Global,
-        inst: &Instance,
-        share: Share,
-        bundles: &Bundles,
-    ) -> Result<(), Memory>
-        requires at_hand { IsAtHand inst.now self.old share }
+    fn settle(&mut self, alloc: Global, inst: &Instance, bundles: &Bundles) -> Result<(), Memory>
+        requires at_hand { HasLeaf inst.now self.old }
         requires bundles { AreBundles inst.now self.old.path.items bundles.now.labels.items bundles.now.weights.items }
         requires some { HasBundles inst.now bundles.now.labels.items bundles.now.weights.items }
         requires closed { AreAllClosed inst.now self.old.path.items }
@@ -164,8 +156,8 @@ impl Search {
         ensures one_more { OnOk result (length self.new.nodes.items ≡ length self.old.nodes.items + 1) }
         ensures fewer { OnOk result (self.new.best.count ≤ self.old.best.count) }
     {
-        self.take_bundles(alloc, inst, share, bundles)?;
-        self.close(inst, share, PackNode::Apart)
+        self.take_bundles(alloc, inst, bundles)?;
+        self.close(PackNode::Apart)
     }
 
     // The leaf at hand, whose value is below the count, is settled or split.
@@ -178,7 +170,7 @@ impl Search {
         let bundles = bundles_of(alloc, inst, &self.path)?;
         match heaviest_open(inst, &bundles, &self.path) {
             Some(open) => self.split(alloc, inst, share, open.a, open.b),
-            None => self.settle(alloc, inst, share, &bundles),
+            None => self.settle(alloc, inst, &bundles),
         }
     }
 
@@ -194,7 +186,7 @@ impl Search {
             unreachable!()
         };
         if share.value >= u64::from(self.best.count) {
-            return self.close(inst, share, PackNode::Share { s: share.s });
+            return self.close(PackNode::Share { s: share.s });
         }
         self.go_on(alloc, inst, share)
     }
