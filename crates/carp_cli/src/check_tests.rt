@@ -55,14 +55,20 @@ fn with_line(alloc: Global, text: &str, number: usize, line: &str) -> Result<Str
     Ok(changed.replace(alloc, "~", "\n")?)
 }
 
-// What `check` answers and writes for the files `file` and `cert`, which give at most so many bytes at a look.
-fn checked(alloc: Global, file: &[u8], cert: &[u8], piece: usize) -> Result<(Status, Vec<u8>), Fail>
+// What a command answers and writes for the files `file` and `cert`, which give at most so many bytes at a look.
+fn told(
+    alloc: Global,
+    verb: &str,
+    file: &[u8],
+    cert: &[u8],
+    piece: usize,
+) -> Result<(Status, Vec<u8>), Fail>
     requires { 0 < piece }
 {
     let mut shelf = shelf_with(alloc, file, piece, &[], &[])?;
     shelf.place("cert", cert)?;
     let mut out = MemSink::new(alloc, REPORT_ROOM, 65_536, Vec::new(alloc))?;
-    let status = run_words(alloc, &["check", "file", "cert"], &mut shelf, &mut out)?;
+    let status = run_words(alloc, &[verb, "file", "cert"], &mut shelf, &mut out)?;
     Ok((status, out.written().to_vec(alloc)?))
 }
 
@@ -75,7 +81,7 @@ fn is_checked(
     text: &str,
 ) -> Result<bool, Fail> {
     for piece in [1, 7, 65_536] {
-        let (status, written) = checked(alloc, file, cert, piece)?;
+        let (status, written) = told(alloc, "check", file, cert, piece)?;
         if status.code().to_string(alloc)?.as_str() != code
             || written.as_slice() != text.as_bytes()
         {
@@ -113,6 +119,34 @@ fn prices_of_a_row_of_streets(rt: HostRuntime) -> Result<(), Fail> {
         1 | carp-certificate 2~instance 3 2 2 3 4 | 2 | rejected: count 4 is 3 and the instance has 2~\n\
         1 | carp-certificate 2~instance 0 2 2 2 4 | 5 | bad certificate: line 2 passes a limit~";
     expect_rows(&rt, rt.alloc(), ROW, rows)
+}
+
+const SHEET: &str = "tour 1 load 2 cost 6
+1 serve 1 2 cost 3 load 2
+2 drive 2 1 cost 3
+tour 2 load 2 cost 14
+1 drive 1 2 cost 3
+2 serve 2 3 cost 4 load 2
+3 drive 3 2 cost 4
+4 drive 2 1 cost 3
+total tours 2 cost 20
+";
+
+// The sheet of a good certificate is written, and one that is not good is rejected as `check` does.
+#[test]
+fn the_sheet_of_a_row_of_streets(rt: HostRuntime) -> Result<(), Fail> {
+    let alloc = rt.alloc();
+    let (file, cert) = ROW.split_once('\n').unwrap_or(("", ""));
+    let file = file.replace(alloc, "~", "\n")?;
+    let good = with_line(alloc, cert, 0, "")?;
+    let (status, sheet) = told(alloc, "sheet", file.as_bytes(), good.as_bytes(), 7)?;
+    assert_eq!(rt; status, Status::Done);
+    assert!(rt; sheet.as_slice() == SHEET.as_bytes());
+    let high = with_line(alloc, cert, 3, "bound 21")?;
+    let (status, text) = told(alloc, "sheet", file.as_bytes(), high.as_bytes(), 7)?;
+    assert!(rt; status.code() == 2);
+    assert!(rt; text.as_slice() == b"rejected: node 1 has value 20, not above 20\n".as_slice());
+    Ok(())
 }
 
 #[test]

@@ -5,7 +5,7 @@ ghost use Rattle.command_files.specs.Files.{RoseAtSome, HasLimit};
 ghost use Rattle.command_words.specs.Commands.{reads};
 ghost use Rattle.carp_cli.specs.Outside.{AreKept, AreKeptInPart};
 ghost use Rattle.carp_cli.specs.Answers.{IsDoneStatus};
-ghost use Rattle.carp_cli.specs.Solving.{IsEnding};
+ghost use Rattle.command_works.specs.Solving.{IsEnding};
 ghost use Rattle.carp_cli.specs.Runs.{Leaves};
 ghost use Rattle.carp_cli.specs.Examples.{idle, stating, solving, checking, outside};
 

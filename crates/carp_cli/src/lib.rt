@@ -10,6 +10,8 @@
 
 #[cfg(test)]
 mod check_tests;
+#[cfg(test)]
+mod command_tests;
 mod delivering;
 mod dir_shelf;
 #[cfg(test)]

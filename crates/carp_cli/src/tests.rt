@@ -49,7 +49,12 @@ tour 1 load 1 cost 10 route 1=2-1
 
 const USAGE: &str = "usage: carp solve FILE CERT [--turns N] [--seed N]
        carp check FILE CERT
+       carp sheet FILE CERT
+       carp make FILE [--seed N]
+       carp drill [--turns N] [--seed N]
        carp upgrade FILE CERT NEWCERT
+       carp postman FILE
+       carp fleet FILE [--turns N]
 ";
 
 // Room for any certificate and any report of these tests.
@@ -245,6 +250,21 @@ const CALLS: &str = "\
     check file file | | | | 3 | no | usage\n\
     check file cert other | | | | 3 | no | usage\n\
     check -file cert | | | | 3 | no | usage\n\
+    sheet file cert | | | | 6 | no | read fault~\n\
+    sheet file file | | | | 3 | no | usage\n\
+    make | | | | 3 | no | usage\n\
+    make file other | | | | 3 | no | usage\n\
+    make cert --turns 1 | | | | 3 | no | usage\n\
+    make cert | | 1 | | 7 | no |\n\
+    drill file | | | | 3 | no | usage\n\
+    drill --turns 0 | | | | 3 | no | usage\n\
+    postman file | 1 | | | 6 | no | read fault~\n\
+    postman none | | | | 6 | no | read fault~\n\
+    postman file other | | | | 3 | no | usage\n\
+    fleet file | 1 | | | 6 | no | read fault~\n\
+    fleet file --seed 1 | | | | 3 | no | usage\n\
+    fleet file | | | 1 | 7 | no |\n\
+    postman other | | | | 4 | no | bad instance: line 1 cannot be read~\n\
     upgrade file cert | | | | 3 | no | usage\n\
     upgrade file cert file | | | | 3 | no | usage\n\
     upgrade file cert cert | | | | 3 | no | usage\n\

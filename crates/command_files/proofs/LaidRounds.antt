@@ -23,9 +23,9 @@ one_apart : (p : Problem) (d e : ℕ) → IsFirstApart p d → IsFirstApart p e 
 one_apart p d e first other = elim (cases_lt d e) [
   | inl less ↦ absurd (first.apart (other.before d first.required less))
   | inr not_less ↦ elim (cases_lt e d) [
-      | inl more ↦ absurd (other.apart (first.before e other.required more))
-      | inr not_more ↦ omega (arith, not_less, not_more)
-    ]
+    | inl more ↦ absurd (other.apart (first.before e other.required more))
+    | inr not_more ↦ omega (arith, not_less, not_more)
+  ]
 ]
 
 module _ (one : InstanceIsUnique) (apart : TextHasNoFault) (bytes : List ℕ) where

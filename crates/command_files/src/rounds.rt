@@ -26,11 +26,7 @@ pub struct Laid {
 }
 
 /// Reads the instance that a file describes, and lays a least round over its required edges.
-pub fn read_round<H: Shelf>(
-    alloc: Global,
-    shelf: &mut H,
-    file: &str,
-) -> Result<Laid, Fail<Status>>
+pub fn read_round<H: Shelf>(alloc: Global, shelf: &mut H, file: &str) -> Result<Laid, Fail<Status>>
     ensures read { IsFileRead H.tells (instance_at file.now) (H.contents shelf.old) (H.failed_looks shelf.old) (H.failed_looks shelf.new) (H.given shelf.old) (H.given shelf.new) IsRoundOf IsBadRound IsJoinedText result }
     ensures contents { IsTrue H.tells → SameContents (H.contents shelf.old) (H.contents shelf.new) }
     ensures keeps { H.failed_keeps shelf.new ≡ H.failed_keeps shelf.old }

@@ -1,5 +1,5 @@
 // Files in memory, read as an instance and as a certificate.
-use crate::{Status, check_file, read_good, read_instance};
+use crate::{Status, check_file, read_good, read_instance, read_round};
 use carp_base::{Fail as Stop, Instance};
 use carp_outside::MemShelf;
 use cert_checker::Reason;
@@ -101,4 +101,34 @@ fn each_status_has_its_code(rt: HostRuntime) {
     );
     assert!(rt; Status::ReadFault.code() == 6 && Status::WriteFault.code() == 7);
     assert!(rt; Status::Memory.code() == 8 && Status::TooLong(9).code() == 9);
+    assert!(rt; Status::NotJoined(1).code() == 10);
+}
+
+// Each row: the status of a round over an instance, or its cost; and the text of the instance.
+const ROUNDS: &str = "\
+    10|VERTICES 2~ARISTAS_REQ 1~CAPACIDAD 1~LISTA_ARISTAS_REQ~(1,2) coste 5 demanda 1~DEPOSITO 1~\n\
+    16|VERTICES 3~ARISTAS_REQ 3~CAPACIDAD 3~LISTA_ARISTAS_REQ~(1,2) coste 5 demanda 1~(2,3) coste 7 demanda 1~(1,3) coste 4 demanda 1~DEPOSITO 1~\n\
+    NotJoined(1)|VERTICES 3~ARISTAS_REQ 1~ARISTAS_NOREQ 1~CAPACIDAD 1~LISTA_ARISTAS_REQ~(2,3) coste 5 demanda 1~LISTA_ARISTAS_NOREQ~(1,2) coste 1~DEPOSITO 1~\n\
+    BadInstance(Syntax(1))|no instance~";
+
+// The cost of a round over the instance of a text, or the status that refuses it.
+fn round_of(alloc: Global, text: &str) -> Result<String, Fail> {
+    let mut shelf = shelf_with(alloc, text)?;
+    match read_round(alloc, &mut shelf, "file") {
+        Ok(laid) => Ok(laid.round.cost.to_string(alloc)?),
+        Err(Stop::Refused(status)) => Ok(format!(in alloc; "{status:?}")?),
+        Err(Stop::Memory) => Ok(String::new(alloc)),
+    }
+}
+
+#[test]
+fn rounds_are_laid(rt: HostRuntime) -> Result<(), Fail> {
+    for row in ROUNDS.split('\n') {
+        let (wanted, text) = row.split_once('|').unwrap_or(("", ""));
+        assert!(rt;
+            round_of(rt.alloc(), text)?.as_str() == wanted.trim_ascii(),
+            "{row}"
+        );
+    }
+    Ok(())
 }
