@@ -264,7 +264,7 @@ const CALLS: &str = "\
     fleet file | 1 | | | 6 | no | read fault~\n\
     fleet file --seed 1 | | | | 3 | no | usage\n\
     fleet file | | | 1 | 7 | no |\n\
-    postman other | | | | 4 | no | bad instance: line 1 cannot be read~\n\
+    postman other | | | | 4 | no | bad instance: key VERTICES is missing~\n\
     upgrade file cert | | | | 3 | no | usage\n\
     upgrade file cert file | | | | 3 | no | usage\n\
     upgrade file cert cert | | | | 3 | no | usage\n\

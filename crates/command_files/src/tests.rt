@@ -109,7 +109,7 @@ const ROUNDS: &str = "\
     10|VERTICES 2~ARISTAS_REQ 1~CAPACIDAD 1~LISTA_ARISTAS_REQ~(1,2) coste 5 demanda 1~DEPOSITO 1~\n\
     16|VERTICES 3~ARISTAS_REQ 3~CAPACIDAD 3~LISTA_ARISTAS_REQ~(1,2) coste 5 demanda 1~(2,3) coste 7 demanda 1~(1,3) coste 4 demanda 1~DEPOSITO 1~\n\
     NotJoined(1)|VERTICES 3~ARISTAS_REQ 1~ARISTAS_NOREQ 1~CAPACIDAD 1~LISTA_ARISTAS_REQ~(2,3) coste 5 demanda 1~LISTA_ARISTAS_NOREQ~(1,2) coste 1~DEPOSITO 1~\n\
-    BadInstance(Syntax(1))|no instance~";
+    BadInstance(Syntax(1))|VERTICES two~";
 
 // The cost of a round over the instance of a text, or the status that refuses it.
 fn round_of(alloc: Global, text: &str) -> Result<String, Fail> {

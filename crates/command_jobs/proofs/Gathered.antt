@@ -29,7 +29,7 @@ there : {X : Type 0} (P : X → Type 0) (o : Option X) (x : X) → o ≡ Some x 
 there P o x is holds = subst (λ y. IsSomeAnd y P) (sym is) holds
 
 module _ {file cert : List ℕ} {contents : List ℕ → Option (List ℕ)} (p : Problem) (valid : IsValid p) (proves : GoodIsProof)
-  (read : Holds (instance_at file) contents (λ bytes. IsTextOf bytes p)) where
+    (read : Holds (instance_at file) contents (λ bytes. IsTextOf bytes p)) where
   certified : (bytes : List ℕ) (c : Certificate) → contents cert ≡ Some bytes → (length bytes ≤ 268435456) → certificates.IsTextOf bytes c → IsGood p c → AreCertified file cert contents p c
   certified bytes c held short text good = record {
     read = read;

@@ -18,11 +18,19 @@ pub enum Job<'a> {
         seed: u64,
     },
     /// Says that a certificate was accepted.
-    Check { checked: Checked },
+    Check {
+        checked: Checked,
+    },
     /// Writes the street sheet of a lawful plan of the instance.
-    Sheet { inst: Instance, plan: Plan },
+    Sheet {
+        inst: Instance,
+        plan: Plan,
+    },
     /// Keeps the town of a number at `file`.
-    Make { file: &'a str, seed: u64 },
+    Make {
+        file: &'a str,
+        seed: u64,
+    },
     /// Solves the town of a number, and checks its certificate.
     Drill {
         /// 1 to 1,048,576.
@@ -30,9 +38,14 @@ pub enum Job<'a> {
         seed: u64,
     },
     /// Keeps the certificate, which has the numbers of its instance, at `renewed`.
-    Upgrade { cert: Cert, renewed: &'a str },
+    Upgrade {
+        cert: Cert,
+        renewed: &'a str,
+    },
     /// Writes a least closed walk over all required edges.
-    Postman { laid: Laid },
+    Postman {
+        laid: Laid,
+    },
     /// Finds the fewest vehicles.
     Fleet {
         inst: Instance,

@@ -115,7 +115,7 @@ fn bad_files_are_refused(rt: HostRuntime) -> Result<(), Fail> {
             cert: "file",
         },
     )?;
-    assert!(rt; swapped.as_str() == "BadInstance(Syntax(1))");
+    assert!(rt; swapped.as_str() == "BadInstance(MissingKey(Vertices))");
     let twice = gathered(
         alloc,
         Command::Sheet {
