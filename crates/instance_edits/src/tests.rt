@@ -1,5 +1,8 @@
 // Texts of edits that are read or refused, and the instances that edits make.
-ghost use Rattle.std.specs.Prelude.{◌^◌, ◌<◌, length};
+ghost use Rattle.std.specs.Prelude.{◌^◌, ◌<◌, ◌≤◌, [], length};
+ghost use Rattle.std.specs.List.{All};
+ghost use Rattle.instance_edits.specs.Edits.{AreKnown};
+ghost use Rattle.instance_edits.specs.Texts.{IsShort};
 
 use crate::{Edit, edited, edits_are_unique, read_edits};
 use carp_base::{Fail as Refusal, Instance, RawEdge};
@@ -178,6 +181,19 @@ fn edges_of(alloc: Global, inst: &Instance) -> Result<String, Fail> {
 }
 
 // What edits make of an instance: the edges, or the fault.
+fn made(alloc: Global, inst: &Instance, edits: &[Edit]) -> Result<String, Fail>
+    requires known { AreKnown inst.now [] edits.now }
+    requires short { All IsShort edits.now }
+    requires few { length edits.now ≤ 2 ^ 20 }
+{
+    match edited(alloc, inst, edits) {
+        Ok(after) => edges_of(alloc, &after),
+        Err(Refusal::Refused(fault)) => Ok(fault.to_string(alloc)?),
+        Err(Refusal::Memory) => Err(AllocError)?,
+    }
+}
+
+// What the edits of a text make of an instance.
 fn making(alloc: Global, inst: &Instance, text: &str) -> Result<String, Fail> {
     let bytes = bytes_of(alloc, text)?;
     if bytes.len() > 1000 {
@@ -189,11 +205,7 @@ fn making(alloc: Global, inst: &Instance, text: &str) -> Result<String, Fail> {
     if edits.len() > 1000 {
         return Err(AllocError)?;
     }
-    match edited(alloc, inst, &edits) {
-        Ok(after) => edges_of(alloc, &after),
-        Err(Refusal::Refused(fault)) => Ok(fault.to_string(alloc)?),
-        Err(Refusal::Memory) => Err(AllocError)?,
-    }
+    made(alloc, inst, &edits)
 }
 
 // What becomes of the triangle, and the edits.
