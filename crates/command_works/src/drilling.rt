@@ -74,12 +74,7 @@ fn summary(
     let mut text = Vec::new(alloc);
     push_drill(&mut text, seed, turns)?;
     push_town(&mut text, inst)?;
-    push_result(
-        &mut text,
-        solved.cert.cost,
-        solved.cert.bound,
-        solved.turns,
-    )?;
+    push_result(&mut text, solved.cert.cost, solved.cert.bound, solved.turns)?;
     text.extend_from_slice(b"accepted\n")?;
     Ok(text)
 }

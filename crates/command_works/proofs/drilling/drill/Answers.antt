@@ -12,13 +12,15 @@ use Rattle.command_works.proofs.drilling.drill.Goals as goal
 pub returns-clause-drilled : goal.returns-clause-drilled
 returns-clause-drilled g c =
     let certificate : Certificate = certificate_in c.in_ok-solved.solved.cert in
-    let turns : ℕ = c.in_ok-solved.solved.turns in
-    (refl, record {
-      certificate = certificate;
-      turns = turns;
-      sound = subst (λ (p : Problem). IsSound p certificate turns) c.in_ok-inst.ensures c.in_ok-solved.ensures.sound;
-      ended = spent certificate.bound certificate.cost c.args.turns turns c.in_ok-solved.ensures.ended;
-      helped = All-map (IsAtMost certificate.cost) (λ helper. (g.P.Proposer.tally helper).least) _ c.in_ok-solved.ensures.least;
-      keeps = search rules;
-      writes = c.in_ok-text.ensures ∙ ap (λ (p : Problem). drill_text c.args.seed c.args.turns p certificate.cost certificate.bound turns) c.in_ok-inst.ensures;
-    })
+    let turns : ℕ = c.in_ok-solved.solved.turns in (
+      refl,
+      record {
+        certificate = certificate;
+        turns = turns;
+        sound = subst (λ (p : Problem). IsSound p certificate turns) c.in_ok-inst.ensures c.in_ok-solved.ensures.sound;
+        ended = spent certificate.bound certificate.cost c.args.turns turns c.in_ok-solved.ensures.ended;
+        helped = All-map (IsAtMost certificate.cost) (λ helper. (g.P.Proposer.tally helper).least) _ c.in_ok-solved.ensures.least;
+        keeps = search rules;
+        writes = c.in_ok-text.ensures ∙ ap (λ (p : Problem). drill_text c.args.seed c.args.turns p certificate.cost certificate.bound turns) c.in_ok-inst.ensures;
+      },
+    )
