@@ -345,3 +345,53 @@ tours 0
     let accepted = "accepted\ncost 0\nbound 0\n";
     expect(&rt, alloc, NOTHING, "64", Status::Proven, front, accepted)
 }
+
+// A made town is an instance of the size that is said, and its certificate is accepted.
+#[test]
+fn a_made_town_is_solved(rt: HostRuntime) -> Result<(), Fail> {
+    let alloc = rt.alloc();
+    let mut shelf = MemShelf::new(alloc, 65_536, Vec::new(alloc), Vec::new(alloc));
+    shelf.ready("town", 65_536)?;
+    shelf.ready("cert", 16_777_216)?;
+    let words = ["make", "town", "--seed", "7"];
+    let made = "made vertices 100 edges 180 required 87\n";
+    assert_eq!(rt;
+        answer(alloc, &words, &mut shelf, made)?,
+        (Status::Done, true)
+    );
+    let words = ["solve", "town", "cert", "--turns", "1"];
+    let solved = "instance vertices 100 edges 180 required 87 capacity 60 demand 421\n";
+    let (status, as_said) = answer(alloc, &words, &mut shelf, solved)?;
+    assert!(rt; status.code() <= 1 && as_said);
+    let words = ["check", "town", "cert"];
+    assert_eq!(rt;
+        answer(alloc, &words, &mut shelf, "accepted\n")?,
+        (Status::Accepted, true)
+    );
+    Ok(())
+}
+
+// What a drill answers and writes.
+fn drilled(alloc: Global) -> Result<(Status, Vec<u8>), Fail> {
+    let mut shelf = MemShelf::new(alloc, 65_536, Vec::new(alloc), Vec::new(alloc));
+    let mut out = MemSink::new(alloc, 1_048_576, 65_536, Vec::new(alloc))?;
+    let words = words_of(alloc, &["drill"])?;
+    let mut helpers = helpers(alloc)?;
+    let status = run(alloc, &words, &mut shelf, &mut out, &mut helpers);
+    Ok((status, out.written().to_vec(alloc)?))
+}
+
+#[test]
+fn a_drill_is_the_same_each_time(rt: HostRuntime) -> Result<(), Fail> {
+    let alloc = rt.alloc();
+    let (status, first) = drilled(alloc)?;
+    assert_eq!(rt; status, Status::Done);
+    assert!(rt;
+        first.starts_with(b"drill seed 1 turns 4\nedges 180 required 81 demand 402\ncost ")
+    );
+    assert!(rt; first.ends_with(b"\naccepted\n"));
+    let (status, second) = drilled(alloc)?;
+    assert_eq!(rt; status, Status::Done);
+    assert!(rt; first.as_slice() == second.as_slice());
+    Ok(())
+}

@@ -299,7 +299,7 @@ fn a_bad_instance_is_named_first(rt: HostRuntime) -> Result<(), Fail> {
     let alloc = rt.alloc();
     let blanks = vec![in alloc; b' '; 4_194_304]?;
     let missing = "bad instance: key VERTICES is missing\n";
-    let (status, written) = checked(alloc, &blanks, b"", 65_536)?;
+    let (status, written) = told(alloc, "check", &blanks, b"", 65_536)?;
     assert!(rt; status.code() == 4 && written.as_slice() == missing.as_bytes());
     Ok(())
 }
@@ -308,7 +308,7 @@ fn a_bad_instance_is_named_first(rt: HostRuntime) -> Result<(), Fail> {
 fn a_long_instance_is_named_first(rt: HostRuntime) -> Result<(), Fail> {
     let alloc = rt.alloc();
     let blanks = vec![in alloc; b' '; 4_194_305]?;
-    let (status, written) = checked(alloc, &blanks, b"", 65_536)?;
+    let (status, written) = told(alloc, "check", &blanks, b"", 65_536)?;
     assert_eq!(rt; status, Status::TooLong(4_194_304));
     let long = "too long: more than 4194304 bytes\n";
     assert!(rt; written.as_slice() == long.as_bytes());

@@ -35,10 +35,7 @@ fn towns(alloc: Global) -> Result<MemShelf, Fail> {
     for row in TOWNS.split('\n') {
         let (name, text) = row.split_once('|').unwrap_or(("", ""));
         let text = text.replace(alloc, "~", "\n")?;
-        shelf.place(
-            name.trim_ascii(),
-            text.as_bytes().trim_ascii_start(),
-        )?;
+        shelf.place(name.trim_ascii(), text.as_bytes().trim_ascii_start())?;
     }
     Ok(shelf)
 }
@@ -60,12 +57,22 @@ fn is_true(alloc: Global, row: &str) -> Result<bool, Fail> {
     let mut shelf = towns(alloc)?;
     let (status, written) = answered(alloc, fields.next().unwrap_or(""), &mut shelf)?;
     let code = fields.next().unwrap_or("").trim_ascii();
-    let start = fields.next().unwrap_or("").trim_ascii().replace(alloc, "~", "\n")?;
-    let part = fields.next().unwrap_or("").trim_ascii().replace(alloc, "~", "\n")?;
+    let start = fields
+        .next()
+        .unwrap_or("")
+        .trim_ascii()
+        .replace(alloc, "~", "\n")?;
+    let part = fields
+        .next()
+        .unwrap_or("")
+        .trim_ascii()
+        .replace(alloc, "~", "\n")?;
     let text = String::from_utf8(written).unwrap_or(String::new(alloc));
-    Ok(status.code().to_string(alloc)?.as_str() == code
-        && text.as_str().starts_with(start.as_str())
-        && text.as_str().contains(part.as_str()))
+    Ok(
+        status.code().to_string(alloc)?.as_str() == code
+            && text.as_str().starts_with(start.as_str())
+            && text.as_str().contains(part.as_str()),
+    )
 }
 
 #[test]
