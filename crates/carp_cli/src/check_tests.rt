@@ -132,18 +132,27 @@ tour 2 load 2 cost 14
 total tours 2 cost 20
 ";
 
-// The sheet of a good certificate is written, and one that is not good is rejected as `check` does.
-#[test]
-fn the_sheet_of_a_row_of_streets(rt: HostRuntime) -> Result<(), Fail> {
-    let alloc = rt.alloc();
+// What `sheet` answers and writes for the row of streets and its certificate with one line changed.
+fn sheeted(alloc: Global, number: usize, line: &str) -> Result<(Status, Vec<u8>), Fail> {
     let (file, cert) = ROW.split_once('\n').unwrap_or(("", ""));
     let file = file.replace(alloc, "~", "\n")?;
-    let good = with_line(alloc, cert, 0, "")?;
-    let (status, sheet) = told(alloc, "sheet", file.as_bytes(), good.as_bytes(), 7)?;
+    let cert = with_line(alloc, cert, number, line)?;
+    told(alloc, "sheet", file.as_bytes(), cert.as_bytes(), 7)
+}
+
+// The sheet of a good certificate is written.
+#[test]
+fn the_sheet_of_a_row_of_streets(rt: HostRuntime) -> Result<(), Fail> {
+    let (status, sheet) = sheeted(rt.alloc(), 0, "")?;
     assert_eq!(rt; status, Status::Done);
     assert!(rt; sheet.as_slice() == SHEET.as_bytes());
-    let high = with_line(alloc, cert, 3, "bound 21")?;
-    let (status, text) = told(alloc, "sheet", file.as_bytes(), high.as_bytes(), 7)?;
+    Ok(())
+}
+
+// One that is not good is rejected as `check` does.
+#[test]
+fn no_sheet_of_a_high_bound(rt: HostRuntime) -> Result<(), Fail> {
+    let (status, text) = sheeted(rt.alloc(), 3, "bound 21")?;
     assert!(rt; status.code() == 2);
     assert!(rt; text.as_slice() == b"rejected: node 1 has value 20, not above 20\n".as_slice());
     Ok(())

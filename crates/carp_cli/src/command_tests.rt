@@ -15,19 +15,19 @@ const TOWNS: &str = "\
     ring | VERTICES 4~ARISTAS_REQ 3~ARISTAS_NOREQ 1~CAPACIDAD 3~LISTA_ARISTAS_REQ~(2,3) coste 1 demanda 2~(3,4) coste 1 demanda 2~(4,2) coste 1 demanda 2~LISTA_ARISTAS_NOREQ~(1,2) coste 10~DEPOSITO 1~\n\
     star | VERTICES 7~ARISTAS_REQ 5~ARISTAS_NOREQ 1~CAPACIDAD 5~LISTA_ARISTAS_REQ~(2,3) coste 1 demanda 2~(2,4) coste 1 demanda 2~(2,5) coste 1 demanda 2~(2,6) coste 1 demanda 2~(2,7) coste 1 demanda 2~LISTA_ARISTAS_NOREQ~(1,2) coste 100~DEPOSITO 1~";
 
-// Each row: words, the code, how the text begins, and a part of it. `~` is a line feed.
+// Each row: words, how the code and the text begin, and a part of them. `~` is a line feed.
 const ROWS: &str = "\
-    postman ends | 0 | postman cost 27~deadheads 2~route 1 | =4\n\
-    postman triangle | 0 | postman cost 16~deadheads 0~route 1= | =1~\n\
-    postman street | 0 | postman cost 10~deadheads 1~route 1 | 2\n\
-    postman none | 0 | postman cost 0~deadheads 0~route 1~ |\n\
-    postman ring | 10 | not joined: edge 1~ |\n\
-    postman star | 10 | not joined: edge 1~ |\n\
-    fleet star --turns 2048 | 0 | fleet 3~bound 3~turns | proven~tours 3~\n\
-    fleet star --turns 1 | 1 | fleet 3~bound 2~turns | open gap 1~tours 3~\n\
-    fleet ring | 0 | fleet 3~bound 3~turns 1~proven~tours 3~ | nodes 1~share\n\
-    fleet triangle | 0 | fleet 1~bound 1~turns 1~proven~tours 1~tour 1 load 3 | nodes 1~share\n\
-    fleet none | 0 | fleet 0~bound 0~turns 1~proven~tours 0~nodes 1~share 0~ |";
+    postman ends | 0 postman cost 27~deadheads 2~route 1 | =4\n\
+    postman triangle | 0 postman cost 16~deadheads 0~route 1= | =1~\n\
+    postman street | 0 postman cost 10~deadheads 1~route 1 | 2\n\
+    postman none | 0 postman cost 0~deadheads 0~route 1~ |\n\
+    postman ring | 10 not joined: edge 1~ |\n\
+    postman star | 10 not joined: edge 1~ |\n\
+    fleet star --turns 2048 | 0 fleet 3~bound 3~turns | proven~tours 3~\n\
+    fleet star --turns 1 | 1 fleet 3~bound 2~turns | open gap 1~tours 3~\n\
+    fleet ring | 0 fleet 3~bound 3~turns 1~proven~tours 3~ | nodes 1~share\n\
+    fleet triangle | 0 fleet 1~bound 1~turns 1~proven~tours 1~tour 1 load 3 | nodes 1~share\n\
+    fleet none | 0 fleet 0~bound 0~turns 1~proven~tours 0~nodes 1~share 0~ |";
 
 // A store with all towns.
 fn towns(alloc: Global) -> Result<MemShelf, Fail> {
@@ -51,28 +51,19 @@ fn answered(alloc: Global, text: &str, shelf: &mut MemShelf) -> Result<(Status, 
     Ok((status, out.written().to_vec(alloc)?))
 }
 
+// The code and the text, in which `~` stands for a line feed.
+fn told(alloc: Global, words: &str) -> Result<String, Fail> {
+    let (status, written) = answered(alloc, words, &mut towns(alloc)?)?;
+    let text = str::from_utf8(&written).unwrap_or("");
+    Ok(format!(in alloc; "{} {text}", status.code())?.replace(alloc, "\n", "~")?)
+}
+
 // Whether a row is true.
 fn is_true(alloc: Global, row: &str) -> Result<bool, Fail> {
-    let mut fields = row.split('|');
-    let mut shelf = towns(alloc)?;
-    let (status, written) = answered(alloc, fields.next().unwrap_or(""), &mut shelf)?;
-    let code = fields.next().unwrap_or("").trim_ascii();
-    let start = fields
-        .next()
-        .unwrap_or("")
-        .trim_ascii()
-        .replace(alloc, "~", "\n")?;
-    let part = fields
-        .next()
-        .unwrap_or("")
-        .trim_ascii()
-        .replace(alloc, "~", "\n")?;
-    let text = String::from_utf8(written).unwrap_or(String::new(alloc));
-    Ok(
-        status.code().to_string(alloc)?.as_str() == code
-            && text.as_str().starts_with(start.as_str())
-            && text.as_str().contains(part.as_str()),
-    )
+    let mut fields = row.split('|').map(|field| field.trim_ascii());
+    let told = told(alloc, fields.next().unwrap_or(""))?;
+    let begins = told.as_str().starts_with(fields.next().unwrap_or("?"));
+    Ok(begins && told.as_str().contains(fields.next().unwrap_or("?")))
 }
 
 #[test]
