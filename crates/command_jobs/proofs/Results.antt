@@ -1,17 +1,12 @@
 -- Answers that are passed on.
 use Rattle.std.proofs.Common.{◌≡◌, ap}
-use Rattle.std.specs.Prelude.{Option, None, Some, Result, Ok, Err, IfOk, IsSomeAnd}
+use Rattle.std.specs.Prelude.{Option, None, Some, Result, Err, Ok, IsSomeAnd}
 use Rattle.carp_base.specs.declared.fail.Fail.{Fail}
-use Rattle.carp_base.specs.declared.fail.Fail.TheVariants.{Refused}
 use Rattle.command_files.specs.declared.status.Status.{Status}
 
 pub of_some : {X : Type 0} {P Q : X → Type 0} (o : Option X) → IsSomeAnd o P → ((x : X) → P x → Q x) → IsSomeAnd o Q
 of_some None none f = none
 of_some (Some x) holds f = f x holds
-
-pub of_ok : {X E : Type 0} {P Q : X → Type 0} (r : Result X E) → IfOk r P → ((x : X) → P x → Q x) → IfOk r Q
-of_ok (Ok x) holds f = f x holds
-of_ok (Err e) holds f = tt
 
 -- two facts of what is there
 pub of_both : {X : Type 0} {P Q : X → Type 0} {R : Type 0} (o : Option X) → IsSomeAnd o P → IsSomeAnd o Q → ((x : X) → P x → Q x → R) → R
@@ -25,10 +20,7 @@ failed X f = Err f
 abbrev pub made : (X : Type 0) → X → Result X (Fail Status)
 made X x = Ok x
 
--- refusals that are the same
-pub same_refusal : {X : Type 0} {s t : Status} → failed X (Refused s) ≡ failed X (Refused t) → s ≡ t
-same_refusal e = cc
-
+-- a refusal, told of another type
 pub again : {X Y : Type 0} {f g : Fail Status} → failed X f ≡ failed X g → failed Y f ≡ failed Y g
 again {X} {Y} {f} {g} e = ap (failed Y) (inside e) where
   inside : failed X f ≡ failed X g → f ≡ g
