@@ -395,3 +395,59 @@ fn a_drill_is_the_same_each_time(rt: HostRuntime) -> Result<(), Fail> {
     assert!(rt; first.as_slice() == second.as_slice());
     Ok(())
 }
+
+// Twelve junctions and 22 streets, all required, in the layout of the data sets.
+const SAMPLE: &str = "NOMBRE : carp
+COMENTARIO : none
+VERTICES : 12
+ARISTAS_REQ : 22
+ARISTAS_NOREQ : 0
+VEHICULOS : 5
+CAPACIDAD : 5
+TIPO_COSTES_ARISTAS : EXPLICITOS
+COSTE_TOTAL_REQ : 252
+LISTA_ARISTAS_REQ :
+( 1, 2) coste 13 demanda 1
+( 1, 4) coste 17 demanda 1
+( 1, 7) coste 19 demanda 1
+( 1, 10) coste 19 demanda 1
+( 1, 12) coste 4 demanda 1
+( 2, 3) coste 18 demanda 1
+( 2, 4) coste 9 demanda 1
+( 2, 9) coste 2 demanda 1
+( 3, 4) coste 20 demanda 1
+( 3, 5) coste 5 demanda 1
+( 5, 6) coste 7 demanda 1
+( 5, 11) coste 20 demanda 1
+( 5, 12) coste 11 demanda 1
+( 6, 7) coste 4 demanda 1
+( 6, 12) coste 3 demanda 1
+( 7, 8) coste 8 demanda 1
+( 7, 12) coste 18 demanda 1
+( 8, 10) coste 3 demanda 1
+( 8, 11) coste 10 demanda 1
+( 9, 10) coste 16 demanda 1
+( 9, 11) coste 14 demanda 1
+( 10, 11) coste 12 demanda 1
+LISTA_ARISTAS_NOREQ :
+DEPOSITO : 1
+";
+
+// One turn gives a plan for the sample, at its bound or with a gap, and the certificate is accepted.
+#[test]
+fn a_sample_is_solved_by_one_turn(rt: HostRuntime) -> Result<(), Fail> {
+    let alloc = rt.alloc();
+    let mut shelf = MemShelf::new(alloc, 65_536, Vec::new(alloc), Vec::new(alloc));
+    shelf.place("file", SAMPLE.as_bytes())?;
+    shelf.ready("cert", 16_777_216)?;
+    let words = ["solve", "file", "cert", "--turns", "1"];
+    let size = "instance vertices 12 edges 22 required 22 capacity 5 demand 22\n";
+    let (status, as_said) = answer(alloc, &words, &mut shelf, size)?;
+    assert!(rt; status.code() <= 1 && as_said);
+    let words = ["check", "file", "cert"];
+    assert_eq!(rt;
+        answer(alloc, &words, &mut shelf, "accepted\n")?,
+        (Status::Accepted, true)
+    );
+    Ok(())
+}
