@@ -1,6 +1,6 @@
 -- What holds in an instance and stays when its numbers rise.
 use Rattle.std.specs.Prelude.{◌≡◌, ℕ, ◌≤◌, ◌↔◌, Bool, [], List}
-use Rattle.carp_base.specs.Problem.{Problem, IsValid}
+use Rattle.carp_base.specs.Problem.{Problem, IsValid, IsRequired}
 use Rattle.cut_pool.specs.Shores.{need, required_crossings}
 use Rattle.decision_chains.specs.declared.decision.Decision.{Decision}
 use Rattle.decision_chains.specs.Exclusions.{IsYes, Excluded}
@@ -34,7 +34,7 @@ SetsStayFit = (old new : Problem) (pool : List (List ℕ)) (before after : List 
     ((shore : ℕ) → lowest shore after ≡ lowest shore before) → ((a b : ℕ) → Excluded old before a b → Excluded new after a b) →
     Fits old pool (rules_of old pool before) (λ a b. ¬ (Excluded old before a b)) set → Fits new pool (rules_of new pool after) (λ a b. ¬ (Excluded new after a b)) set
 
--- with the same yes pairs, chains cost no less than they did
+-- with the same yes pairs, which are of required edges, chains cost no less than they did
 abbrev pub FixedValuesRise : Type 0
 FixedValuesRise = (old new : Problem) (before after : List Decision) (value risen : ℕ) → IsRaised old new → ((a b : ℕ) → IsYes after a b ↔ IsYes before a b) →
-    HasFixedValue old before value → HasFixedValue new after risen → value ≤ risen
+    ((a b : ℕ) → IsYes after a b → IsRequired new b) → HasFixedValue old before value → HasFixedValue new after risen → value ≤ risen
