@@ -14,6 +14,7 @@ mod growing;
 mod laws;
 #[cfg(test)]
 mod tests;
+mod values;
 mod way;
 
 pub use growing::{GrowingNode, GrowingTree};
@@ -21,3 +22,4 @@ pub use laws::{
     decisions_keep_sets, grown_trees_stay_sound, more_support_keeps_trees_sound,
     sound_trees_are_lean,
 };
+pub use values::shown_under;

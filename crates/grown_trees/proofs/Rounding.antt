@@ -6,7 +6,7 @@ use Rattle.std.proofs.lemmas.Grind.{div_ceil_times}
 use Rattle.std.proofs.lemmas.Int.{ints}
 use Rattle.std.specs.Int.{div_ceil}
 use Rattle.std.specs.Int.RustNames.{unsigned_abs}
-use Rattle.branch_tree.specs.Values.{IsMostShown, IsShown}
+use Rattle.grown_trees.specs.Values.{IsMostShown, IsShown}
 
 -- a quotient that was rounded up, and the greatest number that is written for it
 record IsRounded (v unit shown most : ℕ) : Type 0 where

@@ -2,8 +2,8 @@ use mir.Syntax.{w128}
 use Rattle.std.proofs.Common.{ap, ◌∙◌, ℤ}
 use Rattle.std.proofs.lemmas.Int.{to_z-of_z}
 use Rattle.std.specs.Int.RustNames.{unsigned_abs}
-use Rattle.branch_tree.proofs.Rounding.{rounded_up}
-use Rattle.branch_tree.proofs.values.rounded_up.Goals as goal
+use Rattle.grown_trees.proofs.Rounding.{rounded_up}
+use Rattle.grown_trees.proofs.values.rounded_up.Goals as goal
 
 pub returns : goal.returns
 returns c =
