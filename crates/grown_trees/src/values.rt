@@ -33,7 +33,9 @@ fn rounded_up(value: i128, unit: u64) -> u64
     requires unit { 1 ≤ unit }
     ensures { IsMostShown unit value result }
 {
-    let size = value.max(0).unsigned_abs();
-    let shown = size.div_ceil(u128::from(unit));
+    if value <= 0 {
+        return 0;
+    }
+    let shown = value.unsigned_abs().div_ceil(u128::from(unit));
     shown.min(u128::from(u64::MAX)) as u64
 }
