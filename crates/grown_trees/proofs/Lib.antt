@@ -7,3 +7,4 @@ pub mod Widening
 pub mod Sound
 pub mod Leasts
 pub mod Keeping
+pub mod Light
