@@ -8,3 +8,4 @@ pub mod Sound
 pub mod Leasts
 pub mod Keeping
 pub mod Rounding
+pub mod Light
