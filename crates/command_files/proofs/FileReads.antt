@@ -10,7 +10,7 @@ use Rattle.command_words.specs.Commands.{Source}
 use Rattle.command_files.specs.Files.{RoseAtSome, Holds, IsTooLong, IsBadFile}
 use Rattle.command_files.specs.Reads.{AreBytes, NoneIsBad, EachIsGood, IsFileRead, IsOfBytes, IsParsed, IsRefusal, IsTried}
 use Rattle.command_files.specs.declared.status.Status.{Status}
-use Rattle.command_files.specs.declared.status.Status.TheVariants.{Proven, Gap, Accepted, Done, Rejected, BadUsage, BadInstance, BadCertificate, ReadFault, WriteFault, Memory, TooLong, NotJoined}
+use Rattle.command_files.specs.declared.status.Status.TheVariants.{Proven, Gap, Accepted, Done, Rejected, BadUsage, BadInstance, BadCertificate, ReadFault, WriteFault, Memory, TooLong, NotJoined, BadEdit}
 
 -- what is so of what is there
 pub of_some : {X : Type 0} {P Q : X → Type 0} (o : Option X) → IsSomeAnd o P → ((x : X) → P x → Q x) → IsSomeAnd o Q
@@ -52,6 +52,7 @@ refuses (BadInstance fault) is = tt
 refuses (BadCertificate fault) is = tt
 refuses (Rejected reason) is = tt
 refuses (NotJoined edge) is = tt
+refuses (BadEdit fault) is = tt
 refuses ReadFault is = tt
 refuses (TooLong limit) is = tt
 refuses Proven is = is

@@ -1,7 +1,7 @@
 -- The code of each status.
 use Rattle.std.specs.Prelude.{ℕ}
 use Rattle.command_files.specs.declared.status.Status.{Status}
-use Rattle.command_files.specs.declared.status.Status.TheVariants.{Proven, Gap, Accepted, Done, Rejected, BadUsage, BadInstance, BadCertificate, ReadFault, WriteFault, Memory, TooLong, NotJoined}
+use Rattle.command_files.specs.declared.status.Status.TheVariants.{Proven, Gap, Accepted, Done, Rejected, BadUsage, BadInstance, BadCertificate, ReadFault, WriteFault, Memory, TooLong, NotJoined, BadEdit}
 
 abbrev pub code_of : Status → ℕ
 code_of Proven = 0
@@ -17,3 +17,4 @@ code_of WriteFault = 7
 code_of Memory = 8
 code_of (TooLong limit) = 9
 code_of (NotJoined edge) = 10
+code_of (BadEdit fault) = 11

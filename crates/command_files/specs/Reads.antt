@@ -23,7 +23,7 @@ use Rattle.command_words.specs.Commands.{Source}
 use Rattle.command_files.specs.declared.rounds.Laid.{Laid}
 use Rattle.command_files.specs.Files.{Holds, IsBadFile, HasLimit, RoseAtSome}
 use Rattle.command_files.specs.declared.status.Status.{Status}
-use Rattle.command_files.specs.declared.status.Status.TheVariants.{BadInstance, BadCertificate, NotJoined, Rejected, ReadFault, TooLong}
+use Rattle.command_files.specs.declared.status.Status.TheVariants.{BadInstance, BadCertificate, BadEdit, NotJoined, Rejected, ReadFault, TooLong}
 
 -- an answer by which a file is refused, and one by which its bytes are
 abbrev pub IsOfBytes : Status → Type 0
@@ -31,6 +31,7 @@ IsOfBytes (BadInstance fault) = Unit {0}
 IsOfBytes (BadCertificate fault) = Unit {0}
 IsOfBytes (Rejected reason) = Unit {0}
 IsOfBytes (NotJoined edge) = Unit {0}
+IsOfBytes (BadEdit fault) = Unit {0}
 IsOfBytes status = ⊥
 
 abbrev pub IsRefusal : Status → Type 0

@@ -11,6 +11,9 @@ mod status;
 #[cfg(test)]
 mod tests;
 
-pub use reading::{check_file, read_good, read_instance};
+pub use reading::{
+    CERTIFICATE_LIMIT, INSTANCE_LIMIT, check_file, parse_good, parse_instance, read_file, read_good,
+    read_instance,
+};
 pub use rounds::{Laid, read_round};
 pub use status::Status;

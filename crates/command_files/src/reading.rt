@@ -22,10 +22,10 @@ use dat_text::{read_dat, readings_are_unique};
 use std::alloc::Global;
 
 /// The most bytes of an instance file.
-pub(crate) const INSTANCE_LIMIT: u64 = 4_194_304;
+pub const INSTANCE_LIMIT: u64 = 4_194_304;
 
 /// The most bytes of a certificate.
-const CERTIFICATE_LIMIT: u64 = 268_435_456;
+pub const CERTIFICATE_LIMIT: u64 = 268_435_456;
 
 /// Reads the instance that a file describes.
 pub fn read_instance<H: Shelf>(
@@ -102,7 +102,7 @@ pub fn read_good<H: Shelf>(
 }
 
 /// All bytes of a file.
-pub(crate) fn read_file<H: Shelf>(
+pub fn read_file<H: Shelf>(
     alloc: Global,
     shelf: &mut H,
     file: &str,
@@ -125,7 +125,7 @@ pub(crate) fn read_file<H: Shelf>(
 }
 
 /// The instance that the bytes of a file describe.
-pub(crate) fn parse_instance(alloc: Global, bytes: &[u8]) -> Result<Instance, Fail<Status>>
+pub fn parse_instance(alloc: Global, bytes: &[u8]) -> Result<Instance, Fail<Status>>
     requires { length bytes.now < 2 ^ 32 }
     ensures { IsParsed bytes.now IsTextOf IsBadInstance IsInstance result }
 {
@@ -137,8 +137,8 @@ pub(crate) fn parse_instance(alloc: Global, bytes: &[u8]) -> Result<Instance, Fa
     }
 }
 
-// The certificate of the bytes, which is good for the instance.
-fn parse_good(alloc: Global, inst: &Instance, bytes: &[u8]) -> Result<Cert, Fail<Status>>
+/// The certificate of the bytes of a file, which is good for the instance.
+pub fn parse_good(alloc: Global, inst: &Instance, bytes: &[u8]) -> Result<Cert, Fail<Status>>
     ensures { IsParsed bytes.now (IsGoodCert inst.now) (IsBadCertificate inst.now) (IsGoodText inst.now) result }
 {
     texts_are_unique();

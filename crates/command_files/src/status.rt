@@ -4,6 +4,7 @@ ghost use Rattle.std.specs.Prelude.{◌≡◌};
 use cert_checker::Reason;
 use cert_format::CertFault;
 use dat_text::DatFault;
+use instance_edits::EditFault;
 
 /// How a run ends.
 #[derive(Clone, Copy, Debug, PartialEq, Eq)]
@@ -34,13 +35,15 @@ pub enum Status {
     TooLong(u64),
     /// The required edges do not hang together with the depot; this is the least one apart.
     NotJoined(u32),
+    /// The edits have this fault, or the edited instance.
+    BadEdit(EditFault),
 }
 
 impl Status {
     ghost use Rattle.command_files.specs.Codes.{code_of};
 
     /// The status code of the process: 0 where the command was done, 1 where a plan was found with a gap, 2 where a certificate was
-    /// rejected, and from 3 to 10 otherwise.
+    /// rejected, and from 3 to 11 otherwise.
     pub fn code(&self) -> u8
         ensures { result ≡ code_of self.now }
     {
@@ -56,6 +59,7 @@ impl Status {
             Status::Memory => 8,
             Status::TooLong(_) => 9,
             Status::NotJoined(_) => 10,
+            Status::BadEdit(_) => 11,
         }
     }
 }

@@ -10,6 +10,7 @@ pub data Command : Type 0 where
   Upgrade : (file cert renewed : List ℕ) → Command
   Postman : (file : List ℕ) → Command
   Fleet : (file : List ℕ) (turns : ℕ) → Command
+  Edit : (file cert edits edited carried : List ℕ) → Command
 
 -- a file that is read, and the most bytes that it may have
 pub record Source : Type 0 where
@@ -22,6 +23,9 @@ instance_at name = record { name = name; limit = 4194304 }
 abbrev pub certificate_at : List ℕ → Source
 certificate_at name = record { name = name; limit = 268435456 }
 
+abbrev pub edits_at : List ℕ → Source
+edits_at name = record { name = name; limit = 1048576 }
+
 -- the files that a command reads, in order
 abbrev pub reads : Command → List Source
 reads (Solve file cert turns seed) = instance_at file ∷ []
@@ -32,6 +36,7 @@ reads (Drill turns seed) = []
 reads (Upgrade file cert renewed) = instance_at file ∷ certificate_at cert ∷ []
 reads (Postman file) = instance_at file ∷ []
 reads (Fleet file turns) = instance_at file ∷ []
+reads (Edit file cert edits edited carried) = instance_at file ∷ certificate_at cert ∷ edits_at edits ∷ []
 
 -- the names that a command keeps where it is done, in order
 abbrev pub keeps : Command → List (List ℕ)
@@ -43,6 +48,7 @@ keeps (Drill turns seed) = []
 keeps (Upgrade file cert renewed) = renewed ∷ []
 keeps (Postman file) = []
 keeps (Fleet file turns) = []
+keeps (Edit file cert edits edited carried) = edited ∷ carried ∷ []
 
 -- whether a command asks the helpers
 abbrev pub asks_helpers : Command → Bool
@@ -54,6 +60,7 @@ asks_helpers (Drill turns seed) = true
 asks_helpers (Upgrade file cert renewed) = false
 asks_helpers (Postman file) = false
 asks_helpers (Fleet file turns) = false
+asks_helpers (Edit file cert edits edited carried) = false
 
 -- the seed with which a command asks them
 abbrev pub seed_of : Command → ℕ
@@ -65,6 +72,7 @@ seed_of (Drill turns seed) = seed
 seed_of (Upgrade file cert renewed) = 0
 seed_of (Postman file) = 0
 seed_of (Fleet file turns) = 0
+seed_of (Edit file cert edits edited carried) = 0
 
 -- words that are no command read nothing, keep nothing and ask no helper
 abbrev pub sources_of : Option Command → List Source

@@ -16,6 +16,7 @@ command_in (variants.Drill turns seed) = commands.Drill turns seed
 command_in (variants.Upgrade file cert renewed) = commands.Upgrade file.now cert.now renewed.now
 command_in (variants.Postman file) = commands.Postman file.now
 command_in (variants.Fleet file turns) = commands.Fleet file.now turns
+command_in (variants.Edit file cert edits edited carried) = commands.Edit file.now cert.now edits.now edited.now carried.now
 
 -- the code's form is this row of the table
 abbrev pub IsForm : Takes → words.Form → Type 0

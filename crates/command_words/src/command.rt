@@ -51,4 +51,12 @@ pub enum Command<'a> {
         /// The most turns of the search: 1 to 1,048,576.
         turns: u64,
     },
+    /// Edits the instance of `file` by `edits`, keeps it at `edited`, and keeps the certificate of `cert`, carried over to it, at `carried`.
+    Edit {
+        file: &'a str,
+        cert: &'a str,
+        edits: &'a str,
+        edited: &'a str,
+        carried: &'a str,
+    },
 }

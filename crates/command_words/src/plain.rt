@@ -76,6 +76,11 @@ fn form_of(verb: &str) -> Option<Takes>
             turns: true,
             seed: false,
         }),
+        "edit" => Some(Takes {
+            names: 5,
+            turns: false,
+            seed: false,
+        }),
         _ => None,
     }
 }
