@@ -1,5 +1,5 @@
 -- The turns that plain words ask for.
-use Rattle.std.proofs.Common.{◌≡◌, ℕ, ◌≤◌, ◌&&◌, ◌||◌, Bool, true, false, not, List, [], ◌∷◌, length, drop, take, refl, sym, ap, ◌∙◌, arith, true≢false, codes, nat_le, Option, Some, None, subst}
+use Rattle.std.proofs.Common.{◌≡◌, ℕ, ◌≤◌, ◌&&◌, ◌||◌, Bool, true, false, not, List, [], ◌∷◌, length, drop, take, refl, sym, arith, true≢false, codes, nat_le, Option, Some, None, subst}
 use Rattle.std.specs.List.{AllByRecursion}
 use Rattle.std.specs.Prelude.{IfSome, find, if◌then◌else◌, is_some, option_and_then, unwrap_or}
 use Rattle.std.specs.Str.{bytes_eq}
@@ -7,7 +7,7 @@ use Rattle.std.proofs.lemmas.Bool.{leb-true}
 use Rattle.std.proofs.lemmas.Slice.Eq.{bytes_eq-Decides}
 use Rattle.command_words.specs.Commands.{Command}
 use Rattle.command_words.specs.Laws.{HasBudget}
-use Rattle.command_words.specs.Words.{Form, are_names, are_names_and_options, are_options, are_turns, check, command_of, command_with, drill, fleet, forms, given, is_followed, is_given, is_number, is_option, make, number_of, postman, seed_word, sheet, solve, turns_word, upgrade}
+use Rattle.command_words.specs.Words.{Form, are_names, are_names_and_options, are_options, are_turns, check, command_of, command_with, drill, edit, fleet, forms, given, is_followed, is_given, is_number, is_option, make, number_of, postman, seed_word, sheet, solve, turns_word, upgrade}
 use Rattle.command_words.proofs.Numbers.{both}
 
 abbrev IsBudget : ℕ → Type 0
@@ -80,6 +80,15 @@ module _ (t s : ℕ) where
   postman_in (a ∷ []) = tt
   postman_in (a ∷ x ∷ xs) = tt
 
+  edit_in : (names : List (List ℕ)) → IfSome (edit names t s) HasBudget
+  edit_in [] = tt
+  edit_in (a ∷ []) = tt
+  edit_in (a ∷ b ∷ []) = tt
+  edit_in (a ∷ b ∷ c ∷ []) = tt
+  edit_in (a ∷ b ∷ c ∷ d ∷ []) = tt
+  edit_in (a ∷ b ∷ c ∷ d ∷ e ∷ []) = tt
+  edit_in (a ∷ b ∷ c ∷ d ∷ e ∷ x ∷ xs) = tt
+
   upgrade_in : (names : List (List ℕ)) → IfSome (upgrade names t s) HasBudget
   upgrade_in [] = tt
   upgrade_in (a ∷ []) = tt
@@ -142,7 +151,10 @@ budget_in (verb ∷ words) =
                 without_turns words (row (codes "upgrade") 3 None upgrade) (λ names t s. upgrade_in t s names),
                 (
                   without_turns words (row (codes "postman") 1 None postman) (λ names t s. postman_in t s names),
-                  (with_turns words (codes "fleet") 1 64 None fleet (omega arith, omega arith) fleet_in, tt),
+                  (
+                    with_turns words (codes "fleet") 1 64 None fleet (omega arith, omega arith) fleet_in,
+                    (without_turns words (row (codes "edit") 5 None edit) (λ names t s. edit_in t s names), tt),
+                  ),
                 ),
               ),
             ),

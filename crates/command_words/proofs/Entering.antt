@@ -100,3 +100,12 @@ fleet_enters = record {
       let stops = walk_stopped top.rules names (walk_from nothing_held) (codes "fleet") [] words in rw (← stops, left, passes) refl;
   rows_are = λ words. let stops = walk_stopped top.rules names (walk_from nothing_held) (codes "fleet") [] words in rw (← stops) refl;
 }
+
+pub edit_enters : Enters (codes "edit")
+unfolding clap_on_literals top names
+edit_enters = record {
+  takes_is = λ words passes.
+      let left = left_over top names (walk_from nothing_held) (codes "edit") [] words in
+      let stops = walk_stopped top.rules names (walk_from nothing_held) (codes "edit") [] words in rw (← stops, left, passes) refl;
+  rows_are = λ words. let stops = walk_stopped top.rules names (walk_from nothing_held) (codes "edit") [] words in rw (← stops) refl;
+}

@@ -6,7 +6,7 @@ use Rattle.clap.specs.Simple.{Shape, built, label_of, new_shape}
 use Rattle.clap.specs.Walk.{Row, Text, answers_to}
 use Rattle.clap.specs.Words.{one_of}
 use Rattle.command_words.specs.Grammar.{HasNumber, IsRead, grammar_app}
-use Rattle.command_words.specs.Commands.{Command, Solve, Check, Sheet, Make, Drill, Upgrade, Postman, Fleet}
+use Rattle.command_words.specs.Commands.{Command, Solve, Check, Sheet, Make, Drill, Upgrade, Postman, Fleet, Edit}
 use Rattle.command_words.specs.Words.{is_number, number_of}
 use Rattle.command_words.proofs.Walking.{IsPlainText, Reads, goes_end, goes_name, goes_on, goes_value, reads}
 
@@ -47,6 +47,15 @@ module _ (file cert : Text) (f : IsPlainText file) (g : IsPlainText cert) where
     rows = _;
     level = reads (goes_name f refl (goes_name g refl (goes_name h refl goes_end))) refl;
     read = (refl, refl, refl, refl);
+  }
+
+  pub edit_read : (edits edited carried : Text) → IsPlainText edits → IsPlainText edited → IsPlainText carried →
+      IsReadAs (codes "edit") (file ∷ cert ∷ edits ∷ edited ∷ carried ∷ []) (Edit file cert edits edited carried)
+  unfolding clap_on_literals
+  edit_read edits edited carried h i j = record {
+    rows = _;
+    level = reads (goes_name f refl (goes_name g refl (goes_name h refl (goes_name i refl (goes_name j refl goes_end))))) refl;
+    read = (refl, refl, refl, refl, refl, refl);
   }
 
   pub solve_read : IsReadAs (codes "solve") (file ∷ cert ∷ []) (Solve file cert 64 1)

@@ -10,11 +10,11 @@ use Rattle.clap.specs.Takes.{takes}
 use Rattle.clap.specs.Walk.{Row, Text}
 use Rattle.clap.specs.Words.{subcommand_of}
 use Rattle.command_words.specs.Grammar.{IsRead, grammar_app}
-use Rattle.command_words.specs.Commands.{Command, Solve, Check, Sheet, Make, Drill, Upgrade, Postman, Fleet}
-use Rattle.command_words.specs.Words.{Form, are_names, are_options, are_turns, check, command_of, drill, fleet, forms, given, is_digit, is_followed, is_given, is_name, is_number, is_option, is_plain, make, postman, seed_word, sheet, solve, turns_word, upgrade}
+use Rattle.command_words.specs.Commands.{Command, Solve, Check, Sheet, Make, Drill, Upgrade, Postman, Fleet, Edit}
+use Rattle.command_words.specs.Words.{Form, are_names, are_options, are_turns, check, command_of, drill, edit, fleet, forms, given, is_digit, is_followed, is_given, is_name, is_number, is_option, is_plain, make, postman, seed_word, sheet, solve, turns_word, upgrade}
 use Rattle.command_words.proofs.Numbers.{both}
-use Rattle.command_words.proofs.Levels.{IsReadAs, check_read, drill_read, drill_seed_first, drill_seed_read, drill_turns_first, drill_turns_read, fleet_read, fleet_turns_read, make_read, make_seed_read, postman_read, seed_first, seed_read, sheet_read, solve_read, turns_first, turns_read, upgrade_read}
-use Rattle.command_words.proofs.Entering.{Enters, check_enters, drill_enters, fleet_enters, make_enters, postman_enters, sheet_enters, solve_enters, upgrade_enters}
+use Rattle.command_words.proofs.Levels.{IsReadAs, check_read, drill_read, drill_seed_first, drill_seed_read, drill_turns_first, drill_turns_read, edit_read, fleet_read, fleet_turns_read, make_read, make_seed_read, postman_read, seed_first, seed_read, sheet_read, solve_read, turns_first, turns_read, upgrade_read}
+use Rattle.command_words.proofs.Entering.{Enters, check_enters, drill_enters, edit_enters, fleet_enters, make_enters, postman_enters, sheet_enters, solve_enters, upgrade_enters}
 use Rattle.command_words.proofs.Walking.{IsPlainText, plain_text}
 
 -- plain words are taken, and read as their command
@@ -278,6 +278,24 @@ fleets (file ∷ options) e =
     means (codes "fleet") (file ∷ options) _ fleet_enters (rw e refl)
     (read_alone true false turns_word only_turns (λ options. IsReadAs (codes "fleet") (file ∷ options) (Fleet file (given turns_word 64 options))) (fleet_read file f) (fleet_turns_read file f) options k.1)
 
+edits : (words : List Text) → Follows (row (codes "edit") 5 None None edit) words
+edits [] e = cc
+edits (file ∷ []) e = cc
+edits (file ∷ cert ∷ []) e = cc
+edits (file ∷ cert ∷ list ∷ []) e = cc
+edits (file ∷ cert ∷ list ∷ edited ∷ []) e = cc
+edits (file ∷ cert ∷ list ∷ edited ∷ carried ∷ options) e =
+    let five = file ∷ cert ∷ list ∷ edited ∷ carried ∷ [] in
+    let k = both (nat_le 5 (length (file ∷ cert ∷ list ∷ edited ∷ carried ∷ options)) && are_names five) (are_options false false options) e in
+    let names = (both (nat_le 5 (length (file ∷ cert ∷ list ∷ edited ∷ carried ∷ options))) (are_names five) k.0).1 in
+    let four = other_names file (cert ∷ list ∷ edited ∷ carried ∷ []) names in
+    let three = other_names cert (list ∷ edited ∷ carried ∷ []) four in
+    let two = other_names list (edited ∷ carried ∷ []) three in
+    means (codes "edit") (file ∷ cert ∷ list ∷ edited ∷ carried ∷ options) (Edit file cert list edited carried) edit_enters (rw e refl)
+    (subst (λ rest. IsReadAs (codes "edit") (file ∷ cert ∷ list ∷ edited ∷ carried ∷ rest) (Edit file cert list edited carried)) (sym (none_read options k.1))
+    (edit_read file cert (first_name file (cert ∷ list ∷ edited ∷ carried ∷ []) names) (first_name cert (list ∷ edited ∷ carried ∷ []) four) list edited carried
+    (first_name list (edited ∷ carried ∷ []) three) (first_name edited (carried ∷ []) two) (first_name carried [] (other_names edited (carried ∷ []) two))))
+
 -- words that follow a verb of some rows, where those of each row mean their command
 by_rows : (rows : List Form) (verb : Text) (words : List Text) → AllByRecursion (λ form. Follows form words) rows
     → option_map_or (λ form. is_followed form words) (find (λ form. bytes_eq form.verb verb) rows) false ≡ true → Means (verb ∷ words)
@@ -292,4 +310,4 @@ by_rows (form ∷ rows) verb words each e = by (bytes_eq form.verb verb) refl (�
 -- the verb of plain words is one of the table
 pub plain_means : (words : List Text) → is_plain words ≡ true → Means words
 plain_means [] e = cc
-plain_means (verb ∷ words) e = by_rows forms verb words (solves words, (checks words, (sheets words, (makes words, (drills words, (upgrades words, (postmen words, (fleets words, tt)))))))) e
+plain_means (verb ∷ words) e = by_rows forms verb words (solves words, (checks words, (sheets words, (makes words, (drills words, (upgrades words, (postmen words, (fleets words, (edits words, tt))))))))) e

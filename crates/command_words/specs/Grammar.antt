@@ -3,7 +3,7 @@ use Rattle.std.specs.Prelude.{◌≡◌, ℕ, true, List, [], ◌∷◌, Some, c
 use Rattle.clap.specs.Simple.{on_top}
 use Rattle.clap.specs.Words.{App, Row, Rule, Text, first_of, new_app, new_rule, one_of, subcommand_rows_of, with_rule, with_subcommand}
 use Rattle.clap.specs.declared.parser.matches.ArgMatches.{ArgMatches}
-use Rattle.command_words.specs.Commands.{Command, Solve, Check, Sheet, Make, Drill, Upgrade, Postman, Fleet}
+use Rattle.command_words.specs.Commands.{Command, Solve, Check, Sheet, Make, Drill, Upgrade, Postman, Fleet, Edit}
 use Rattle.command_words.specs.Words.{is_number, number_of}
 
 abbrev pub name_rule : Text → Rule
@@ -39,6 +39,9 @@ drill_app = with_seed (with_turns (codes "4") (new_app (codes "drill")))
 abbrev pub upgrade_app : App
 upgrade_app = with_rule (two_names (codes "upgrade")) (name_rule (codes "renewed"))
 
+abbrev pub edit_app : App
+edit_app = with_rule (with_rule (with_rule (two_names (codes "edit")) (name_rule (codes "edits"))) (name_rule (codes "edited"))) (name_rule (codes "carried"))
+
 abbrev pub without_name : App → App
 without_name = on_top (λ s. record s { no_binary_name = true })
 
@@ -51,7 +54,7 @@ abbrev pub middle_app : App
 middle_app = with_subcommand (with_subcommand (with_subcommand proving_app make_app.top) drill_app.top) upgrade_app.top
 
 abbrev pub grammar_app : App
-grammar_app = with_subcommand (with_subcommand middle_app (one_name (codes "postman")).top) fleet_app.top
+grammar_app = with_subcommand (with_subcommand (with_subcommand middle_app (one_name (codes "postman")).top) fleet_app.top) edit_app.top
 
 -- the matches have a name, and a number
 abbrev pub HasName : Text → Text → List Row → Type 0
@@ -75,6 +78,9 @@ IsRead (Upgrade file cert renewed) verb rows =
     (verb ≡ codes "upgrade") × HasName (codes "file") file rows × HasName (codes "cert") cert rows × HasName (codes "renewed") renewed rows
 IsRead (Postman file) verb rows = (verb ≡ codes "postman") × HasName (codes "file") file rows
 IsRead (Fleet file turns) verb rows = (verb ≡ codes "fleet") × HasName (codes "file") file rows × HasNumber (codes "turns") turns rows
+IsRead (Edit file cert edits edited carried) verb rows =
+    (verb ≡ codes "edit") × HasName (codes "file") file rows × HasName (codes "cert") cert rows × HasName (codes "edits") edits rows × HasName (codes "edited") edited rows
+    × HasName (codes "carried") carried rows
 
 pub record AreMatchesOf (c : Command) (m : ArgMatches) : Type 0 where
   pub verb : Text

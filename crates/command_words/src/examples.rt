@@ -1,6 +1,6 @@
 // Words that are plain, with the commands that they are, and words that are not.
 ghost use Rattle.std.specs.Prelude.{◌≡◌, [], ◌∷◌, None, Some, codes};
-ghost use Rattle.command_words.specs.Commands.{Solve, Check, Sheet, Make, Drill, Upgrade, Postman, Fleet};
+ghost use Rattle.command_words.specs.Commands.{Solve, Check, Sheet, Make, Drill, Upgrade, Postman, Fleet, Edit};
 ghost use Rattle.command_words.specs.Words.{command_of};
 
 #[tactic(auto, unfolding(crate::specs::Words::is_option, crate::specs::Words::is_given))]
@@ -20,6 +20,7 @@ fn words_are_plain()
     ensures postman { command_of (codes "postman" ∷ codes "f" ∷ []) ≡ Some (Postman (codes "f")) }
     ensures fleet { command_of (codes "fleet" ∷ codes "f" ∷ []) ≡ Some (Fleet (codes "f") 64) }
     ensures fleet_turns { command_of (codes "fleet" ∷ codes "f" ∷ codes "--turns" ∷ codes "9" ∷ []) ≡ Some (Fleet (codes "f") 9) }
+    ensures edit { command_of (codes "edit" ∷ codes "f" ∷ codes "c" ∷ codes "e" ∷ codes "n" ∷ codes "k" ∷ []) ≡ Some (Edit (codes "f") (codes "c") (codes "e") (codes "n") (codes "k")) }
     ensures upgrade { command_of (codes "upgrade" ∷ codes "f" ∷ codes "c" ∷ codes "n" ∷ []) ≡ Some (Upgrade (codes "f") (codes "c") (codes "n")) }
 {}
 

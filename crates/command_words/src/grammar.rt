@@ -7,7 +7,7 @@ ghost use Rattle.clap.specs.declared.builder.command.Command.TheViews.{out-Comma
 ghost use Rattle.command_words.specs.Commands as commands;
 ghost use Rattle.command_words.specs.Words.{texts_of, command_of, is_number, is_plain, number_of};
 ghost use Rattle.command_words.specs.Forms.{command_in};
-ghost use Rattle.command_words.specs.Grammar.{AreMatchesOf, HasName, HasNumber, drill_app, fleet_app, grammar_app, make_app, middle_app, name_rule, one_name, option_rule, proving_app, solve_app, two_names, upgrade_app};
+ghost use Rattle.command_words.specs.Grammar.{AreMatchesOf, HasName, HasNumber, drill_app, edit_app, fleet_app, grammar_app, make_app, middle_app, name_rule, one_name, option_rule, proving_app, solve_app, two_names, upgrade_app};
 
 use crate::command::Command;
 use carp_base::Memory;
@@ -38,10 +38,11 @@ fn grammar<'a>(alloc: Global) -> Result<clap::Command<'a>, AllocError>
 {
     middle(alloc)?
         .subcommand(one_name(alloc, "postman")?)?
-        .subcommand(fleet(alloc)?)
+        .subcommand(fleet(alloc)?)?
+        .subcommand(edit(alloc)?)
 }
 
-// The verbs but for those that solve a neighbouring problem.
+// The verbs but for those that solve a neighbouring problem, and for an edit.
 fn middle<'a>(alloc: Global) -> Result<clap::Command<'a>, AllocError>
     ensures { IfOk result (λ c. app_of c ≡ middle_app) }
 {
@@ -83,6 +84,16 @@ fn fleet<'a>(alloc: Global) -> Result<clap::Command<'a>, AllocError>
     ensures local { IfOk result (λ c. (fields_of c).has_globals ≡ false) }
 {
     one_name(alloc, "fleet")?.arg(option(alloc, "turns", "64"))
+}
+
+fn edit<'a>(alloc: Global) -> Result<clap::Command<'a>, AllocError>
+    ensures app { IfOk result (λ c. app_of c ≡ edit_app) }
+    ensures local { IfOk result (λ c. (fields_of c).has_globals ≡ false) }
+{
+    two_names(alloc, "edit")?
+        .arg(name(alloc, "edits"))?
+        .arg(name(alloc, "edited"))?
+        .arg(name(alloc, "carried"))
 }
 
 // A verb with an instance alone.
@@ -147,6 +158,7 @@ fn command_from<'a>(matches: &ArgMatches<'a>) -> Option<Command<'a>>
         "upgrade" => upgrade_from(inner),
         "postman" => postman_from(inner),
         "fleet" => fleet_from(inner),
+        "edit" => edit_from(inner),
         _ => None,
     }
 }
@@ -233,6 +245,26 @@ fn fleet_from<'a>(matches: &ArgMatches<'a>) -> Option<Command<'a>>
     let file = name_in(matches, "file")?;
     let turns = number_in(matches, "turns")?;
     Some(Command::Fleet { file, turns })
+}
+
+fn edit_from<'a>(matches: &ArgMatches<'a>) -> Option<Command<'a>>
+    ensures { (file cert edits edited carried : List ℕ) → HasName (codes "file") file (rows_of (found_of matches.now)) → HasName (codes "cert") cert (rows_of (found_of matches.now))
+        → HasName (codes "edits") edits (rows_of (found_of matches.now)) → HasName (codes "edited") edited (rows_of (found_of matches.now))
+        → HasName (codes "carried") carried (rows_of (found_of matches.now))
+        → IsSomeAnd result (λ r. command_in r ≡ commands.Edit file cert edits edited carried) }
+{
+    let file = name_in(matches, "file")?;
+    let cert = name_in(matches, "cert")?;
+    let edits = name_in(matches, "edits")?;
+    let edited = name_in(matches, "edited")?;
+    let carried = name_in(matches, "carried")?;
+    Some(Command::Edit {
+        file,
+        cert,
+        edits,
+        edited,
+        carried,
+    })
 }
 
 fn name_in<'a>(matches: &ArgMatches<'a>, id: &str) -> Option<&'a str>

@@ -26,6 +26,7 @@ const ROWS: &str = "\
     postman file | postman file\n\
     fleet file | fleet file 64\n\
     fleet file --turns 1048576 | fleet file 1048576\n\
+    edit file cert edits new renewed | edit file cert edits new renewed\n\
     |\n\
     solve |\n\
     solve file |\n\
@@ -75,6 +76,11 @@ const ROWS: &str = "\
     fleet file --turns 1048577 |\n\
     fleet file --seed 1 |\n\
     fleet file --turns 1 --turns 1 |\n\
+    edit file cert edits new |\n\
+    edit file cert edits new renewed more |\n\
+    edit file cert edits new new |\n\
+    edit file cert edits new cert |\n\
+    edit file cert edits new renewed --seed 1 |\n\
     check file |\n\
     check file file |\n\
     check file cert other |\n\
@@ -120,6 +126,15 @@ fn told(alloc: Global, command: Option<Command<'_>>) -> Result<String, Fail> {
         Some(Command::Drill { turns, seed }) => Ok(format!(in alloc; "drill {turns} {seed}")?),
         Some(Command::Postman { file }) => Ok(format!(in alloc; "postman {file}")?),
         Some(Command::Fleet { file, turns }) => Ok(format!(in alloc; "fleet {file} {turns}")?),
+        Some(
+            Command::Edit {
+                file,
+                cert,
+                edits,
+                edited,
+                carried,
+            },
+        ) => Ok(format!(in alloc; "edit {file} {cert} {edits} {edited} {carried}")?),
     }
 }
 

@@ -12,4 +12,5 @@ returns-in_default c =
     let upgrade : bytes_eq (codes "upgrade") c.args.verb.now ≡ false = search rules in
     let postman : bytes_eq (codes "postman") c.args.verb.now ≡ false = search rules in
     let fleet : bytes_eq (codes "fleet") c.args.verb.now ≡ false = search rules in
-    rw (solve, check, sheet, make, drill, upgrade, postman, fleet) refl
+    let edit : bytes_eq (codes "edit") c.args.verb.now ≡ false = search rules in
+    rw (solve, check, sheet, make, drill, upgrade, postman, fleet, edit) refl
