@@ -6,6 +6,8 @@
 //! have values.
 #![tactic(auto)]
 
+#[cfg(test)]
+mod examples;
 mod laws;
 
 pub use laws::carried_trees_show;
