@@ -3,3 +3,4 @@ pub mod Needs
 pub mod Fitting
 pub mod FixedRising
 pub mod Edited
+pub mod SmallStreets

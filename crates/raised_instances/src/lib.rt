@@ -4,6 +4,8 @@
 //! are facts about the new one.
 #![tactic(auto)]
 
+#[cfg(test)]
+mod examples;
 mod laws;
 
 pub use laws::{
