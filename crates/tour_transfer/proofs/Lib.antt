@@ -3,3 +3,4 @@ pub mod Counting
 pub mod Parts
 pub mod Whole
 pub mod WalkTasks
+pub mod SameServices

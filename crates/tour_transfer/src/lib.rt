@@ -7,6 +7,10 @@
 
 mod carrying;
 mod cutting;
+#[cfg(test)]
+mod examples;
 mod reading;
+#[cfg(test)]
+mod tests;
 
 pub use carrying::carry_plan;
