@@ -5,7 +5,6 @@ pub mod Taking
 pub mod Reading
 pub mod FileAnswers
 pub mod Backing
-pub mod Entering
 pub mod Filling
 pub mod Firsts
 pub mod Pricing
