@@ -3,3 +3,4 @@ pub mod Walking
 pub mod Uniqueness
 pub mod ChainTours
 pub mod PlanParts
+pub mod FixedSums

@@ -1,3 +1,4 @@
 pub mod FixedValue
+pub mod Laws
 pub mod ChainWalks
 pub mod ChainPlans

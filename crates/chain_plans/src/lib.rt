@@ -3,9 +3,11 @@
 //! [`plan`] drives each chain as it stands, each edge in the better direction, and costs the fixed value of the decisions.
 #![tactic(auto)]
 
+mod laws;
 mod ordering;
 mod planning;
 #[cfg(test)]
 mod tests;
 
+pub use laws::fixed_values_compare;
 pub use planning::plan;

@@ -1,0 +1,5 @@
+pub mod Rising
+pub mod Needs
+pub mod Fitting
+pub mod FixedRising
+pub mod Edited

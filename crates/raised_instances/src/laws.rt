@@ -1,0 +1,30 @@
+// Laws over raised instances, as functions whose contract is the law.
+ghost use Rattle.raised_instances.specs.Laws.{DeadheadsStayLight, EditsRaise, FixedValuesRise, NeedsRise, SetsStayFit};
+
+use chain_plans::fixed_values_compare;
+use deadhead_paths::least_prices_are_there;
+
+/// Edits raise an instance: they only add to numbers, and close only streets that need no service.
+pub fn edits_raise_instances()
+    ensures { EditsRaise }
+{}
+
+/// In a raised instance a set of vertices has as many required crossings as before, and needs no fewer deadheads.
+pub fn raised_needs_are_no_less()
+    ensures { NeedsRise }
+{}
+
+/// A price set that fits an instance fits a raised one, also under a branch that has the same upper numbers and excludes no fewer pairs.
+pub fn raised_sets_stay_fit()
+    ensures deadheads { DeadheadsStayLight }
+    ensures fit { SetsStayFit }
+{
+    least_prices_are_there();
+}
+
+/// With the same yes pairs, all of required edges, the fixed value in a raised instance is no less.
+pub fn raised_fixed_values_are_no_less()
+    ensures { FixedValuesRise }
+{
+    fixed_values_compare();
+}
