@@ -2,7 +2,7 @@
 ghost use Rattle.std.specs.Prelude.{◌≡◌, ◌-◌, ◌≤◌, ◌↔◌, All, IfOk, IsTrue, length, false};
 ghost use Rattle.decision_chains.specs.ChainTables.{IsChainTable};
 ghost use Rattle.branch_rules.specs.Crossings.{IsCrossed, IsCrossing, IsUncrossed};
-ghost use Rattle.decision_chains.specs.Exclusions.{IsDetermined, PermitsUnexcluded};
+ghost use Rattle.decision_chains.specs.Exclusions.{Excluded, IsDetermined, PermitsUnexcluded};
 ghost use Rattle.branch_rules.specs.Decisions.{IsFixed, IsVoid, cuts_of};
 ghost use Rattle.chain_plans.specs.FixedValue.{HasFixedValue};
 ghost use Rattle.decision_chains.specs.Pairs.{ArePairsIn};
@@ -40,6 +40,19 @@ impl Branch {
     {
         let chains = Chains::of(alloc, inst, self.decisions())?;
         chains.allowed(alloc)
+    }
+
+    /// Whether a pair of required edges is excluded: as [`allowed`](Branch::allowed) says of all pairs.
+    ///
+    /// With m required edges and d decisions it takes time in proportion to m * m + d at most.
+    pub fn excluded(&self, alloc: Global, inst: &Instance, a: u32, b: u32) -> Result<bool, Memory>
+        requires pairs { ArePairsIn inst.now self.now }
+        requires a { IsRequired inst.now a }
+        requires b { IsRequired inst.now b }
+        ensures { IfOk result (λ out. IsTrue out ↔ Excluded inst.now self.now a b) }
+    {
+        let chains = Chains::of(alloc, inst, self.decisions())?;
+        Ok(chains.excludes(a, b))
     }
 
     /// Whether a pair of required edges is yes or excluded.

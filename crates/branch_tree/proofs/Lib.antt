@@ -1,5 +1,4 @@
 mod Numbers
-mod Rounding
 mod Decisions
 mod FixedOnce
 mod PlanCosts

@@ -29,7 +29,7 @@ use Rattle.branch_tree.specs.Steps.{IsAsBefore, IsStep}
 use Rattle.branch_tree.specs.declared.search.Search.{Search}
 use Rattle.branch_tree.specs.declared.search.Turn.{Turn}
 use Rattle.branch_tree.specs.declared.search.Turn.TheVariants.{Closed, Split}
-use Rattle.branch_tree.specs.Values.{IsMostShown}
+use Rattle.grown_trees.specs.Values.{IsMostShown}
 use Rattle.branch_tree.proofs.PlanCosts.{cost_is_small}
 use Rattle.branch_tree.proofs.Pools.{may_stand, names_then, no_lower_now, pool_grows}
 use Rattle.branch_tree.proofs.Standing.{leaf_shores, named_shores, raised_value_some}

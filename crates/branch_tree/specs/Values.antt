@@ -1,5 +1,5 @@
--- Values that reach the floors of the bound, and the greatest bound that a value shows.
-use Rattle.std.specs.Prelude.{◌⊎◌, ◌↔◌, ℕ, ◌+◌, ◌*◌, ◌^◌, ◌<◌, ◌≤◌, Bool, List, ℤ, pos, ◌-ℤ◌, ◌*ℤ◌, ◌≤ℤ◌, ◌<ℤ◌}
+-- Values that reach the floors of the bound.
+use Rattle.std.specs.Prelude.{ℕ, ◌+◌, ◌*◌, ◌≤◌, Bool, List, pos, ◌*ℤ◌, ◌≤ℤ◌}
 use Rattle.carp_base.specs.Problem.{Problem, required_cost, total_demand}
 use Rattle.plan_model.specs.Plans.{IsLawful, plan_cost}
 use Rattle.plan_model.specs.declared.step.Step.{Step}
@@ -20,13 +20,3 @@ pub record ReachesFloors (p : Problem) (base : Fraction) : Type 0 where
       pos (base.unit * (required_cost p * load + total_demand p * deadhead)) ≤ℤ (base.value *ℤ pos load)
   pub join : (value : ℕ) → IsLeastJoin p value → pos (base.unit * (required_cost p + value)) ≤ℤ base.value
   pub below : (plan : List (List Step)) → IsLawful p plan → base.value ≤ℤ pos (base.unit * plan_cost p plan)
-
--- a value, in parts of a unit, is above the bound less 1
-abbrev pub IsShown : ℕ → ℤ → ℕ → Type 0
-IsShown unit value bound = (pos unit *ℤ (pos bound -ℤ pos 1)) <ℤ value
-
--- A value shows each bound up to this number, and no greater one; bounds are below 10^18. So the value is no more than the number, or the
--- number is above all bounds.
-pub record IsMostShown (unit : ℕ) (value : ℤ) (most : ℕ) : Type 0 where
-  pub shown : (bound : ℕ) → bound < 10 ^ 18 → IsShown unit value bound ↔ (bound ≤ most)
-  pub covers : (value ≤ℤ pos (unit * most)) ⊎ (10 ^ 18 ≤ most)

@@ -9,13 +9,13 @@ ghost use Rattle.grown_trees.specs.Laws.{IsOpenDecision};
 ghost use Rattle.grown_trees.specs.Places.{IsFineNode};
 ghost use Rattle.branch_tree.specs.Leaves.{AreShown, IsSplitNode};
 ghost use Rattle.branch_tree.specs.Splits.{IsInner, first_of, second_of};
-ghost use Rattle.branch_tree.specs.Values.{IsMostShown};
+ghost use Rattle.grown_trees.specs.Values.{IsMostShown};
 
 use crate::laws::known_laws;
-use crate::values::shown_under;
 use branch_rules::{Branch, Decision, Node, PriceSet};
 use carp_base::{Instance, Memory};
 use cut_pool::ShorePool;
+use grown_trees::shown_under;
 
 // The greatest bounds that a price set shows under the decisions of both children of a node.
 #[derive(Clone, Copy, Debug, PartialEq, Eq)]

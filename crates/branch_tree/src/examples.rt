@@ -1,25 +1,10 @@
 // Small data on which a fact that no call decides holds, and on which it does not.
-ghost use Rattle.std.specs.Prelude.{◌≡◌, pos};
+ghost use Rattle.std.specs.Prelude.{◌≡◌};
 ghost use Rattle.decision_chains.specs.declared.decision.Decision.TheVariants.{High, Low};
 ghost use Rattle.branch_rules.specs.declared.node.Node.TheVariants.{Cut, Fixed};
 ghost use Rattle.branch_tree.specs.Examples.{closed_state, half_open_state};
 ghost use Rattle.branch_tree.specs.Splits.{IsInner, first_of, second_of};
 ghost use Rattle.branch_tree.specs.Steps.{AreClosed};
-ghost use Rattle.branch_tree.specs.Values.{IsMostShown, IsShown};
-
-// Seven halves are rounded up to 4.
-fn a_value_is_rounded_up()
-    ensures most { IsMostShown 2 (pos 7) 4 }
-    ensures less { ¬ (IsMostShown 2 (pos 7) 3) }
-    ensures more { ¬ (IsMostShown 2 (pos 7) 5) }
-    ensures whole { IsMostShown 2 (pos 8) 4 }
-{}
-
-fn a_bound_is_shown()
-    ensures last { IsShown 2 (pos 7) 4 }
-    ensures next { ¬ (IsShown 2 (pos 7) 5) }
-    ensures whole { ¬ (IsShown 2 (pos 8) 5) }
-{}
 
 fn leaves_that_show_the_cost()
     ensures all { AreClosed closed_state }

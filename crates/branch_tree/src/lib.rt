@@ -17,7 +17,6 @@ mod splitting;
 mod stepping;
 #[cfg(test)]
 mod tests;
-mod values;
 
 pub use finishing::Found;
 pub use laws::short_plans_cost_little;

@@ -6,7 +6,7 @@ use Rattle.decision_chains.specs.declared.decision.Decision.TheVariants.{Yes, No
 use Rattle.decision_chains.specs.Exclusions.{Excluded}
 use Rattle.chain_plans.specs.FixedValue.{HasFixedValue}
 use Rattle.branch_rules.specs.Decisions.{lower_of, IsVoid, IsFixed}
-use Rattle.branch_rules.specs.Trees.{Tree, pair, cut, price, void, fixed, Support, PairsIn, IsLean, PriceShows}
+use Rattle.branch_rules.specs.Trees.{Tree, pair, cut, price, void, fixed, Support, PriceShows}
 
 -- The tree of an instance, carried over from an older one: a node whose pair is excluded under the decisions that are left gives way to
 -- its second child, and so does a cut whose number is below the lower number of its shore; all other nodes stay.
@@ -14,11 +14,11 @@ abbrev pub IsCarried : Problem → List (List ℕ) → List Decision → (old ne
 IsCarried p pool branch (pair a b together apart) new =
     (Excluded p branch a b × IsCarried p pool branch apart new)
     ⊎ ((¬ (Excluded p branch a b))
-      × ((t : Tree) × (u : Tree) × IsCarried p pool (branch ++ Yes a b ∷ []) together t × IsCarried p pool (branch ++ No a b ∷ []) apart u × (new ≡ pair a b t u)))
+    × ((t : Tree) × (u : Tree) × IsCarried p pool (branch ++ Yes a b ∷ []) together t × IsCarried p pool (branch ++ No a b ∷ []) apart u × (new ≡ pair a b t u)))
 IsCarried p pool branch (cut shore k below above) new =
     ((k < lower_of p pool branch shore) × IsCarried p pool branch above new)
     ⊎ ((lower_of p pool branch shore ≤ k)
-      × ((t : Tree) × (u : Tree) × IsCarried p pool (branch ++ Low shore k ∷ []) below t × IsCarried p pool (branch ++ High shore k ∷ []) above u × (new ≡ cut shore k t u)))
+    × ((t : Tree) × (u : Tree) × IsCarried p pool (branch ++ Low shore k ∷ []) below t × IsCarried p pool (branch ++ High shore k ∷ []) above u × (new ≡ cut shore k t u)))
 IsCarried p pool branch (price set) new = new ≡ price set
 IsCarried p pool branch void new = new ≡ void
 IsCarried p pool branch fixed new = new ≡ fixed

@@ -2,7 +2,7 @@
 ghost use Rattle.std.specs.Prelude.{◌≡◌, ℕ, ◌<◌, ◌≤◌, ◌↔◌, ◌||◌, All, IfOk, IsTrue, MatchBool, false, true};
 ghost use Rattle.std.specs.List.{list_any};
 ghost use Rattle.decision_chains.specs.ChainTables.{IsChainTable, IsNoOut, IsOut, TakesExcluded, is_barred};
-ghost use Rattle.decision_chains.specs.Exclusions.{IsDetermined, IsHeavy, IsNo, PermitsUnexcluded, says_no};
+ghost use Rattle.decision_chains.specs.Exclusions.{Excluded, IsDetermined, IsHeavy, IsNo, PermitsUnexcluded, says_no};
 ghost use Rattle.decision_chains.specs.Pairs.{HasPairWithin};
 ghost use Rattle.decision_chains.specs.declared.decision.Decision.TheVariants.{No};
 ghost use Rattle.carp_base.specs.Problem.{IsRequired};
@@ -122,6 +122,16 @@ impl Chains<'_> {
         ensures { IsTrue result ↔ IsDetermined self.now.inst.now self.now.decisions.now a b }
     {
         settles(self.joins(a, b), self.bars(a, b), self.says_no(a, b))
+    }
+
+    /// Whether a pair of required edges is excluded. It takes no memory, and time in proportion to the decisions.
+    pub fn excludes(&self, a: u32, b: u32) -> bool
+        requires table { IsChainTable self.now }
+        requires a { IsRequired self.now.inst.now a }
+        requires b { IsRequired self.now.inst.now b }
+        ensures { IsTrue result ↔ Excluded self.now.inst.now self.now.decisions.now a b }
+    {
+        self.bars(a, b) || self.says_no(a, b)
     }
 
     // Whether the pair is permitted, and no yes pair.

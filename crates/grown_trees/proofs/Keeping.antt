@@ -72,7 +72,7 @@ module _ (branch : List Decision) (d : Decision) where
   -- A decision that says yes to no other pair.
 
   module _ (p : Problem) (back : (a b : ℕ) → IsYes longer a b → IsYes branch a b) where
-    path_back : (a b : ℕ) (path : List ℕ) → YesPath longer a path b → YesPath branch a path b
+    pub path_back : (a b : ℕ) (path : List ℕ) → YesPath longer a path b → YesPath branch a path b
     path_back a b [] steps = steps
     path_back a b (z ∷ path) steps = (back a z steps.0, path_back z b path steps.1)
 
@@ -99,7 +99,7 @@ module _ (laws : YesPairsJoin) (turn : ExcludedIsSymmetric) (p : Problem) (branc
   abbrev said : List Decision
   said = branch ++ Yes m n ∷ []
 
-  turned_too : ¬ (IsDetermined p branch n m)
+  pub turned_too : ¬ (IsDetermined p branch n m)
   turned_too (inl is) = undetermined (inl (laws.yes_turned branch n m is))
   turned_too (inr excluded) = undetermined (inr (turn p branch n m excluded))
 
@@ -187,7 +187,7 @@ module _ (laws : YesPairsJoin) (turn : ExcludedIsSymmetric) (p : Problem) (branc
   link_step a z b (inr (inl new)) rest = subst (λ u. Link u b) (sym new.0) (link_over b (subst (λ u. Link u b) new.1 rest))
   link_step a z b (inr (inr new)) rest = subst (λ u. Link u b) (sym new.0) (link_back b (subst (λ u. Link u b) new.1 rest))
 
-  links : (a b : ℕ) (path : List ℕ) → YesPath said a path b → Link a b
+  pub links : (a b : ℕ) (path : List ℕ) → YesPath said a path b → Link a b
   links a b [] steps = inl (here a b steps)
   links a b (z ∷ path) steps = link_step a z b (new_pair a z steps.0) (links z b path steps.1)
 
@@ -217,10 +217,10 @@ module _ (laws : YesPairsJoin) (turn : ExcludedIsSymmetric) (p : Problem) (branc
   excluded_said a b (heavy apart over) = heavy (λ joined. apart_yet a b apart over (links a b joined.0 joined.1)) (heavy_old branch (Yes m n) p a b over)
 
 -- no decision says yes but a yes
-no_yes : (a b : ℕ) (branch : List Decision) (d : Decision) → says_yes a b d ≡ false → IsYes (branch ++ d ∷ []) a b → IsYes branch a b
+pub no_yes : (a b : ℕ) (branch : List Decision) (d : Decision) → says_yes a b d ≡ false → IsYes (branch ++ d ∷ []) a b → IsYes branch a b
 no_yes a b branch d none is = elim (yes_cases branch d a b is) [ inl old ↦ old | inr new ↦ absurd (cc) ]
 
-excluded_kept : (laws : YesPairsJoin) (turn : ExcludedIsSymmetric) (p : Problem) (branch : List Decision) (d : Decision) → IsOpenDecision p branch d → (a b : ℕ) →
+pub excluded_kept : (laws : YesPairsJoin) (turn : ExcludedIsSymmetric) (p : Problem) (branch : List Decision) (d : Decision) → IsOpenDecision p branch d → (a b : ℕ) →
     Excluded p branch a b → Excluded p (branch ++ d ∷ []) a b
 excluded_kept laws turn p branch (Yes m n) undetermined a b is = excluded_said laws turn p branch m n undetermined a b is
 excluded_kept laws turn p branch (No m n) undetermined a b is = excluded_plain branch (No m n) p (λ x y yes. no_yes x y branch (No m n) refl yes) a b is

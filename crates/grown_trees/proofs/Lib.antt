@@ -7,3 +7,5 @@ pub mod Widening
 pub mod Sound
 pub mod Leasts
 pub mod Keeping
+pub mod Rounding
+pub mod Light

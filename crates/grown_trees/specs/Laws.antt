@@ -4,7 +4,7 @@ use Rattle.std.specs.List.{All}
 use Rattle.carp_base.specs.Problem.{Problem}
 use Rattle.decision_chains.specs.declared.decision.Decision.{Decision}
 use Rattle.decision_chains.specs.declared.decision.Decision.TheVariants.{Yes, No, Low, High}
-use Rattle.decision_chains.specs.Exclusions.{IsDetermined}
+use Rattle.decision_chains.specs.Exclusions.{Excluded, IsDetermined, IsHeavy}
 use Rattle.branch_rules.specs.Decisions.{rules_of}
 use Rattle.branch_rules.specs.Laws.{FitsBranch}
 use Rattle.branch_rules.specs.Limits.{IsNodeIn}
@@ -73,3 +73,13 @@ pub record IsKept (p : Problem) (pool : List (List ℕ)) (branch : List Decision
 abbrev pub DecisionsKeepSets : Type 0
 DecisionsKeepSets = (p : Problem) (pool : List (List ℕ)) (branch : List Decision) (decision : Decision) (set : Prices) →
     IsOpenDecision p branch decision → FitsBranch p pool branch set → IsKept p pool branch decision set
+
+-- such a decision leaves each excluded pair excluded
+abbrev pub DecisionsKeepExclusions : Type 0
+DecisionsKeepExclusions = (p : Problem) (branch : List Decision) (decision : Decision) → IsOpenDecision p branch decision →
+    (a b : ℕ) → Excluded p branch a b → Excluded p (branch ++ decision ∷ []) a b
+
+-- where no chain is above the capacity, none is so after such a decision
+abbrev pub DecisionsKeepChainsLight : Type 0
+DecisionsKeepChainsLight = (p : Problem) (branch : List Decision) (decision : Decision) → IsOpenDecision p branch decision →
+    ((c : ℕ) → ¬ (IsHeavy p branch c c)) → (c : ℕ) → ¬ (IsHeavy p (branch ++ decision ∷ []) c c)

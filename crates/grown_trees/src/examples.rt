@@ -1,5 +1,5 @@
 // Small data on which a fact that no call decides holds, and on which it does not.
-ghost use Rattle.std.specs.Prelude.{◌≡◌, true, false, [], ◌∷◌};
+ghost use Rattle.std.specs.Prelude.{◌≡◌, pos, true, false, [], ◌∷◌};
 ghost use Rattle.cut_pool.specs.Examples.{in_a_row};
 ghost use Rattle.deadhead_paths.specs.Examples.{town};
 ghost use Rattle.decision_chains.specs.declared.decision.Decision.TheVariants.{High, Low, No, Yes};
@@ -11,6 +11,7 @@ ghost use Rattle.grown_trees.specs.Growth.{AreSound, IsLeastOpen, IsSoundNode, N
 ghost use Rattle.grown_trees.specs.Laws.{IsKept, IsOpenDecision};
 ghost use Rattle.grown_trees.specs.Places.{IsFineNode, IsLeaf, IsLeafAt, branch_to, grown, size_of};
 ghost use Rattle.grown_trees.specs.Stands.{HoldsShores, IsLeanStand, IsShownStand, NodeFits, PricesFit, stands, with_sets, with_shores};
+ghost use Rattle.grown_trees.specs.Values.{IsMostShown, IsShown};
 
 fn places_of_a_tree()
     ensures size { size_of low_tree ≡ 5 }
@@ -103,4 +104,18 @@ fn decisions_that_may_be_added()
     ensures one_edge { ¬ (IsOpenDecision (in_a_row 2) [] (Yes 1 1)) }
     ensures said { ¬ (IsOpenDecision (in_a_row 2) (No 1 2 ∷ []) (No 2 1)) }
     ensures not_fit { ¬ (IsKept town town_pool [] (Low 1 0) heavy_prices) }
+{}
+
+// Seven halves are rounded up to 4.
+fn a_value_is_rounded_up()
+    ensures most { IsMostShown 2 (pos 7) 4 }
+    ensures less { ¬ (IsMostShown 2 (pos 7) 3) }
+    ensures more { ¬ (IsMostShown 2 (pos 7) 5) }
+    ensures whole { IsMostShown 2 (pos 8) 4 }
+{}
+
+fn a_bound_is_shown()
+    ensures last { IsShown 2 (pos 7) 4 }
+    ensures next { ¬ (IsShown 2 (pos 7) 5) }
+    ensures whole { ¬ (IsShown 2 (pos 8) 5) }
 {}

@@ -1,5 +1,5 @@
 // Laws over trees that grow at their leaves, as functions whose contract is the law.
-ghost use Rattle.grown_trees.specs.Laws.{DecisionsKeepSets, GrownIsSound, MoreSetsKeepSound, MoreShoresKeepSound, SoundAtPlace, SoundIsTree, UnshownIsLeaf};
+ghost use Rattle.grown_trees.specs.Laws.{DecisionsKeepChainsLight, DecisionsKeepExclusions, DecisionsKeepSets, GrownIsSound, MoreSetsKeepSound, MoreShoresKeepSound, SoundAtPlace, SoundIsTree, UnshownIsLeaf};
 
 use decision_chains::{excluded_is_symmetric, yes_pairs_join};
 
@@ -27,6 +27,15 @@ pub fn sound_trees_are_lean()
 /// is not determined, or any decision on a shore.
 pub fn decisions_keep_sets()
     ensures { DecisionsKeepSets }
+{
+    yes_pairs_join();
+    excluded_is_symmetric();
+}
+
+/// Such a decision leaves each excluded pair excluded; and where no chain is above the capacity, none is so after it.
+pub fn decisions_keep_exclusions()
+    ensures excluded { DecisionsKeepExclusions }
+    ensures light { DecisionsKeepChainsLight }
 {
     yes_pairs_join();
     excluded_is_symmetric();

@@ -5,7 +5,8 @@
 //! new one is sound under the decisions on the way to it ([`grown_trees_stay_sound`]), and where the support gains price sets or shores
 //! ([`more_support_keeps_trees_sound`]). A tree of sound nodes is lean, and shows what each of its nodes shows
 //! ([`sound_trees_are_lean`]). A price set that fits under a branch fits under it with one more decision ([`decisions_keep_sets`]), so
-//! that the two leaves of a split may name the set of the leaf that was split.
+//! that the two leaves of a split may name the set of the leaf that was split. It leaves each excluded pair excluded, and each chain
+//! within the capacity ([`decisions_keep_exclusions`]).
 #![tactic(auto)]
 
 #[cfg(test)]
@@ -14,10 +15,12 @@ mod growing;
 mod laws;
 #[cfg(test)]
 mod tests;
+mod values;
 mod way;
 
 pub use growing::{GrowingNode, GrowingTree};
 pub use laws::{
-    decisions_keep_sets, grown_trees_stay_sound, more_support_keeps_trees_sound,
-    sound_trees_are_lean,
+    decisions_keep_exclusions, decisions_keep_sets, grown_trees_stay_sound,
+    more_support_keeps_trees_sound, sound_trees_are_lean,
 };
+pub use values::shown_under;

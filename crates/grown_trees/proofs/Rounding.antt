@@ -6,7 +6,7 @@ use Rattle.std.proofs.lemmas.Grind.{div_ceil_times}
 use Rattle.std.proofs.lemmas.Int.{ints}
 use Rattle.std.specs.Int.{div_ceil}
 use Rattle.std.specs.Int.RustNames.{unsigned_abs}
-use Rattle.branch_tree.specs.Values.{IsMostShown, IsShown}
+use Rattle.grown_trees.specs.Values.{IsMostShown, IsShown}
 
 -- a quotient that was rounded up, and the greatest number that is written for it
 record IsRounded (v unit shown most : ℕ) : Type 0 where
@@ -64,6 +64,17 @@ rounded v unit most some is =
       shown = shown_at v unit shown most some all;
       covers = covers_at v unit shown most all;
     }
+
+-- a value that is not above 0 shows the bound 0 alone, where it shows that
+pub low_shown : (value : ℤ) (unit : ℕ) → IsShown unit value 0 → value ≤ℤ pos 0 → IsMostShown unit value 0
+low_shown value unit above low = record {
+  shown = λ bound small. by bound;
+  covers = inl (omega (arith, ints, low));
+}
+  where
+    by : (bound : ℕ) → (IsShown unit value bound → bound ≤ 0) × (bound ≤ 0 → IsShown unit value bound)
+    by zero = (λ _. omega arith, λ _. above)
+    by (suc b) = (λ shown. absurd (omega (arith, ints, low, shown, one_less unit b)), λ none. absurd (omega (arith, none)))
 
 pub rounded_up : (value : ℤ) (size from quotient top most unit : ℕ) → pos 0 ≤ℤ value → 1 ≤ unit → size ≡ unsigned_abs value → from ≡ unit → quotient ≡ div_ceil size from →
     top ≡ 18446744073709551615 → most ≡ min quotient top → IsMostShown unit value most

@@ -1,8 +1,8 @@
 use Rattle.std.proofs.Common.{arith, refl, pos, ◌≤◌, ◌<◌, ◌^◌}
 use Rattle.std.proofs.lemmas.Int.{ints}
-use Rattle.branch_tree.specs.Values.{IsShown}
-use Rattle.branch_tree.proofs.Rounding.{rounded}
-use Rattle.branch_tree.proofs.examples.a_value_is_rounded_up.Goals as goal
+use Rattle.grown_trees.specs.Values.{IsShown}
+use Rattle.grown_trees.proofs.Rounding.{rounded}
+use Rattle.grown_trees.proofs.examples.a_value_is_rounded_up.Goals as goal
 
 pub returns-clause-most : goal.returns-clause-most
 returns-clause-most c = rounded 7 2 4 (omega arith) refl

@@ -1,0 +1,5 @@
+pub mod Numbers
+pub mod Chaining
+pub mod Following
+pub mod Leaves
+pub mod Carrying

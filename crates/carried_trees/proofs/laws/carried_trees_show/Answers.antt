@@ -1,0 +1,5 @@
+use Rattle.carried_trees.proofs.Carrying.{tree_shows}
+use Rattle.carried_trees.proofs.laws.carried_trees_show.Goals as goal
+
+pub returns : goal.returns
+returns c = tree_shows c.yes_pairs_join.ensures c.excluded_is_symmetric.ensures c.decisions_keep_exclusions.ensures.excluded c.decisions_keep_exclusions.ensures.light
