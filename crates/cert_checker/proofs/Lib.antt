@@ -10,7 +10,6 @@ pub mod Firsts
 pub mod Pricing
 pub mod Walking
 pub mod Spelled
-pub mod FixedOnce
 pub mod NodeReasons
 pub mod ReasonOrder
 pub mod Standing
