@@ -174,7 +174,7 @@ module _ (p q : Problem) (valid : IsValid q) (rise : IsRaised p q) (old new : Li
 
 -- At the root: each edge is a chain by itself, which a vehicle carries.
 
-alone : (c e : ℕ) (path : List ℕ) → YesPath [] c path e → c ≡ e
+pub alone : (c e : ℕ) (path : List ℕ) → YesPath [] c path e → c ≡ e
 alone c e [] steps = steps
 alone c e (z ∷ path) steps = let never : false ≡ true = steps.0 in cc
 

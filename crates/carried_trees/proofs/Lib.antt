@@ -3,3 +3,4 @@ pub mod Chaining
 pub mod Following
 pub mod Leaves
 pub mod Carrying
+pub mod Small

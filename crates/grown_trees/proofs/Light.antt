@@ -27,7 +27,7 @@ module _ (p : Problem) (branch : List Decision) (d : Decision) (back : (a b : �
   light_plain : ((c : ℕ) → ¬ (IsHeavy p branch c c)) → (c : ℕ) → ¬ (IsHeavy p (branch ++ d ∷ []) c c)
   light_plain light c over = light c (record { edges = over.edges; distinct = over.distinct; joined = each_back c c over.edges over.joined; over = over.over })
 
--- an edge of an open pair is the end of a chain, if the pair is in one chain
+-- an edge of an open pair is the end of a chain: of two yes neighbours none would be the other edge
 ends_chain : (p : Problem) (branch : List Decision) (m n : ℕ) → ¬ (IsDetermined p branch m n) → IsChainEnd branch m
 ends_chain p branch m n undetermined x y one other = elim (cases_eq x y) [
   | inl equal ↦ equal

@@ -32,7 +32,8 @@ pub fn decisions_keep_sets()
     excluded_is_symmetric();
 }
 
-/// Such a decision leaves each excluded pair excluded; and where no chain is above the capacity, none is so after it.
+/// A yes or a no to a pair that is not determined, and any decision on a shore, leaves each excluded pair excluded; and where no chain
+/// of a branch is above the capacity, none is so after it.
 pub fn decisions_keep_exclusions()
     ensures excluded { DecisionsKeepExclusions }
     ensures light { DecisionsKeepChainsLight }
