@@ -8,9 +8,9 @@ use Rattle.branch_rules.specs.declared.node.Node.{Node}
 use Rattle.branch_rules.specs.declared.node.Node.TheVariants as nodes
 use Rattle.cert_lines.specs.Order.{open_after}
 use Rattle.cert_checker.specs.declared.checker.Checker.{Checker}
-use Rattle.cert_checker.specs.declared.path.Path.{Path}
-use Rattle.cert_checker.specs.Nodes.{waiting_after}
-use Rattle.cert_checker.specs.Paths.{waits}
+use Rattle.tree_paths.specs.declared.path.Path.{Path}
+use Rattle.tree_paths.specs.Waiting.{waiting_after}
+use Rattle.tree_paths.specs.Paths.{IsOpen, waits}
 use Rattle.cert_checker.specs.Streams.{Fits}
 use Rattle.cert_checker.specs.Walks.{Fills, HasWalked, Walked, waiting_for}
 
@@ -30,14 +30,14 @@ some_left : (more : List Node) (n : ℕ) → Fills more n → 1 ≤ length more 
 some_left [] n fills some = absurd (omega (arith, some))
 some_left (x ∷ more) n fills some = fills.0
 
-not_whole : (path : Path) (whole : Bool) → path.whole ≡ whole → 1 ≤ length (waits path) → path.whole ≡ false
+not_whole : (path : Path) (whole : Bool) → path.whole ≡ whole → 1 ≤ length (waits path) → IsOpen path
 not_whole path false is some = is
 not_whole path true is some =
     let none : waits path ≡ [] = rw is refl in
     absurd (omega (arith, some, ap length none))
 
 -- where a node is still to come, the path goes on
-pub goes_on : (s : Support) (bound : ℕ) (all : List Node) (place : ℕ) (checker : Checker) → Fills all 1 → place < length all → HasWalked s bound checker (take place all) → checker.reason ≡ None → checker.path.whole ≡ false
+pub goes_on : (s : Support) (bound : ℕ) (all : List Node) (place : ℕ) (checker : Checker) → Fills all 1 → place < length all → HasWalked s bound checker (take place all) → checker.reason ≡ None → IsOpen checker.path
 goes_on s bound all place checker fills less walked none =
     let was : Walked s bound (take place all) None checker.taken (waits checker.path) = subst (λ r. Walked s bound (take place all) r checker.taken (waits checker.path)) none walked in
     let cut : Fills (take place all ++ drop place all) 1 = subst (λ xs. Fills xs 1) (sym (take-append-drop place all)) fills in
@@ -100,7 +100,7 @@ one_waits (y ∷ taken) x [] fits = absurd (omega (arith, fits.0))
 one_waits (y ∷ taken) x (b ∷ waiting) fits = one_waits taken x (waiting_after b y waiting) (subst (Fits (taken ++ x ∷ [])) (sym (waiting_long b y waiting)) fits.1)
 
 -- where a node comes after those so far, the path goes on
-pub goes_so_far : (s : Support) (bound : ℕ) (taken : List Node) (x : Node) (checker : Checker) → Fits (taken ++ x ∷ []) 1 → HasWalked s bound checker taken → checker.reason ≡ None → checker.path.whole ≡ false
+pub goes_so_far : (s : Support) (bound : ℕ) (taken : List Node) (x : Node) (checker : Checker) → Fits (taken ++ x ∷ []) 1 → HasWalked s bound checker taken → checker.reason ≡ None → IsOpen checker.path
 goes_so_far s bound taken x checker fits walked none =
     let was : Walked s bound taken None checker.taken (waits checker.path) = subst (λ r. Walked s bound taken r checker.taken (waits checker.path)) none walked in
     not_whole checker.path checker.path.whole refl (omega (arith, one_waits taken x ([] ∷ []) fits, ap length was.2))

@@ -5,13 +5,11 @@ pub mod Taking
 pub mod Reading
 pub mod FileAnswers
 pub mod Backing
-pub mod Entering
 pub mod Filling
 pub mod Firsts
 pub mod Pricing
 pub mod Walking
 pub mod Spelled
-pub mod FixedOnce
 pub mod NodeReasons
 pub mod ReasonOrder
 pub mod Standing

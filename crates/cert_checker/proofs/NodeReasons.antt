@@ -6,7 +6,7 @@ use Rattle.std.proofs.lemmas.Bool.{cases_lt}
 use Rattle.std.proofs.lemmas.List.Elements.{All-from_recursion}
 use Rattle.decision_chains.specs.declared.decision.Decision.{Decision}
 use Rattle.decision_chains.specs.Exclusions.{IsDetermined}
-use Rattle.decision_chains.specs.Laws.{YesPairsJoin}
+use Rattle.chain_plans.specs.Laws.{FixedValueIsUnique}
 use Rattle.decision_chains.specs.Pairs.{IsPairWithin}
 use Rattle.branch_rules.specs.Decisions.{IsFixed, IsVoid, cuts_of}
 use Rattle.branch_rules.specs.Prices.{Prices, no_weight, weight_at}
@@ -18,8 +18,8 @@ use Rattle.branch_rules.specs.declared.node.Node.TheVariants as nodes
 use Rattle.cert_checker.specs.declared.reason.Part.TheVariants as parts
 use Rattle.cert_checker.specs.declared.reason.Reason.{Reason}
 use Rattle.cert_checker.specs.declared.reason.Reason.TheVariants.{Misfit, NotLean, NotVoid, NotFixed, MissingUpper, TourTooCheap, LeafLow}
-use Rattle.cert_checker.specs.Nodes.{IsLeastTour, ToursPay, IsFixedLow, IsTourTooCheap, IsPriceLow, NodeFails, NodeStands, NodesStand, FirstNodeFails, waiting_after}
-use Rattle.cert_checker.proofs.FixedOnce.{fixed_once}
+use Rattle.cert_checker.specs.Nodes.{IsLeastTour, ToursPay, IsFixedLow, IsTourTooCheap, IsPriceLow, NodeFails, NodeStands, NodesStand, FirstNodeFails}
+use Rattle.tree_paths.specs.Waiting.{waiting_after}
 
 -- What the reasons of each kind of node are.
 
@@ -118,10 +118,10 @@ one_least s branch set v w one other =
 
 -- No node both fails and is as it should be.
 
-module _ (laws : YesPairsJoin) (s : Support) (bound : ℕ) where
+module _ (unique : FixedValueIsUnique) (s : Support) (bound : ℕ) where
   fixed_low_once : (at : ℕ) (branch : List Decision) (v l w m : ℤ) → IsFixedLow s bound branch v l → IsFixedLow s bound branch w m → LeafLow at v l ≡ LeafLow at w m
   fixed_low_once at branch v l w m one other =
-      let same : v ≡ w = one.is_value ∙ ap pos (fixed_once laws s.problem branch one.cost other.cost one.fixed other.fixed) ∙ sym other.is_value in
+      let same : v ≡ w = one.is_value ∙ ap pos (unique s.problem branch one.cost other.cost one.fixed other.fixed) ∙ sym other.is_value in
       let limits : l ≡ m = one.is_limit ∙ sym other.is_limit in
       ap (λ z. LeafLow at z l) same ∙ ap (λ z. LeafLow at w z) limits
 
@@ -134,7 +134,7 @@ module _ (laws : YesPairsJoin) (s : Support) (bound : ℕ) where
   fails_or_stands at branch nodes.Void r fails stands = (void_fails s bound at branch r fails).1 stands
   fails_or_stands at branch nodes.Fixed r fails stands = elim (fixed_fails s bound at branch r fails) [
     | inl not ↦ not.1 stands.settled
-    | inr low ↦ omega (arith, low.low.low, stands.enough, fixed_once laws s.problem branch low.low.cost stands.value low.low.fixed stands.fixed)
+    | inr low ↦ omega (arith, low.low.low, stands.enough, unique s.problem branch low.low.cost stands.value low.low.fixed stands.fixed)
   ]
   fails_or_stands at branch (nodes.Price set) r fails stands =
       let uppers = All-from_recursion (HasUpper branch) (set_at s set).weights stands.2.fits.has_upper in

@@ -10,7 +10,7 @@ use Rattle.plan_model.specs.Verdicts.{IsVerdict, IsFailing}
 use Rattle.plan_model.specs.declared.verdict.Verdict.{Verdict}
 use Rattle.cut_pool.specs.Pools.{shore_at}
 use Rattle.cut_pool.specs.Shores.{Belongs}
-use Rattle.decision_chains.specs.Laws.{YesPairsJoin}
+use Rattle.chain_plans.specs.Laws.{FixedValueIsUnique}
 use Rattle.branch_rules.specs.Prices.{deadhead_price}
 use Rattle.branch_rules.specs.Refusals.{IsTooHeavy, NoneTooHeavy}
 use Rattle.branch_rules.specs.Trees.{set_at}
@@ -254,11 +254,11 @@ module _ (p : Problem) (c : Certificate) where
       none_and_heavy p c.shores (set_at (support_of p c) one.set) one.named
       (at_set (NoneTooHeavy p c.shores) (support_of p c) one.set all (record { from_one = one.first.from_one; in_range = one.first.in_range })) one.first.heavy
 
--- what is known of verdicts and of yes pairs
+-- what is known of verdicts and of fixed values
 pub record Known : Type 0 where
   pub unique : VerdictIsUnique
   pub complete : FailuresAreComplete
-  pub joins : YesPairsJoin
+  pub fixed_once : FixedValueIsUnique
 
 pub unique_law : Known → (p : Problem) (c : Certificate) (r q : Reason) → IsFirstReason p c r → IsFirstReason p c q → r ≡ q
 unique_law known p c r q one other =
@@ -268,7 +268,7 @@ unique_law known p c r q one other =
     (one_of (ShoreFails p c) (All (Belongs p) c.shores) (Order5 p c) (shore_apart p c) (shore_same p c)
     (one_of (PricesFail p c) (All (HasPriceEach p) c.sets) (Order6 p c) (prices_apart p c) (prices_same p c)
     (one_of (DeadheadFails p c) (All (NoneTooHeavy p c.shores) c.sets) (Nodes p c) (deadhead_apart p c) (heavy_once p c)
-    (one_first known.joins (support_of p c) c.bound 1 c.nodes ([] ∷ [])))))))
+    (one_first known.fixed_once (support_of p c) c.bound 1 c.nodes ([] ∷ [])))))))
     r q (in_order p c r one) (in_order p c q other)
 
 pub none_law : Known → (p : Problem) (c : Certificate) (r : Reason) → IsGood p c → IsFirstReason p c r → ⊥
@@ -279,5 +279,5 @@ none_law known p c r good first =
     (none_of (ShoreFails p c) (All (Belongs p) c.shores) (Order5 p c) (shore_apart p c) good.shores
     (none_of (PricesFail p c) (All (HasPriceEach p) c.sets) (Order6 p c) (prices_apart p c) good.prices
     (none_of (DeadheadFails p c) (All (NoneTooHeavy p c.shores) c.sets) (Nodes p c) (deadhead_apart p c) good.deadheads
-    (λ q fails. first_or_stand known.joins (support_of p c) c.bound 1 c.nodes ([] ∷ []) q fails (good_stands p c good)))))))
+    (λ q fails. first_or_stand known.fixed_once (support_of p c) c.bound 1 c.nodes ([] ∷ []) q fails (good_stands p c good)))))))
     r (in_order p c r first)

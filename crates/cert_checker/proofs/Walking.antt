@@ -1,17 +1,18 @@
 -- One more node.
-use Rattle.std.proofs.Common.{◌≡◌, ℕ, ◌+◌, true, false, List, [], ◌∷◌, ◌++◌, length, refl, sym, ap, ◌∙◌, subst, arith, Option, Some, None, length-append, inl, inr, Result, Ok, Err, OnOk}
+use Rattle.std.proofs.Common.{◌≡◌, ℕ, ◌+◌, true, List, [], ◌∷◌, ◌++◌, length, refl, sym, ap, ◌∙◌, subst, arith, Option, Some, None, length-append, inl, inr, Result, Ok, Err, OnOk}
 use Rattle.std.specs.Option.{is_some}
 use Rattle.decision_chains.specs.declared.decision.Decision.{Decision}
 use Rattle.branch_rules.specs.Limits.{IsNodeIn}
 use Rattle.branch_rules.specs.Trees.{Support}
 use Rattle.branch_rules.specs.declared.node.Node.{Node}
 use Rattle.branch_rules.specs.declared.node.Node.TheVariants as nodes
-use Rattle.cert_checker.specs.declared.path.Path.{Path}
+use Rattle.tree_paths.specs.declared.path.Path.{Path}
 use Rattle.cert_checker.specs.declared.checker.Checker.{Checker}
 use Rattle.cert_checker.specs.declared.reason.Reason.{Reason}
 use Rattle.cert_checker.specs.Claims.{IsBacked, IsNodeRead}
-use Rattle.cert_checker.specs.Nodes.{NodeFails, NodeStands, NodesStand, FirstNodeFails, waiting_after}
-use Rattle.cert_checker.specs.Paths.{IsFineSplit, seconds_of, waits}
+use Rattle.cert_checker.specs.Nodes.{NodeFails, NodeStands, NodesStand, FirstNodeFails}
+use Rattle.tree_paths.specs.Waiting.{waiting_after}
+use Rattle.tree_paths.specs.Paths.{IsFineSplit, IsOpen, branch_of, seconds_of, waits}
 use Rattle.cert_checker.specs.Walks.{HasWalked, TreeSays, Walked, waiting_for}
 use Rattle.cert_checker.proofs.Backing.{shore_of}
 
@@ -72,7 +73,7 @@ pub walked_on : (s : Support) (bound : ℕ) (taken : List Node) (node : Node) (r
 walked_on s bound taken node None number waiting some walked = absurd (some refl)
 walked_on s bound taken node (Some reason) number waiting some walked = fail_more s bound 1 taken (node ∷ []) ([] ∷ []) reason walked
 
-waits_going : (path : Path) → path.whole ≡ false → waits path ≡ path.branch ∷ seconds_of path
+waits_going : (path : Path) → IsOpen path → waits path ≡ branch_of path ∷ seconds_of path
 waits_going path goes = rw goes refl
 
 at_none : (s : Support) (bound : ℕ) (taken : List Node) (reason : Option Reason) (number : ℕ) (waiting : List (List Decision)) → reason ≡ None →
@@ -80,23 +81,23 @@ at_none : (s : Support) (bound : ℕ) (taken : List Node) (reason : Option Reaso
 at_none s bound taken reason number waiting none walked = subst (λ r. Walked s bound taken r number waiting) none walked
 
 -- the next node fails
-pub walked_fails : (s : Support) (bound : ℕ) (taken : List Node) (old : Checker) (node : Node) (reason : Reason) → old.reason ≡ None → old.path.whole ≡ false →
-    NodeFails s bound (old.taken + 1) old.path.branch node reason → HasWalked s bound old taken → FirstNodeFails s bound 1 (taken ++ node ∷ []) ([] ∷ []) reason
+pub walked_fails : (s : Support) (bound : ℕ) (taken : List Node) (old : Checker) (node : Node) (reason : Reason) → old.reason ≡ None → IsOpen old.path →
+    NodeFails s bound (old.taken + 1) (branch_of old.path) node reason → HasWalked s bound old taken → FirstNodeFails s bound 1 (taken ++ node ∷ []) ([] ∷ []) reason
 walked_fails s bound taken old node reason none goes fails walked =
     let was = at_none s bound taken old.reason old.taken (waits old.path) none walked in
-    fail_here s bound 1 taken ([] ∷ []) old.path.branch (seconds_of old.path) node reason (old.taken + 1) (omega (arith, was.1)) (sym was.2 ∙ waits_going old.path goes) was.0 fails
+    fail_here s bound 1 taken ([] ∷ []) (branch_of old.path) (seconds_of old.path) node reason (old.taken + 1) (omega (arith, was.1)) (sym was.2 ∙ waits_going old.path goes) was.0 fails
 
 -- the next node is as it should be
-pub walked_stands : (s : Support) (bound : ℕ) (taken : List Node) (old : Checker) (node : Node) (waiting : List (List Decision)) → old.reason ≡ None → old.path.whole ≡ false →
-    NodeStands s bound old.path.branch node → waiting ≡ waiting_after old.path.branch node (seconds_of old.path) → HasWalked s bound old taken →
+pub walked_stands : (s : Support) (bound : ℕ) (taken : List Node) (old : Checker) (node : Node) (waiting : List (List Decision)) → old.reason ≡ None → IsOpen old.path →
+    NodeStands s bound (branch_of old.path) node → waiting ≡ waiting_after (branch_of old.path) node (seconds_of old.path) → HasWalked s bound old taken →
     Walked s bound (taken ++ node ∷ []) old.reason (old.taken + 1) waiting
 walked_stands s bound taken old node waiting none goes stands after walked =
     let was = at_none s bound taken old.reason old.taken (waits old.path) none walked in
-    let at : waiting_for taken ([] ∷ []) ≡ old.path.branch ∷ seconds_of old.path = sym was.2 ∙ waits_going old.path goes in
+    let at : waiting_for taken ([] ∷ []) ≡ (branch_of old.path) ∷ seconds_of old.path = sym was.2 ∙ waits_going old.path goes in
     let more : Walked s bound (taken ++ node ∷ []) None (old.taken + 1) waiting = (
-      stand_more s bound taken ([] ∷ []) old.path.branch (seconds_of old.path) node at was.0 stands,
+      stand_more s bound taken ([] ∷ []) (branch_of old.path) (seconds_of old.path) node at was.0 stands,
       omega (arith, was.1, length-append taken (node ∷ [])),
-      after ∙ sym (wait_more taken ([] ∷ []) old.path.branch (seconds_of old.path) node at),
+      after ∙ sym (wait_more taken ([] ∷ []) (branch_of old.path) (seconds_of old.path) node at),
     ) in
     subst (λ r. Walked s bound (taken ++ node ∷ []) r (old.taken + 1) waiting) (sym none) more
 

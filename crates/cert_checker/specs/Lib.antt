@@ -2,7 +2,6 @@ pub mod Claims
 pub mod Layers
 pub mod Leaves
 pub mod Nodes
-pub mod Paths
 pub mod Reasons
 pub mod Walks
 pub mod Streams

@@ -1,11 +1,10 @@
 -- Why a node of a tree is not as it should be, and the first such node.
-use Rattle.std.specs.Prelude.{◌≡◌, ℕ, ◌+◌, ◌-◌, ◌<◌, ℤ, pos, ◌+ℤ◌, ◌-ℤ◌, ◌*ℤ◌, ◌≤ℤ◌, ◌<ℤ◌, ◌⊎◌, List, [], ◌∷◌, ◌++◌}
+use Rattle.std.specs.Prelude.{◌≡◌, ℕ, ◌+◌, ◌-◌, ◌<◌, ℤ, pos, ◌+ℤ◌, ◌-ℤ◌, ◌*ℤ◌, ◌≤ℤ◌, ◌<ℤ◌, ◌⊎◌, List, [], ◌∷◌}
 use Rattle.std.specs.List.{All}
 use Rattle.carp_base.specs.declared.edge.Task.{Task}
 use Rattle.deadhead_paths.specs.Prices.{price_of}
 use Rattle.deadhead_paths.specs.Tours.{IsTaskTour, LeastDeadhead}
 use Rattle.decision_chains.specs.declared.decision.Decision.{Decision}
-use Rattle.decision_chains.specs.declared.decision.Decision.TheVariants.{Yes, No, Low, High}
 use Rattle.decision_chains.specs.Exclusions.{Excluded, IsDetermined}
 use Rattle.chain_plans.specs.FixedValue.{HasFixedValue}
 use Rattle.branch_rules.specs.declared.node.Node.{Node}
@@ -14,6 +13,7 @@ use Rattle.branch_rules.specs.Prices.{Prices, PaysAtLeast, task_adds, crossing_p
 use Rattle.branch_rules.specs.Decisions.{rules_of, cuts_of, IsVoid, IsFixed}
 use Rattle.decision_chains.specs.Pairs.{IsPairWithin}
 use Rattle.branch_rules.specs.Refusals.{HasUpper, IsWithoutUpper}
+use Rattle.tree_paths.specs.Waiting.{waiting_after}
 use Rattle.branch_rules.specs.Trees.{Support, set_at, IsLeanNode, PriceShows, FixedShows}
 use Rattle.cert_checker.specs.declared.reason.Part.TheVariants as parts
 use Rattle.cert_checker.specs.declared.reason.Reason.{Reason}
@@ -84,14 +84,6 @@ NodeStands s bound branch (nodes.Cut border k) = IsLeanNode s.problem s.pool bra
 NodeStands s bound branch (nodes.Price set) = PriceShows s branch bound set
 NodeStands s bound branch nodes.Void = IsVoid s.problem s.pool branch
 NodeStands s bound branch nodes.Fixed = FixedShows s branch bound
-
--- the branches that wait after a node under the first of them: those of its children come next
-abbrev pub waiting_after : List Decision → Node → List (List Decision) → List (List Decision)
-waiting_after branch (nodes.Pair a b) waiting = (branch ++ Yes a b ∷ []) ∷ (branch ++ No a b ∷ []) ∷ waiting
-waiting_after branch (nodes.Cut border k) waiting = (branch ++ Low border k ∷ []) ∷ (branch ++ High border k ∷ []) ∷ waiting
-waiting_after branch (nodes.Price set) waiting = waiting
-waiting_after branch nodes.Void waiting = waiting
-waiting_after branch nodes.Fixed waiting = waiting
 
 -- each node, under the branch that waits for it, is as it should be; the first node of the list has this number
 abbrev pub NodesStand : Support → (bound : ℕ) → List Node → List (List Decision) → Type 0

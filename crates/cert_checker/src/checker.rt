@@ -7,15 +7,16 @@ ghost use Rattle.branch_rules.specs.declared.node.Node.TheVariants as nodes;
 ghost use Rattle.cert_checker.specs.Claims.{IsBacked, IsNodeRead, support_in};
 ghost use Rattle.cert_checker.specs.Leaves.{AreLeaves, NodeSays};
 ghost use Rattle.cert_checker.specs.Walks.{HasWalked, IsChecker};
+ghost use Rattle.tree_paths.specs.Paths.{IsOpen};
 ghost use Rattle.std.specs.Prelude.{IsTrue, ◌↔◌};
 
 use crate::claim::Claim;
 use crate::leaves::Leaves;
-use crate::path::Path;
 use crate::{Part, Reason};
 use branch_rules::{Branch, Node};
 use carp_base::{Instance, Memory};
 use std::alloc::Global;
+use tree_paths::Path;
 
 /// What is known of the nodes so far: the first reason, or the path to the next node.
 #[derive(Drop)]
@@ -51,7 +52,7 @@ impl Checker {
         requires checker { IsChecker (support_in claim.now) self.old }
         requires backed { IsBacked (support_in claim.now) }
         requires read { IsNodeRead (support_in claim.now) node.now }
-        requires goes { self.old.reason ≡ None → self.old.path.whole ≡ false }
+        requires goes { self.old.reason ≡ None → IsOpen self.old.path }
         requires few { self.old.taken < 2 ^ 64 - 1 }
         ensures checker { OnOk result (IsChecker (support_in claim.now) self.new) }
         ensures count { OnOk result (self.new.taken ≤ self.old.taken + 1) }
@@ -69,14 +70,14 @@ impl Checker {
         requires backed { IsBacked (support_in claim.now) }
         requires read { IsNodeRead (support_in claim.now) node.now }
         requires none { self.old.reason ≡ None }
-        requires goes { self.old.path.whole ≡ false }
+        requires goes { IsOpen self.old.path }
         requires few { self.old.taken < 2 ^ 64 - 1 }
         ensures checker { OnOk result (IsChecker (support_in claim.now) self.new) }
         ensures count { OnOk result (self.new.taken ≤ self.old.taken + 1) }
         ensures walked { OnOk result ((taken : List Node) → HasWalked (support_in claim.now) claim.now.bound self.old taken → HasWalked (support_in claim.now) claim.now.bound self.new (taken ++ node.now ∷ [])) }
     {
         self.taken += 1;
-        let branch = &self.path.branch;
+        let branch = self.path.branch();
         match reason_of(alloc, claim, &mut self.leaves, branch, node, self.taken)? {
             Some(reason) => {
                 self.reason = Some(reason);

@@ -1,16 +1,13 @@
 // The definitions on small data.
-ghost use Rattle.std.specs.Prelude.{◌≡◌, ◌∷◌, [], Some, None};
+ghost use Rattle.std.specs.Prelude.{◌≡◌, ◌∷◌, []};
 ghost use Rattle.decision_chains.specs.declared.decision.Decision.TheVariants.{Yes, No};
 ghost use Rattle.branch_rules.specs.declared.node.Node.TheVariants as nodes;
-ghost use Rattle.cert_checker.specs.Paths.{seconds_wait};
 ghost use Rattle.cert_checker.specs.Reasons.{FirstDiffers};
 ghost use Rattle.cert_checker.specs.Walks.{Fills, waiting_for};
 
 fn branches_that_wait()
     ensures first { waiting_for (nodes.Pair 1 2 ∷ []) ([] ∷ []) ≡ (Yes 1 2 ∷ []) ∷ ((No 1 2 ∷ []) ∷ []) }
     ensures second { waiting_for (nodes.Pair 1 2 ∷ (nodes.Void ∷ [])) ([] ∷ []) ≡ (No 1 2 ∷ []) ∷ [] }
-    ensures path { seconds_wait (Yes 1 2 ∷ []) (Some (No 1 2) ∷ []) [] [] ≡ (No 1 2 ∷ []) ∷ [] }
-    ensures later { seconds_wait (No 1 2 ∷ []) (None ∷ []) [] [] ≡ [] }
 {}
 
 fn a_first_difference()

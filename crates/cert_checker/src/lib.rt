@@ -12,7 +12,6 @@ mod examples;
 mod head;
 mod laws;
 mod leaves;
-mod path;
 mod reason;
 mod stream;
 #[cfg(test)]

@@ -3,7 +3,6 @@ use Rattle.std.specs.Prelude.{◌≡◌, ℕ, ◌≤◌, ◌↔◌, List, []}
 use Rattle.std.specs.List.{All}
 use Rattle.carp_base.specs.Problem.{Problem}
 use Rattle.branch_rules.specs.Limits.{IsNodeIn, IsShoreOf}
-use Rattle.branch_rules.specs.Prices.{Prices}
 use Rattle.branch_rules.specs.Trees.{Tree, preorder, Support, Shows}
 use Rattle.branch_rules.specs.declared.node.Node.{Node}
 use Rattle.carried_trees.specs.Carried.{IsCarried, WouldShow}

@@ -1,27 +1,30 @@
 // The way from the root to the node that is read next.
-ghost use Rattle.std.specs.Prelude.{◌≡◌, ◌<◌, ◌++◌, ◌∷◌, [], length, All, IfSome, OnOk, Some, None, false};
+ghost use Rattle.std.specs.Prelude.{◌≡◌, ◌<◌, ◌++◌, ◌∷◌, [], length, All, IfSome, IsTrue, OnOk, Some, None, ◌↔◌};
 ghost use Rattle.decision_chains.specs.declared.decision.Decision.{Decision};
 ghost use Rattle.branch_rules.specs.Limits.{IsFineDecision, IsNodeIn};
 ghost use Rattle.branch_rules.specs.Trees.{Support};
-ghost use Rattle.cert_checker.specs.Nodes.{waiting_after};
-ghost use Rattle.cert_checker.specs.Paths.{Enters, IsDecisionIn, IsFineSplit, IsPath, IsPathIn, LeavesOne, seconds_of, waits};
+ghost use Rattle.tree_paths.specs.Paths.{IsDecisionIn, IsFineSplit, IsOpen, IsPath, IsPathIn, branch_of, seconds_of, waits};
+ghost use Rattle.tree_paths.specs.Steps.{Enters, LeavesOne};
+ghost use Rattle.tree_paths.specs.Waiting.{waiting_after};
 
 use branch_rules::{Branch, Decision, Node};
 use carp_base::Memory;
 use std::alloc::Global;
 
-/// The branch of the node that is read next, and for each decision of it that of the second child, where the first child is
-/// being read. So one branch is held, whatever the tree.
+/// The way from the root of a tree to the node that is read next in preorder.
+///
+/// It holds the branch of that node, and for each decision of it that of the second child, where the first child is being read. So one
+/// branch is held, whatever the tree.
 #[derive(Drop)]
-pub(crate) struct Path {
-    pub(crate) branch: Branch,
+pub struct Path {
+    branch: Branch,
     seconds: Vec<Option<Decision>>,
     whole: bool,
 }
 
 impl Path {
     /// The way to the root.
-    pub(crate) fn new(alloc: Global) -> Path
+    pub fn new(alloc: Global) -> Path
         ensures path { IsPath result }
         ensures inside { (s : Support) → IsPathIn s result }
         ensures waits { waits result ≡ [] ∷ [] }
@@ -33,14 +36,31 @@ impl Path {
         }
     }
 
-    /// Goes past a node: to its first child, or after a leaf to the nearest second child that is still to be read.
-    pub(crate) fn pass(&mut self, node: &Node) -> Result<(), Memory>
+    /// The decisions on the way to the node that is read next. Where the tree is whole, they say nothing.
+    pub fn branch(&self) -> &Branch
+        ensures { result.now ≡ branch_of self.now }
+    {
+        &self.branch
+    }
+
+    /// Whether no node is still to come.
+    pub fn is_whole(&self) -> bool
+        ensures { IsTrue result ↔ (waits self.now ≡ []) }
+    {
+        self.whole
+    }
+
+    /// Goes past a node, which stands where the path leads: to its first child, or after a leaf to the nearest second child that is still
+    /// to be read. Where there is none, the tree is whole. The number of a cut is at most 1,000,000.
+    ///
+    /// Past all nodes of a tree it takes time in proportion to their number.
+    pub fn pass(&mut self, node: &Node) -> Result<(), Memory>
         requires path { IsPath self.old }
-        requires goes { self.old.whole ≡ false }
+        requires goes { IsOpen self.old }
         requires fine { IsFineSplit node.now }
         ensures path { OnOk result (IsPath self.new) }
         ensures inside { OnOk result ((s : Support) → IsPathIn s self.old → IsNodeIn s.problem s.pool node.now → IsPathIn s self.new) }
-        ensures waits { OnOk result (waits self.new ≡ waiting_after self.old.branch node.now (seconds_of self.old)) }
+        ensures waits { OnOk result (waits self.new ≡ waiting_after (branch_of self.old) node.now (seconds_of self.old)) }
     {
         match *node {
             Node::Pair { a, b } => self.split(Decision::Yes { a, b }, Decision::No { a, b }),
@@ -56,7 +76,7 @@ impl Path {
     // Goes to the first of two children.
     fn split(&mut self, first: Decision, second: Decision) -> Result<(), Memory>
         requires path { IsPath self.old }
-        requires goes { self.old.whole ≡ false }
+        requires goes { IsOpen self.old }
         requires first { IsFineDecision first }
         requires second { IsFineDecision second }
         ensures path { OnOk result (IsPath self.new) }
@@ -69,7 +89,7 @@ impl Path {
     // Goes to the nearest second child that is still to be read. Where there is none, the tree is whole.
     fn go_on(&mut self) -> Result<(), Memory>
         requires path { IsPath self.old }
-        requires goes { self.old.whole ≡ false }
+        requires goes { IsOpen self.old }
         ensures path { OnOk result (IsPath self.new) }
         ensures inside { OnOk result ((s : Support) → IsPathIn s self.old → IsPathIn s self.new) }
         ensures waits { OnOk result (waits self.new ≡ seconds_of self.old) }

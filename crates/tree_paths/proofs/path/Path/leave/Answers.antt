@@ -1,6 +1,6 @@
 use Rattle.std.proofs.Common.{refl, arith, ◌<◌, vec_len}
-use Rattle.cert_checker.proofs.Entering.{leaves_one}
-use Rattle.cert_checker.proofs.path.Path.leave.Goals as goal
+use Rattle.tree_paths.proofs.Entering.{leaves_one}
+use Rattle.tree_paths.proofs.path.Path.leave.Goals as goal
 
 pub returns : goal.returns
 returns c =

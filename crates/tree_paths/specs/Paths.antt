@@ -1,5 +1,5 @@
 -- The way from the root to the node that is read next, and the branches that wait besides.
-use Rattle.std.specs.Prelude.{◌≡◌, ◌≤◌, List, [], ◌∷◌, ◌++◌, length, Option, Some, None, IfSome, if◌then◌else◌}
+use Rattle.std.specs.Prelude.{◌≡◌, ◌≤◌, List, [], ◌∷◌, ◌++◌, length, false, Option, Some, None, IfSome, if◌then◌else◌}
 use Rattle.std.specs.List.{All}
 use Rattle.decision_chains.specs.declared.decision.Decision.{Decision}
 use Rattle.decision_chains.specs.Pairs.{HasPairWithin, ArePairsIn}
@@ -7,7 +7,15 @@ use Rattle.branch_rules.specs.Limits.{HasShoreOf, AreShoresIn, IsFineDecision}
 use Rattle.branch_rules.specs.Trees.{Support}
 use Rattle.branch_rules.specs.declared.node.Node.{Node}
 use Rattle.branch_rules.specs.declared.node.Node.TheVariants as nodes
-use Rattle.cert_checker.specs.declared.path.Path.{Path}
+use Rattle.tree_paths.specs.declared.path.Path.{Path}
+
+-- the decisions on the way to the node that is read next
+abbrev pub branch_of : Path → List Decision
+branch_of path = path.branch
+
+-- a node is still to come
+abbrev pub IsOpen : Path → Type 0
+IsOpen path = path.whole ≡ false
 
 -- for decisions taken from a branch on (before), each with that of the second child where this is still to be read: the branches of
 -- these second children, the deepest first, and then those that wait besides (later)
@@ -41,16 +49,6 @@ pub record IsPathIn (s : Support) (path : Path) : Type 0 where
 pub record IsPath (path : Path) : Type 0 where
   pub even : length path.branch ≡ length path.seconds.items
   pub fine : All (λ second. IfSome second IsFineDecision) path.seconds.items
-
--- the path goes on by a decision
-pub record Enters (old new : Path) (decision : Decision) (second : Option Decision) : Type 0 where
-  pub branch : new.branch ≡ old.branch ++ decision ∷ []
-  pub seconds : new.seconds.items ≡ old.seconds.items ++ second ∷ []
-  pub same_whole : new.whole ≡ old.whole
-
--- the path went back by one decision
-abbrev pub LeavesOne : (new old : Path) → (second : Option Decision) → Type 0
-LeavesOne new old second = (decision : Decision) × Enters new old decision second
 
 -- the number of a cut is at most 1,000,000
 abbrev pub IsFineSplit : Node → Type 0

@@ -1,0 +1,4 @@
+mod Forests
+mod Moving
+mod Nodes
+mod Values

@@ -1,0 +1,20 @@
+use Rattle.std.proofs.Common.{subst, sym}
+use Rattle.branch_rules.specs.Limits.{IsNodeIn}
+use Rattle.tree_transfer.specs.Bounding.{support_in}
+use Rattle.tree_transfer.proofs.Moving.{at_place}
+use Rattle.tree_transfer.proofs.Nodes.{bounds_on, shows_some}
+use Rattle.tree_transfer.proofs.bounding.bound_node.Goals as goal
+
+pub shown_by-requires-clause-some : goal.shown_by-requires-clause-some
+shown_by-requires-clause-some c =
+    shows_some (support_in c.args.given.now) c.args.tree.now.nodes c.args.place c.args.path.now c.args.least c.requires.at c.requires.place _ _ c.branch-path.ensures c.node-node.ensures
+
+pub returns : goal.returns
+returns c =
+    bounds_on (support_in c.args.given.now) c.args.tree.now.nodes c.args.place c.args.path.now c.args.least c.requires.at c.requires.place c.pass.new.self _ _ c.in_ok-shown.shown c.min.result
+    c.branch-path.ensures c.node-node.ensures c.in_ok-shown.ensures.shown c.in_ok-shown.ensures.value
+    c.in_ok-pass.ensures.path
+    (c.in_ok-pass.ensures.inside _ c.requires.at.path_in
+    (subst (IsNodeIn c.args.given.now.inst.now c.args.given.now.pool.now) (sym c.node-node.ensures)
+    (at_place (IsNodeIn c.args.given.now.inst.now c.args.given.now.pool.now) c.args.tree.now.nodes c.args.place c.requires.place c.requires.inside)))
+    c.in_ok-pass.ensures.waits c.min.ensures

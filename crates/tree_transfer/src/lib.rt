@@ -1,0 +1,13 @@
+//! Trees of decisions that are handed on to another instance.
+//!
+//! [`carry_tree`] carries the tree of an older instance over: a node that does not split there gives way to its second child.
+//! [`greatest_bound`] says what such a tree shows there with the price sets that it names.
+#![tactic(auto)]
+
+mod bounding;
+mod carrying;
+#[cfg(test)]
+mod tests;
+
+pub use bounding::greatest_bound;
+pub use carrying::carry_tree;
