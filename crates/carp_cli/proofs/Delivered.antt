@@ -5,7 +5,7 @@ use Rattle.std.specs.List.{AllByRecursion}
 use Rattle.std.specs.Prelude.{◌⊎◌}
 use Rattle.carp_outside.specs.Causes.{Rose}
 use Rattle.carp_outside.specs.Told.{SameContents, WroteFront}
-use Rattle.command_words.specs.Commands.{Command, Solve, Check, Sheet, Make, Drill, Upgrade, Postman, Fleet}
+use Rattle.command_words.specs.Commands.{Command, Solve, Check, Sheet, Make, Drill, Upgrade, Postman, Fleet, Edit}
 use Rattle.command_works.specs.Works.{Kept, Work}
 use Rattle.carp_cli.specs.Outside.{Outside, found, AreKept, AreKeptInPart}
 use Rattle.carp_cli.specs.Runs.{IsHelped, Leaves}
@@ -132,6 +132,7 @@ cut_is_not_helped (Some (Drill turns seed)) (is, e) = cc
 cut_is_not_helped (Some (Upgrade file cert renewed)) (is, e) = cc
 cut_is_not_helped (Some (Postman file)) (is, e) = cc
 cut_is_not_helped (Some (Fleet file turns)) (is, e) = cc
+cut_is_not_helped (Some (Edit file cert edits edited carried)) (is, e) = cc
 
 pub memory_is_not_helped : (command : Option Command) → IsHelped command Memory → ⊥
 memory_is_not_helped None none = none
@@ -144,3 +145,4 @@ memory_is_not_helped (Some (Drill turns seed)) (is, e) = cc
 memory_is_not_helped (Some (Upgrade file cert renewed)) (is, e) = cc
 memory_is_not_helped (Some (Postman file)) (is, e) = cc
 memory_is_not_helped (Some (Fleet file turns)) (is, e) = cc
+memory_is_not_helped (Some (Edit file cert edits edited carried)) (is, e) = cc

@@ -1,12 +1,12 @@
 -- What becomes of a command, from what becomes of its files and its job.
 use Rattle.std.proofs.Common.{◌≡◌, ◌≢◌, ℕ, ◌%◌, ◌^◌, ◌+◌, List, [], ◌∷◌, map, refl, sym, ap, ◌∙◌, subst, inl, inr, IsTrue, Bool, true, false, true≢false, Option, None, Some, codes}
 use Rattle.std.specs.List.{AllByRecursion}
-use Rattle.std.specs.Prelude.{◌⊎◌, Result, Ok, Err, IfOk, OnOk}
+use Rattle.std.specs.Prelude.{◌⊎◌, Result, Ok, Err, IfOk, IsSomeAnd, OnOk}
 use Rattle.carp_base.specs.declared.fail.Fail.{Fail}
 use Rattle.carp_base.specs.declared.fail.Fail.TheVariants.{Refused}
 use Rattle.carp_base.specs.declared.fail.Memory.{Memory as Want}
 use Rattle.cert_lines.specs.Texts as certificates
-use Rattle.command_words.specs.Commands.{Command, Solve, Check, Sheet, Make, Drill, Upgrade, Postman, Fleet, Source, asks_helpers, keeps, reads, seed_of}
+use Rattle.command_words.specs.Commands.{Command, Solve, Check, Sheet, Make, Drill, Upgrade, Postman, Fleet, Edit, Source, asks_helpers, keeps, reads, seed_of}
 use Rattle.command_files.specs.Reads.{IsTried, IsRefusal}
 use Rattle.command_files.specs.declared.status.Status.{Status}
 use Rattle.command_files.specs.declared.status.Status.TheVariants.{Proven, Gap, Accepted, Done, BadUsage, ReadFault}
@@ -18,6 +18,13 @@ use Rattle.command_works.specs.Made.{IsMade, job_asks, job_seed}
 use Rattle.command_works.specs.Solving.{IsSolvedBy}
 use Rattle.command_works.specs.Drills.{IsDrilled}
 use Rattle.command_works.specs.Fleets.{IsFleetFound}
+use Rattle.cert_format.specs.Certs.{certificate_in}
+use Rattle.cert_format.specs.Good.{IsProof}
+use Rattle.carp_base.specs.Problem.{Problem}
+use Rattle.cert_transfer.specs.Transfer.{IsCarriedOver}
+use Rattle.edit_files.specs.Edited.{IsEdited, IsEditedFrom}
+use Rattle.edit_files.specs.declared.edited.Edited.{Edited}
+use Rattle.carp_cli.specs.Editing.{AreEdited}
 use Rattle.command_works.specs.Texts.{answer_text, made_text}
 use Rattle.command_works.specs.Works.{Kept, Work}
 use Rattle.carp_cli.specs.Outside.{Finding}
@@ -25,6 +32,15 @@ use Rattle.carp_cli.specs.Answers.{IsDone, IsDoneStatus, refusal_work}
 use Rattle.carp_cli.specs.Refusals.{HasReport}
 use Rattle.carp_cli.specs.Runs.{IsHelped}
 use Rattle.carp_cli.specs.Steps.{IsPrepared}
+
+-- what is so of what is there
+of_some : {X : Type 0} {P Q : X → Type 0} (o : Option X) → IsSomeAnd o P → ((x : X) → P x → Q x) → IsSomeAnd o Q
+of_some None none f = none
+of_some (Some x) holds f = f x holds
+
+by_second : {X : Type 0} {P : X → Type 0} {R : Type 0} (o : Option X) → IsSomeAnd o P → ((x : X) → P x → R) → R
+by_second None none f = absurd none
+by_second (Some x) holds f = f x holds
 
 -- a command is done
 record IsPerformed (held : Bool) (c : Command) (found : Finding) (status : Status) (work : Work) : Type 0 where
@@ -135,6 +151,40 @@ module _ (held : Bool) (found : Finding) (status : Status) (work : Work) where
       record { status_is = made.0; names = ap (map (λ k. k.name)) by.keeps; done = λ told. record { instance = inst; read = read told; fleet = by } }
   fleet_counted file turns _ fails read made = absurd fails
 
+  -- what three files hold, as three facts
+  held_apart : (file cert edits : List ℕ) (contents : List ℕ → Option (List ℕ)) (x : Edited) → IsEdited x → IsEditedFrom file cert edits contents x →
+      AreEdited file cert edits contents x.before (certificate_in x.cert) x.edits.items
+  held_apart file cert edits contents x is from = record {
+    read = of_some (contents file) from (λ a held. (held.0, by_second (contents cert) held.1 (λ b more. by_second (contents edits) more.1 (λ c last. last.1.read))));
+    certified = by_second (contents file) from (λ a held. of_some (contents cert) held.1 (λ b more. (more.0, by_second (contents edits) more.1 (λ c last. last.1.certified))));
+    edits_read = by_second (contents file) from (λ a held. by_second (contents cert) held.1 (λ b more. of_some (contents edits) more.1 (λ c last. (last.0, last.1.edits_read))));
+    good = is.good;
+  }
+
+  carried_along : (file cert edits new_file new_cert : List ℕ) (job : Job) → IsFor (Edit file cert edits new_file new_cert) job → IsSoundJob job
+      → (IsTrue held → WasRead (Edit file cert edits new_file new_cert) found.contents job) → IsMade job found.offered status work
+      → IsPerformed held (Edit file cert edits new_file new_cert) found status work
+  carried_along file cert edits new_file new_cert (jobs.Edit read first second) is sound was made =
+      let by = made.1 in
+      record {
+        status_is = made.0;
+        names = ap (map (λ k. k.name)) by.keeps ∙ rw (is.0, is.1) refl;
+        done = λ told. record {
+          instance = read.before;
+          certificate = certificate_in read.cert;
+          changes = read.edits.items;
+          files = held_apart file cert edits found.contents read sound (was told);
+          carried = by.certificate;
+          over = subst (λ (p : Problem). IsCarriedOver p (certificate_in read.cert) by.certificate) sound.after by.over;
+          proof = subst (λ (p : Problem). IsProof p by.certificate) sound.after by.proof;
+          text = by.text;
+          text_is = by.text_is;
+          keeps = by.keeps ∙ rw (is.0, is.1, sound.after) refl;
+          writes = by.writes ∙ rw sound.after refl;
+        };
+      }
+  carried_along file cert edits new_file new_cert _ fails sound was made = absurd fails
+
   performed : (c : Command) (job : Job) → IsFor c job → IsSoundJob job → (IsTrue held → WasRead c found.contents job)
       → IsMade job found.offered status work → IsPerformed held c found status work
   performed (Solve file cert turns seed) job is sound = solved file cert turns seed job is
@@ -145,6 +195,7 @@ module _ (held : Bool) (found : Finding) (status : Status) (work : Work) where
   performed (Upgrade file cert renewed) job is sound = upgraded file cert renewed job is
   performed (Postman file) job is sound = round_found file job is sound
   performed (Fleet file turns) job is sound = fleet_counted file turns job is
+  performed (Edit file cert edits edited carried) job is sound = carried_along file cert edits edited carried job is sound
 
 -- a job asks the helpers where its command does, and with its seed
 abbrev AsksAlike : Command → Job → Type 0
@@ -183,6 +234,10 @@ asks_alike (Fleet file turns) job is = by job is where
   by : (job : Job) → IsFor (Fleet file turns) job → AsksAlike (Fleet file turns) job
   by (jobs.Fleet inst asked) is = (refl, refl)
   by _ fails = absurd fails
+asks_alike (Edit file cert edits edited carried) job is = by job is where
+  by : (job : Job) → IsFor (Edit file cert edits edited carried) job → AsksAlike (Edit file cert edits edited carried) job
+  by (jobs.Edit read first second) is = (refl, refl)
+  by _ fails = absurd fails
 
 done_reports : (c : Command) (status : Status) → IsDoneStatus c status → HasReport status
 done_reports (Solve file cert turns seed) status (inl is) = subst HasReport (sym is) tt
@@ -195,6 +250,7 @@ done_reports (Upgrade file cert renewed) status is = subst HasReport (sym is) tt
 done_reports (Postman file) status is = subst HasReport (sym is) tt
 done_reports (Fleet file turns) status (inl is) = subst HasReport (sym is) tt
 done_reports (Fleet file turns) status (inr is) = subst HasReport (sym is) tt
+done_reports (Edit file cert edits edited carried) status is = subst HasReport (sym is) tt
 
 -- a refusal has no report
 refusals_report_nothing : (status : Status) → IsRefusal status → HasReport status → ⊥

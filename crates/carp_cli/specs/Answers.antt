@@ -2,7 +2,7 @@
 use Rattle.std.specs.Prelude.{◌≡◌, ℕ, List, [], ◌∷◌, Option, None, Some, ◌⊎◌}
 use Rattle.dat_text.specs.DatText.{dat_of}
 use Rattle.town_maker.specs.Towns.{town_of}
-use Rattle.command_words.specs.Commands.{Command, Solve, Check, Sheet, Make, Drill, Upgrade, Postman, Fleet, reads}
+use Rattle.command_words.specs.Commands.{Command, Solve, Check, Sheet, Make, Drill, Upgrade, Postman, Fleet, Edit, reads}
 use Rattle.command_files.specs.Files.{RoseAtSome}
 use Rattle.command_jobs.specs.Inputs.{IsRefused}
 use Rattle.command_works.specs.Drills.{IsDrilled}
@@ -13,6 +13,7 @@ use Rattle.carp_cli.specs.Refusals.{refusal_text}
 use Rattle.carp_cli.specs.Solving.{IsSolved}
 use Rattle.carp_cli.specs.Checking.{IsChecked, IsSpelledOut, IsUpgraded}
 use Rattle.carp_cli.specs.Neighbours.{IsRoundFound, IsFleetCounted}
+use Rattle.carp_cli.specs.Editing.{IsCarriedAlong}
 use Rattle.command_files.specs.declared.status.Status.{Status}
 use Rattle.command_files.specs.declared.status.Status.TheVariants.{Proven, Gap, Accepted, Done, BadUsage, ReadFault}
 
@@ -26,6 +27,7 @@ IsDoneStatus (Drill turns seed) status = status ≡ Done
 IsDoneStatus (Upgrade file cert renewed) status = status ≡ Done
 IsDoneStatus (Postman file) status = status ≡ Done
 IsDoneStatus (Fleet file turns) status = (status ≡ Proven) ⊎ (status ≡ Gap)
+IsDoneStatus (Edit file cert edits edited carried) status = status ≡ Done
 
 -- the text of the town of a number is to be kept, and its numbers are to be written
 abbrev pub IsTownKept : (file : List ℕ) (seed : ℕ) → Work → Type 0
@@ -41,6 +43,7 @@ IsDone (Drill turns seed) found status work = IsDrilled seed turns found.offered
 IsDone (Upgrade file cert renewed) found status work = IsUpgraded file cert renewed found.contents work
 IsDone (Postman file) found status work = IsRoundFound file found.contents work
 IsDone (Fleet file turns) found status work = IsFleetCounted file turns found.contents status work
+IsDone (Edit file cert edits edited carried) found status work = IsCarriedAlong file cert edits edited carried found.contents work
 
 -- a refusal keeps nothing, and writes its text
 abbrev pub refusal_work : Status → Work

@@ -3,6 +3,7 @@ pub mod Refusals
 pub mod Solving
 pub mod Checking
 pub mod Neighbours
+pub mod Editing
 pub mod Answers
 pub mod Runs
 pub mod Steps

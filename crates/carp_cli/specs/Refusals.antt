@@ -1,11 +1,11 @@
 -- What is written for an answer that has no report.
 use Rattle.std.specs.Prelude.{ℕ, ◌++◌, List, [], codes, decimal}
-use Rattle.refusal_texts.specs.Lines.{instance_fault_line, certificate_fault_line, rejection_line}
+use Rattle.refusal_texts.specs.Lines.{instance_fault_line, certificate_fault_line, edit_fault_line, rejection_line}
 use Rattle.command_files.specs.declared.status.Status.{Status}
-use Rattle.command_files.specs.declared.status.Status.TheVariants.{Proven, Gap, Accepted, Done, Rejected, BadUsage, BadInstance, BadCertificate, ReadFault, WriteFault, Memory, TooLong, NotJoined}
+use Rattle.command_files.specs.declared.status.Status.TheVariants.{Proven, Gap, Accepted, Done, Rejected, BadUsage, BadInstance, BadCertificate, ReadFault, WriteFault, Memory, TooLong, NotJoined, BadEdit}
 
 unfoldable pub usage_text : List ℕ
-usage_text = codes "usage: carp solve FILE CERT [--turns N] [--seed N]\n       carp check FILE CERT\n       carp sheet FILE CERT\n       carp make FILE [--seed N]\n       carp drill [--turns N] [--seed N]\n       carp upgrade FILE CERT NEWCERT\n       carp postman FILE\n       carp fleet FILE [--turns N]\n"
+usage_text = codes "usage: carp solve FILE CERT [--turns N] [--seed N]\n       carp check FILE CERT\n       carp sheet FILE CERT\n       carp make FILE [--seed N]\n       carp drill [--turns N] [--seed N]\n       carp upgrade FILE CERT NEWCERT\n       carp postman FILE\n       carp fleet FILE [--turns N]\n       carp edit FILE CERT EDITS NEWFILE NEWCERT\n"
 
 unfoldable pub limit_line : ℕ → List ℕ
 limit_line limit = codes "too long: more than " ++ decimal limit ++ codes " bytes\n"
@@ -22,6 +22,7 @@ refusal_text (Rejected reason) = rejection_line reason
 refusal_text ReadFault = codes "read fault\n"
 refusal_text (TooLong limit) = limit_line limit
 refusal_text (NotJoined edge) = apart_line edge
+refusal_text (BadEdit fault) = edit_fault_line fault
 refusal_text Memory = []
 refusal_text WriteFault = []
 refusal_text Accepted = []

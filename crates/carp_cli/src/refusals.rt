@@ -5,7 +5,7 @@ ghost use Rattle.carp_cli.specs.Refusals.{apart_line, limit_line, refusal_text, 
 use carp_base::Memory;
 use command_files::Status;
 use number_texts::push_words;
-use refusal_texts::{certificate_fault_line, instance_fault_line, rejection_line};
+use refusal_texts::{certificate_fault_line, edit_fault_line, instance_fault_line, rejection_line};
 use std::alloc::Global;
 
 /// What is written for an answer: nothing where the answer has a report, or none is to be had.
@@ -16,7 +16,7 @@ pub(crate) fn refusal(alloc: Global, status: &Status) -> Result<Vec<u8>, Memory>
     match status {
         Status::BadUsage => Ok(Vec::from_slice(
             alloc,
-            b"usage: carp solve FILE CERT [--turns N] [--seed N]\n       carp check FILE CERT\n       carp sheet FILE CERT\n       carp make FILE [--seed N]\n       carp drill [--turns N] [--seed N]\n       carp upgrade FILE CERT NEWCERT\n       carp postman FILE\n       carp fleet FILE [--turns N]\n",
+            b"usage: carp solve FILE CERT [--turns N] [--seed N]\n       carp check FILE CERT\n       carp sheet FILE CERT\n       carp make FILE [--seed N]\n       carp drill [--turns N] [--seed N]\n       carp upgrade FILE CERT NEWCERT\n       carp postman FILE\n       carp fleet FILE [--turns N]\n       carp edit FILE CERT EDITS NEWFILE NEWCERT\n",
         )?),
         Status::BadInstance(fault) => instance_fault_line(alloc, fault),
         Status::BadCertificate(fault) => certificate_fault_line(alloc, fault),
@@ -24,6 +24,7 @@ pub(crate) fn refusal(alloc: Global, status: &Status) -> Result<Vec<u8>, Memory>
         Status::ReadFault => Ok(Vec::from_slice(alloc, b"read fault\n")?),
         Status::TooLong(limit) => write_limit(alloc, *limit),
         Status::NotJoined(edge) => write_apart(alloc, *edge),
+        Status::BadEdit(fault) => edit_fault_line(alloc, fault),
         Status::Memory | Status::WriteFault => Ok(Vec::new(alloc)),
         Status::Proven | Status::Gap | Status::Accepted | Status::Done => Ok(Vec::new(alloc)),
     }

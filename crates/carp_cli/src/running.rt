@@ -39,6 +39,9 @@ use std::alloc::Global;
 ///   ([`postman::postman`]), and ends `Done`; where they do not hang together with the depot it ends `NotJoined`.
 /// - `fleet FILE [--turns N]` counts the fewest vehicles that carry all demands ([`fleet_pack::pack`]), and writes a tour for each and a tree that proves how many it takes at
 ///   least. It ends `Proven` where that is the count, and else `Gap`. The turns are 64 where they are not given.
+/// - `edit FILE CERT EDITS NEWFILE NEWCERT` reads an instance, a certificate that is good for it and edits ([`cert_transfer::read_edits`]), all three files before it looks at what
+///   they hold; keeps the edited instance at NEWFILE and then the certificate, carried over to it ([`cert_transfer::carry`]), at NEWCERT; and ends `Done`. Edits that can't be read
+///   or may not be are `BadEdit`, and so are those that make an instance with a fault.
 ///
 /// All other words are bad usage; [`command_words::read_words`] says which are plain. All texts are built before anything is kept or
 /// written.

@@ -2,9 +2,10 @@
 use Rattle.std.specs.Prelude.{ℕ, List, Option, ◌⊎◌}
 use Rattle.carp_base.specs.Problem.{Problem}
 use Rattle.dat_text.specs.Text.{IsTextOf}
-use Rattle.command_words.specs.Commands.{Command, Solve, Check, Sheet, Make, Drill, Upgrade, Postman, Fleet, instance_at, certificate_at}
+use Rattle.command_words.specs.Commands.{Command, Solve, Check, Sheet, Make, Drill, Upgrade, Postman, Fleet, Edit, instance_at, certificate_at}
 use Rattle.command_files.specs.Files.{Holds, IsInstance, IsBadInstance, IsGoodText, IsBadCertificate, IsBadFile, IsBadRound, IsJoinedText}
 use Rattle.command_files.specs.declared.status.Status.{Status}
+use Rattle.edit_files.specs.Edited.{AreBadFiles, AreGoodFiles}
 
 -- the first file is the text of an instance, and the second is refused so for it
 pub record IsBadSecond (file cert : List ℕ) (contents : List ℕ → Option (List ℕ)) (status : Status) : Type 0 where
@@ -32,6 +33,7 @@ IsRefused (Drill turns seed) contents status = ⊥
 IsRefused (Upgrade file cert renewed) contents status = IsBadPair file cert contents status
 IsRefused (Postman file) contents status = IsBadFile IsBadRound (instance_at file) contents status
 IsRefused (Fleet file turns) contents status = IsBadFile IsBadInstance (instance_at file) contents status
+IsRefused (Edit file cert edits edited carried) contents status = AreBadFiles file cert edits contents status
 
 -- what names hold lets a command be done
 abbrev pub CanBeDone : Command → (List ℕ → Option (List ℕ)) → Type 0
@@ -43,3 +45,4 @@ CanBeDone (Drill turns seed) contents = Unit {0}
 CanBeDone (Upgrade file cert renewed) contents = IsGoodPair file cert contents
 CanBeDone (Postman file) contents = Holds (instance_at file) contents IsJoinedText
 CanBeDone (Fleet file turns) contents = Holds (instance_at file) contents IsInstance
+CanBeDone (Edit file cert edits edited carried) contents = AreGoodFiles file cert edits contents

@@ -11,10 +11,11 @@ use Rattle.cert_format.specs.Certs.{certificate_in}
 use Rattle.cert_format.specs.Good.{IsGood, IsProof, with_counts}
 use Rattle.cert_format.specs.declared.cert.Cert.{Cert}
 use Rattle.cert_checker.specs.declared.streaming.Checked.{Checked}
-use Rattle.command_words.specs.Commands.{Command, Solve, Check, Sheet, Make, Drill, Upgrade, Postman, Fleet, instance_at, certificate_at}
+use Rattle.command_words.specs.Commands.{Command, Solve, Check, Sheet, Make, Drill, Upgrade, Postman, Fleet, Edit, instance_at, certificate_at}
 use Rattle.postman.specs.Rounds.{IsShownRound}
 use Rattle.command_words.specs.Laws.{HasBudget}
 use Rattle.command_files.specs.Files.{Holds}
+use Rattle.edit_files.specs.Edited.{IsEdited, IsEditedFrom}
 use Rattle.command_jobs.specs.declared.job.Job.{Job}
 use Rattle.command_jobs.specs.declared.job.Job.TheVariants as jobs
 
@@ -28,9 +29,10 @@ IsFor (Drill turns seed) (jobs.Drill asked drawn) = (asked ≡ turns) × (drawn 
 IsFor (Upgrade file cert renewed) (jobs.Upgrade c name) = name.now ≡ renewed
 IsFor (Postman file) (jobs.Postman laid) = Unit {0}
 IsFor (Fleet file turns) (jobs.Fleet inst asked) = asked ≡ turns
+IsFor (Edit file cert edits edited carried) (jobs.Edit read first second) = (first.now ≡ edited) × (second.now ≡ carried)
 IsFor _ _ = ⊥
 
--- it can be done: its turns are in their range, its plan is lawful, its certificate can be spelled, and its round is least
+-- it can be done: its turns are in their range, its plan is lawful, its certificate can be spelled, its round is least, and its certificate is good for the instance that is edited
 abbrev pub IsSoundJob : Job → Type 0
 IsSoundJob (jobs.Solve inst name turns seed) = HasBudget (Solve name.now name.now turns seed)
 IsSoundJob (jobs.Check checked) = Unit {0}
@@ -40,6 +42,7 @@ IsSoundJob (jobs.Drill turns seed) = HasBudget (Drill turns seed)
 IsSoundJob (jobs.Upgrade c name) = IsSpellable (certificate_in c)
 IsSoundJob (jobs.Postman laid) = IsShownRound laid.inst laid.round.walk laid.round.shores.items laid.round.cost
 IsSoundJob (jobs.Fleet inst turns) = HasBudget (Fleet [] turns)
+IsSoundJob (jobs.Edit read edited carried) = IsEdited read
 
 -- The two files are the texts of an instance and of a certificate that is good for it: its plan is lawful and costs what is stated, and no
 -- lawful plan costs less than its bound.
@@ -81,6 +84,7 @@ WasRead (Drill turns seed) contents (jobs.Drill asked drawn) = Unit {0}
 WasRead (Upgrade file cert renewed) contents (jobs.Upgrade c name) = WasRenewed file cert contents c
 WasRead (Postman file) contents (jobs.Postman laid) = Holds (instance_at file) contents (λ bytes. IsTextOf bytes laid.inst)
 WasRead (Fleet file turns) contents (jobs.Fleet inst asked) = Holds (instance_at file) contents (λ bytes. IsTextOf bytes inst)
+WasRead (Edit file cert edits edited carried) contents (jobs.Edit read first second) = IsEditedFrom file cert edits contents read
 WasRead _ contents _ = ⊥
 
 -- the job of a command; `held` says whether contents are told

@@ -3,7 +3,7 @@ ghost use Rattle.std.specs.Prelude.{◌≡◌, ℕ, ◌≤◌, IfOk, IsTrue};
 ghost use Rattle.carp_outside.specs.Told.{SameContents};
 ghost use Rattle.cert_format.specs.Certs.{certificate_in};
 ghost use Rattle.cert_format.specs.Good.{with_counts};
-ghost use Rattle.command_words.specs.Commands.{Solve, Check, Sheet, Upgrade, Postman, Fleet, reads};
+ghost use Rattle.command_words.specs.Commands.{Solve, Check, Sheet, Upgrade, Postman, Fleet, Edit, reads};
 ghost use Rattle.command_words.specs.Forms.{command_in};
 ghost use Rattle.command_words.specs.Laws.{HasBudget};
 ghost use Rattle.command_files.specs.Reads.{IsTried};
@@ -17,6 +17,7 @@ use cert_format::{Cert, counts_keep_good, counts_of, good_is_proof};
 use command_files::{Status, check_file, read_good, read_instance, read_round};
 use command_words::Command;
 use dat_text::readings_are_unique;
+use edit_files::read_edited;
 use std::alloc::Global;
 
 /// Reads the files of a command, each of them whole before the next, and makes its job of them: the first file that can't be read, is too long or
@@ -52,6 +53,16 @@ pub fn gather<'a, H: Shelf>(
         } => gather_renewed(alloc, file, cert, renewed, shelf),
         Command::Postman { file } => gather_round(alloc, file, shelf),
         Command::Fleet { file, turns } => gather_fleet(alloc, file, turns, shelf),
+        Command::Edit {
+            file,
+            cert,
+            edits,
+            edited,
+            carried,
+        } => {
+            let names = Kept { edited, carried };
+            gather_edited(alloc, file, cert, edits, names, shelf)
+        }
     }
 }
 
@@ -200,6 +211,37 @@ fn gather_fleet<'a, H: Shelf>(
 {
     match read_instance(alloc, shelf, file) {
         Ok(inst) => Ok(Job::Fleet { inst, turns }),
+        Err(fail) => Err(fail),
+    }
+}
+
+// The names under which an edit keeps what it makes.
+#[derive(Clone, Copy)]
+struct Kept<'a> {
+    edited: &'a str,
+    carried: &'a str,
+}
+
+// An instance, a certificate that is good for it, and edits.
+fn gather_edited<'a, H: Shelf>(
+    alloc: Global,
+    file: &str,
+    cert: &str,
+    edits: &str,
+    names: Kept<'a>,
+    shelf: &mut H,
+) -> Result<Job<'a>, Fail<Status>>
+    ensures job { IfOk result (IsJobOf H.tells (Edit file.now cert.now edits.now names.edited.now names.carried.now) (H.contents shelf.old)) }
+    ensures tried { IsTried H.tells (reads (Edit file.now cert.now edits.now names.edited.now names.carried.now)) (H.failed_looks shelf.old) (H.failed_looks shelf.new) (H.given shelf.old) (H.given shelf.new) (IsRefused (Edit file.now cert.now edits.now names.edited.now names.carried.now) (H.contents shelf.old)) (CanBeDone (Edit file.now cert.now edits.now names.edited.now names.carried.now) (H.contents shelf.old)) result }
+    ensures contents { IsTrue H.tells → SameContents (H.contents shelf.old) (H.contents shelf.new) }
+    ensures keeps { H.failed_keeps shelf.new ≡ H.failed_keeps shelf.old }
+{
+    match read_edited(alloc, shelf, file, cert, edits) {
+        Ok(read) => Ok(Job::Edit {
+            read,
+            edited: names.edited,
+            carried: names.carried,
+        }),
         Err(fail) => Err(fail),
     }
 }

@@ -4,6 +4,7 @@ use carp_base::Instance;
 use cert_checker::Checked;
 use cert_format::Cert;
 use command_files::Laid;
+use edit_files::Edited;
 use plan_model::Plan;
 
 /// What a command has to do: its names and its numbers, and what was read of its files.
@@ -51,5 +52,11 @@ pub enum Job<'a> {
         inst: Instance,
         /// 1 to 1,048,576.
         turns: u64,
+    },
+    /// Keeps an edited instance at `edited`, and the certificate, carried over to it, at `carried`.
+    Edit {
+        read: Edited,
+        edited: &'a str,
+        carried: &'a str,
     },
 }

@@ -20,6 +20,7 @@ fn files(alloc: Global) -> Result<MemShelf, Fail> {
     let mut shelf = MemShelf::new(alloc, 7, Vec::new(alloc), Vec::new(alloc));
     shelf.place("file", STREET.replace(alloc, "~", "\n")?.as_bytes())?;
     shelf.place("cert", CERTIFICATE.replace(alloc, "~", "\n")?.as_bytes())?;
+    shelf.place("edits", b"cost 1 2\nservice 1 3\n")?;
     Ok(shelf)
 }
 
@@ -43,6 +44,11 @@ fn spelled(alloc: Global, job: &Job<'_>) -> Result<String, Fail> {
         }
         Job::Postman { laid } => format!(in alloc; "postman {}", laid.round.cost)?,
         Job::Fleet { inst, turns } => format!(in alloc; "fleet {} {turns}", inst.vertices())?,
+        Job::Edit {
+            read,
+            edited,
+            carried,
+        } => format!(in alloc; "edit {} {edited} {carried}", read.edits.len())?,
     })
 }
 
@@ -86,6 +92,22 @@ fn files_are_gathered(rt: HostRuntime) -> Result<(), Fail> {
     assert!(rt; upgrade.as_str() == "upgrade true new");
     assert!(rt; gathered(alloc, Command::Postman { file })?.as_str() == "postman 10");
     assert!(rt; gathered(alloc, Command::Fleet { file, turns: 3 })?.as_str() == "fleet 2 3");
+    Ok(())
+}
+
+#[test]
+fn an_edit_is_gathered(rt: HostRuntime) -> Result<(), Fail> {
+    let edit = gathered(
+        rt.alloc(),
+        Command::Edit {
+            file: "file",
+            cert: "cert",
+            edits: "edits",
+            edited: "new",
+            carried: "kept",
+        },
+    )?;
+    assert!(rt; edit.as_str() == "edit 2 new kept");
     Ok(())
 }
 

@@ -4,4 +4,5 @@ pub mod Texts
 pub mod Drills
 pub mod Rounds
 pub mod Fleets
+pub mod Carried
 pub mod Made

@@ -7,13 +7,14 @@ use Rattle.dat_text.specs.DatText.{dat_of}
 use Rattle.plan_print.specs.Sheet.{sheet_text}
 use Rattle.town_maker.specs.Towns.{town_of}
 use Rattle.command_jobs.specs.declared.job.Job.{Job}
-use Rattle.command_jobs.specs.declared.job.Job.TheVariants.{Solve, Check, Sheet, Make, Drill, Upgrade, Postman, Fleet}
+use Rattle.command_jobs.specs.declared.job.Job.TheVariants.{Solve, Check, Sheet, Make, Drill, Upgrade, Postman, Fleet, Edit}
 use Rattle.command_files.specs.declared.status.Status.{Status}
 use Rattle.command_files.specs.declared.status.Status.TheVariants.{Proven, Gap, Accepted, Done}
 use Rattle.command_works.specs.Works.{Work}
 use Rattle.command_works.specs.Solving.{IsSolvedBy}
 use Rattle.command_works.specs.Drills.{IsDrilled}
 use Rattle.command_works.specs.Fleets.{IsFleetFound}
+use Rattle.command_works.specs.Carried.{AreBothKept}
 use Rattle.command_works.specs.Rounds.{round_text}
 use Rattle.command_works.specs.Texts.{answer_text, made_text}
 
@@ -35,6 +36,7 @@ IsMade (Drill turns seed) offered status work = (status ≡ Done) × IsDrilled s
 IsMade (Upgrade c renewed) offered status work = (status ≡ Done) × IsKeptAgain c renewed.now work
 IsMade (Postman laid) offered status work = (status ≡ Done) × (work ≡ record { kept = []; text = round_text laid.inst laid.round.walk laid.round.cost })
 IsMade (Fleet inst turns) offered status work = ((status ≡ Proven) ⊎ (status ≡ Gap)) × IsFleetFound inst turns status work
+IsMade (Edit read edited carried) offered status work = (status ≡ Done) × AreBothKept read edited.now carried.now work
 
 -- whether a job asks the helpers, and the seed with which it does
 abbrev pub job_asks : Job → Bool

@@ -1,7 +1,8 @@
--- What `check`, `upgrade`, `make` and `drill` write.
+-- What `check`, `upgrade`, `make`, `drill` and `edit` write.
 use Rattle.std.specs.Prelude.{ℕ, ◌++◌, List, length, codes, decimal}
 use Rattle.carp_base.specs.Problem.{Problem, total_demand}
 use Rattle.number_texts.specs.Lines.{number_line}
+use Rattle.plan_print.specs.Report.{gap_line}
 
 -- a word, and the cost and the bound that are stated
 unfoldable pub answer_text : List ℕ → (cost bound : ℕ) → List ℕ
@@ -24,3 +25,11 @@ result_text cost bound turns = number_line (codes "cost ") cost ++ number_line (
 
 unfoldable pub drill_text : (seed asked : ℕ) → Problem → (cost bound turns : ℕ) → List ℕ
 drill_text seed asked p cost bound turns = drill_line seed asked ++ town_line p ++ result_text cost bound turns ++ codes "accepted\n"
+
+-- how many edges an edited instance has, and how many were closed; the cost and the bound of the certificate that was carried over to it, and the gap
+-- between them
+unfoldable pub edited_line : (edges closed : ℕ) → List ℕ
+edited_line edges closed = (codes "edited edges " ++ decimal edges) ++ number_line (codes " closed ") closed
+
+unfoldable pub edit_text : (edges closed cost bound : ℕ) → List ℕ
+edit_text edges closed cost bound = answer_text (edited_line edges closed) cost bound ++ gap_line cost bound

@@ -75,9 +75,9 @@ pub(crate) fn renew<'a>(
     deliver_one(alloc, renewed, bytes, text, Status::Done)
 }
 
-// A line of one word, the cost, and the bound.
+/// A first line, the cost, and the bound.
 #[tactic(auto, unfolding(crate::specs::Texts::answer_text))]
-fn answer(alloc: Global, word: &[u8], cost: u64, bound: u64) -> Result<Vec<u8>, Memory>
+pub(crate) fn answer(alloc: Global, word: &[u8], cost: u64, bound: u64) -> Result<Vec<u8>, Memory>
     ensures { IfOk result (λ text. text.items ≡ answer_text word.now cost bound) }
 {
     let mut text = Vec::from_slice(alloc, word)?;

@@ -7,6 +7,7 @@ ghost use Rattle.command_works.specs.Works.{work_in};
 use crate::answers::{accept, keep_town, renew, spell_sheet};
 use crate::delivery::Delivery;
 use crate::drilling::drill;
+use crate::editing::keep_edited;
 use crate::fleets::count_fleet;
 use crate::rounds::spell_round;
 use crate::solving::solve_instance;
@@ -45,5 +46,10 @@ pub fn make<'a, P: Proposer>(
         Job::Upgrade { cert, renewed } => renew(alloc, cert, renewed),
         Job::Postman { laid } => spell_round(alloc, laid),
         Job::Fleet { inst, turns } => count_fleet(alloc, inst, *turns),
+        Job::Edit {
+            read,
+            edited,
+            carried,
+        } => keep_edited(alloc, read, edited, carried),
     }
 }

@@ -6,6 +6,8 @@ use Rattle.carp_base.specs.declared.fault.InstanceFault.TheVariants.{TooManyVert
 use Rattle.dat_text.specs.declared.fault.DatFault.{DatFault}
 use Rattle.dat_text.specs.declared.fault.DatFault.TheVariants as dat
 use Rattle.dat_text.specs.Lines.{key_name}
+use Rattle.instance_edits.specs.declared.edit.EditFault.{EditFault}
+use Rattle.instance_edits.specs.declared.edit.EditFault.TheVariants as edit
 use Rattle.plan_model.specs.declared.verdict.Verdict.{Verdict}
 use Rattle.plan_model.specs.declared.verdict.Verdict.TheVariants.{Lawful, Broken, NotAtDepot, ServesOther, ServedTwice, NotServed, Overload}
 use Rattle.cert_lines.specs.declared.fault.CertFault.{CertFault}
@@ -57,6 +59,16 @@ certificate_words (cert.Truncated line) = around (codes "ends before line ") lin
 -- the line for a fault of a certificate's text
 unfoldable pub certificate_fault_line : CertFault → List ℕ
 certificate_fault_line fault = codes "bad certificate: " ++ certificate_words fault ++ codes "\n"
+
+-- what is wrong with edits, or with the edited instance
+abbrev pub edit_words : EditFault → List ℕ
+edit_words (edit.Syntax line) = around (codes "line ") line (codes " cannot be read")
+edit_words (edit.Unknown line) = around (codes "line ") line (codes " names a wrong edge")
+edit_words (edit.Refused fault) = instance_words fault
+
+-- the line for a fault of edits
+unfoldable pub edit_fault_line : EditFault → List ℕ
+edit_fault_line fault = codes "bad edit: " ++ edit_words fault ++ codes "\n"
 
 -- what is first wrong with a plan, and nothing of a lawful one
 abbrev pub verdict_words : Verdict → List ℕ

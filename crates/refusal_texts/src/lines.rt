@@ -1,11 +1,12 @@
 // The lines that are written where an input is refused.
 ghost use Rattle.std.specs.Prelude.{◌≡◌, ◌++◌, IfOk, OnOk, string_bytes};
-ghost use Rattle.refusal_texts.specs.Lines.{around, fault_words, instance_words, instance_fault_line, certificate_words, certificate_fault_line, reason_words, verdict_words, misfit_words, rejection_line};
+ghost use Rattle.refusal_texts.specs.Lines.{around, fault_words, instance_words, instance_fault_line, certificate_words, certificate_fault_line, edit_fault_line, edit_words, reason_words, verdict_words, misfit_words, rejection_line};
 
 use carp_base::{InstanceFault, Memory};
 use cert_checker::{Part, Reason};
 use cert_lines::CertFault;
 use dat_text::DatFault;
+use instance_edits::EditFault;
 use plan_model::Verdict;
 use std::alloc::{AllocError, Global};
 use std::fmt::Write;
@@ -34,6 +35,20 @@ pub fn certificate_fault_line(alloc: Global, fault: &CertFault) -> Result<Vec<u8
 {
     let mut text = String::from_str(alloc, "bad certificate: ")?;
     push_parts(&mut text, certificate_parts(fault))?;
+    text.push('\n')?;
+    Ok(text.into_bytes())
+}
+
+/// The line for a fault of edits: `bad edit: `, what is wrong with them or with the edited instance, and LF.
+///
+/// Lines of the edits and edges of the edited instance are counted from 1, as in the fault. Its error says only that memory was not to be had. A line has
+/// fewer than 100 bytes, so it takes constant time.
+#[tactic(auto, unfolding(crate::specs::Lines::edit_fault_line))]
+pub fn edit_fault_line(alloc: Global, fault: &EditFault) -> Result<Vec<u8>, Memory>
+    ensures { IfOk result (λ text. text.items ≡ edit_fault_line fault.now) }
+{
+    let mut text = String::from_str(alloc, "bad edit: ")?;
+    push_parts(&mut text, edit_parts(fault))?;
     text.push('\n')?;
     Ok(text.into_bytes())
 }
@@ -98,6 +113,16 @@ fn certificate_parts(fault: &CertFault) -> (&'static str, u64, &'static str)
         CertFault::Syntax(line) => ("line ", *line, " cannot be read"),
         CertFault::Limit(line) => ("line ", *line, " passes a limit"),
         CertFault::Truncated(line) => ("ends before line ", *line, " is complete"),
+    }
+}
+
+fn edit_parts(fault: &EditFault) -> (&'static str, u64, &'static str)
+    ensures { around result.0.now result.1 result.2.now ≡ edit_words fault.now }
+{
+    match fault {
+        EditFault::Syntax(line) => ("line ", *line, " cannot be read"),
+        EditFault::Unknown(line) => ("line ", *line, " names a wrong edge"),
+        EditFault::Refused(fault) => instance_parts(fault),
     }
 }
 

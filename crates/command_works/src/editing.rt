@@ -1,0 +1,91 @@
+// What an edit makes.
+ghost use Rattle.std.specs.Prelude.{◌≡◌, ◌≤◌, ◌-◌, [], ◌∷◌, IfOk, length};
+ghost use Rattle.edit_files.specs.Edited.{IsEdited};
+ghost use Rattle.command_works.specs.Carried.{AreBothKept};
+ghost use Rattle.command_works.specs.Texts.{edit_text, edited_line};
+ghost use Rattle.command_works.specs.Works.{work_in};
+
+use crate::answers::answer;
+use crate::delivery::{Delivery, Kept};
+use carp_base::Memory;
+use cert_format::{good_is_proof, write_cert};
+use cert_transfer::carry;
+use command_files::Status;
+use dat_text::write_dat;
+use edit_files::Edited;
+use number_texts::{push_line, push_words};
+use plan_print::push_gap;
+use std::alloc::Global;
+
+/// The edited instance, to be kept under the first name, and the certificate that is carried over to it, to be kept under the second.
+pub(crate) fn keep_edited<'a>(
+    alloc: Global,
+    read: &Edited,
+    edited: &'a str,
+    carried: &'a str,
+) -> Result<Delivery<'a>, Memory>
+    requires { IsEdited read.now }
+    ensures { IfOk result (λ d. (d.status ≡ Status.Done) × AreBothKept read.now edited.now carried.now (work_in d)) }
+{
+    good_is_proof();
+    let cert = carry(alloc, &read.before, &read.edits, &read.after, &read.cert)?;
+    let (before, after) = (read.before.edge_count(), read.after.edge_count());
+    let text = summary(alloc, after, before.saturating_sub(after), cert.cost, cert.bound)?;
+    let first = Kept {
+        name: edited,
+        bytes: write_dat(alloc, &read.after)?,
+    };
+    let second = Kept {
+        name: carried,
+        bytes: write_cert(alloc, &cert)?,
+    };
+    deliver_two(alloc, first, second, text)
+}
+
+// Two texts to be kept, one after the other.
+fn deliver_two<'a>(
+    alloc: Global,
+    first: Kept<'a>,
+    second: Kept<'a>,
+    text: Vec<u8>,
+) -> Result<Delivery<'a>, Memory>
+    ensures { IfOk result (λ d. (d.status ≡ Status.Done) × (d.kept.items ≡ first ∷ second ∷ []) × (d.text ≡ text)) }
+{
+    let mut kept = Vec::new(alloc);
+    kept.push(first)?;
+    kept.push(second)?;
+    Ok(Delivery {
+        kept,
+        text,
+        status: Status::Done,
+    })
+}
+
+// The sizes, the cost and the bound, and the gap between them.
+#[tactic(auto, unfolding(crate::specs::Texts::edit_text))]
+fn summary(
+    alloc: Global,
+    edges: u32,
+    closed: u32,
+    cost: u64,
+    bound: u64,
+) -> Result<Vec<u8>, Memory>
+    requires { bound ≤ cost }
+    ensures { IfOk result (λ text. text.items ≡ edit_text edges closed cost bound) }
+{
+    let line = sizes(alloc, edges, closed)?;
+    let mut text = answer(alloc, &line, cost, bound)?;
+    push_gap(&mut text, u128::from(cost), u128::from(bound))?;
+    Ok(text)
+}
+
+// The first line.
+#[tactic(auto, unfolding(crate::specs::Texts::edited_line))]
+fn sizes(alloc: Global, edges: u32, closed: u32) -> Result<Vec<u8>, Memory>
+    ensures { IfOk result (λ text. text.items ≡ edited_line edges closed) }
+{
+    let mut text = Vec::new(alloc);
+    push_words(&mut text, b"edited edges ", edges)?;
+    push_line(&mut text, b" closed ", u128::from(closed))?;
+    Ok(text)
+}
