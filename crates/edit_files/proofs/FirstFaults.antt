@@ -24,6 +24,7 @@ fault_of k n =
     else ServiceTooLarge n
 
 told_by : (f : InstanceFault) → fault_of (fault_rank f) (fault_number f) ≡ f
+unfolding fault_of
 told_by (TooManyVertices n) = refl
 told_by (TooManyEdges n) = refl
 told_by (TooManyRequired n) = refl

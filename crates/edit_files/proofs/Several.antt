@@ -73,6 +73,11 @@ tried_none r parsed = record {
   good = λ told good no. parsed.good good;
 }
 
+-- of equal bytes the same is made
+pub parsed_of : {X : Type 0} {b c : List ℕ} {Is : List ℕ → X → Type 0} {Bad : List ℕ → Status → Type 0} {Good : List ℕ → Type 0} {r : Result X (Fail Status)}
+    → b ≡ c → IsParsed b Is Bad Good r → IsParsed c Is Bad Good r
+parsed_of {Is = Is} {Bad = Bad} {Good = Good} {r = r} same parsed = subst (λ (x : List ℕ). IsParsed x Is Bad Good r) same parsed
+
 -- by equal contents
 pub same_tried : {X : Type 0} {held : Bool} {sources : List Source} {c d : List ℕ → Option (List ℕ)} {lb ln : List ℕ → ℕ} {gb gn : ℕ}
     (Bad : (List ℕ → Option (List ℕ)) → Status → Type 0) (Good : (List ℕ → Option (List ℕ)) → Type 0) (r : Result X (Fail Status)) → (IsTrue held → c ≡ d)
@@ -86,10 +91,6 @@ same_tried Bad Good r same tried = record {
   good = λ told good no. tried.good told (subst Good (sym (same told)) good) no;
 }
 
--- what holds of what was made, by equal contents
-pub same_made : {X : Type 0} {c d : List ℕ → Option (List ℕ)} (P : (List ℕ → Option (List ℕ)) → X → Type 0) (r : Result X (Fail Status)) → c ≡ d → IfOk r (P c) → IfOk r (P d)
-same_made P r same is = subst (λ x. IfOk r (P x)) same is
-
 -- counts that rose later, or until earlier, rose
 rose_since : (n before mid now : ℕ) → before ≤ mid → RoseBy n mid now → RoseBy n before now
 rose_since n before mid now later rose = omega (arith, later, rose)
@@ -102,47 +103,47 @@ some_since [] before mid now later rose = rose
 some_since (source ∷ sources) before mid now later (inl rose) = inl (rose_since 1 (before source.name) (mid source.name) (now source.name) (later source.name) rose)
 some_since (source ∷ sources) before mid now later (inr rose) = inr (some_since sources before mid now later rose)
 
-at_first : {source : Source} {sources : List Source} {before now : List ℕ → ℕ} → RoseAtSome (source ∷ []) before now → RoseAtSome (source ∷ sources) before now
-at_first (inl rose) = inl rose
-at_first (inr none) = absurd none
+at_first : (source : Source) (sources : List Source) (before now : List ℕ → ℕ) → RoseAtSome (source ∷ []) before now → RoseAtSome (source ∷ sources) before now
+at_first source sources before now (inl rose) = inl rose
+at_first source sources before now (inr none) = absurd none
 
 at_first_until : (source : Source) (sources : List Source) (before mid now : List ℕ → ℕ) → ((name : List ℕ) → mid name ≤ now name) → RoseAtSome (source ∷ []) before mid → RoseAtSome (source ∷ sources) before now
 at_first_until source sources before mid now later (inl rose) = inl (rose_until 1 (before source.name) (mid source.name) (now source.name) (later source.name) rose)
 at_first_until source sources before mid now later (inr none) = absurd none
 
-limited : {limit g h : ℕ} {source : Source} {sources : List Source} → HasLimit limit (source ∷ []) × RoseBy (limit + 1) g h → HasLimit limit (source ∷ sources) × RoseBy (limit + 1) g h
-limited (inl is, rose) = (inl is, rose)
-limited (inr none, rose) = absurd none
+limited : (limit g h : ℕ) (source : Source) (sources : List Source) → HasLimit limit (source ∷ []) × RoseBy (limit + 1) g h → HasLimit limit (source ∷ sources) × RoseBy (limit + 1) g h
+limited limit g h source sources (inl is, rose) = (inl is, rose)
+limited limit g h source sources (inr none, rose) = absurd none
 
 -- the first of some files is not to be had
 pub first_stops : {X : Type 0} {held : Bool} {source : Source} {sources : List Source} {contents : List ℕ → Option (List ℕ)} {lb ln : List ℕ → ℕ} {gb gn : ℕ}
-    {Bad : List ℕ → Status → Type 0} {Good : List ℕ → Type 0} (f : Fail Status)
+    (Bad : List ℕ → Status → Type 0) (Good : List ℕ → Type 0) (f : Fail Status)
     → IsFileRead held source contents lb ln gb gn AreBytes NoneIsBad EachIsGood (failed (Vec ℕ Global) f)
     → IsTried held (source ∷ sources) lb ln gb gn (IsBadFile Bad source contents) (Holds source contents Good) (failed X f)
-first_stops {source = source} {contents = contents} f first = record {
+first_stops {source = source} {sources = sources} {contents = contents} {lb = lb} {ln = ln} {gb = gb} {gn = gn} Bad Good f first = record {
   refusal = λ status e. first.tried.refusal status (again e);
-  read = λ e. at_first (first.tried.read (again e));
-  too_long = λ limit e. limited (first.tried.too_long limit (again e));
+  read = λ e. at_first source sources lb ln (first.tried.read (again e));
+  too_long = λ limit e. limited limit gb gn source sources (first.tried.too_long limit (again e));
   refused = λ told status e. elim (first.tried.refused told status (again e)) [
     | inl fault ↦ inl fault
     | inr (inl long) ↦ inr (inl long)
     | inr (inr none) ↦ absurd (of_both (contents source.name) none none (λ bytes held more. held.1))
   ];
   bad = λ told status bad no. elim bad [
-    | inl long ↦ moved (first.tried.bad told status (inl long) (λ rose. no (at_first rose)))
-    | inr of ↦ out (first.tried.good told (of_some (contents source.name) of (λ bytes held. (held.0, tt))) (λ rose. no (at_first rose)))
+    | inl long ↦ moved (first.tried.bad told status (inl long) (λ rose. no (at_first source sources lb ln rose)))
+    | inr of ↦ out (first.tried.good told (of_some (contents source.name) of (λ bytes held. (held.0, tt))) (λ rose. no (at_first source sources lb ln rose)))
   ];
-  good = λ told good no. out (first.tried.good told (of_some (contents source.name) good (λ bytes held. (held.0, tt))) (λ rose. no (at_first rose)));
+  good = λ told good no. out (first.tried.good told (of_some (contents source.name) good (λ bytes held. (held.0, tt))) (λ rose. no (at_first source sources lb ln rose)));
 }
 
 -- the first of some files is read, and the others decide
 pub others_decide : {X : Type 0} {held : Bool} {source : Source} {sources : List Source} {contents : List ℕ → Option (List ℕ)} {lb lm ln : List ℕ → ℕ} {gb gm gn : ℕ}
-    {Bad : List ℕ → Status → Type 0} {Good : List ℕ → Type 0} (v : Vec ℕ Global) (r : Result X (Fail Status))
+    (Bad : List ℕ → Status → Type 0) (Good : List ℕ → Type 0) (v : Vec ℕ Global) (r : Result X (Fail Status))
     → IsFileRead held source contents lb lm gb gm AreBytes NoneIsBad EachIsGood (made (Vec ℕ Global) v)
     → IsTried held sources lm ln gm gn (Bad v.items) (Good v.items) r
     → ((name : List ℕ) → lb name ≤ lm name) → ((name : List ℕ) → lm name ≤ ln name) → gb ≤ gm
     → IsTried held (source ∷ sources) lb ln gb gn (IsBadFile Bad source contents) (Holds source contents Good) r
-others_decide {X} {held} {source} {sources} {contents} {lb} {lm} {ln} {gb} {gm} {gn} {Bad} {Good} v r first others risen rises given = record {
+others_decide {X} {held} {source} {sources} {contents} {lb} {lm} {ln} {gb} {gm} {gn} Bad Good v r first others risen rises given = record {
   refusal = others.refusal;
   read = λ e. inr (some_since sources lb lm ln risen (others.read e));
   too_long = λ limit e. let found = others.too_long limit e in (inr found.0, rose_since (limit + 1) gb gm gn given found.1);
@@ -158,7 +159,11 @@ others_decide {X} {held} {source} {sources} {contents} {lb} {lm} {ln} {gb} {gm} 
 }
 
 -- what is made of the bytes is made of the file that holds them
-pub made_of : {X : Type 0} {source : Source} {contents : List ℕ → Option (List ℕ)} (P : List ℕ → X → Type 0) (v : Vec ℕ Global) (r : Result X (Fail Status))
-    → Holds source contents (λ bytes. AreBytes bytes v) → IfOk r (P v.items) → IfOk r (λ x. Holds source contents (λ bytes. P bytes x))
-made_of {source = source} {contents = contents} P v (Ok x) own is = of_some (contents source.name) own (λ bytes held. (held.0, subst (λ b. P b x) held.1 is))
-made_of P v (Err e) own is = tt
+pub made_of : {X : Type 0} {held : Bool} {source : Source} {contents mid : List ℕ → Option (List ℕ)} {lb lm : List ℕ → ℕ} {gb gm : ℕ}
+    (P : (List ℕ → Option (List ℕ)) → List ℕ → X → Type 0) (v : Vec ℕ Global) (r : Result X (Fail Status))
+    → IsFileRead held source contents lb lm gb gm AreBytes NoneIsBad EachIsGood (made (Vec ℕ Global) v) → IsTrue held → mid ≡ contents
+    → IfOk r (P mid v.items) → IfOk r (λ x. Holds source contents (λ bytes. P contents bytes x))
+made_of {X = X} {source = source} {contents = contents} P v r first told same is = by r (subst (λ held. IfOk r (P held v.items)) same is) where
+  by : (r : Result X (Fail Status)) → IfOk r (P contents v.items) → IfOk r (λ x. Holds source contents (λ bytes. P contents bytes x))
+  by (Ok x) is = of_some (contents source.name) (first.made told) (λ bytes own. (own.0, subst (λ b. P contents b x) own.1 is))
+  by (Err e) is = tt

@@ -1,9 +1,12 @@
 -- What is made of three texts.
 use Rattle.std.proofs.Common.{◌≡◌, ℕ, List, refl, sym, ap, ◌∙◌, subst, inl, inr}
-use Rattle.std.specs.Prelude.{◌⊎◌, ◌↔◌, Result, Ok, Err}
+use Rattle.std.specs.Prelude.{◌⊎◌, ◌↔◌, Result, Ok, Err, IfErr}
+use Rattle.std.specs.declared.alloc.Global.{Global}
+use Rattle.std.specs.declared.vec.Vec.{Vec}
 use Rattle.carp_base.specs.Laws.{ValidWhereNoFault}
 use Rattle.carp_base.specs.Problem.{Problem, IsValid}
 use Rattle.carp_base.specs.Faults.{FaultApplies, IsFirstFault}
+use Rattle.carp_base.specs.Refusals.{RefusesFirstFault}
 use Rattle.carp_base.specs.declared.fail.Fail.{Fail}
 use Rattle.carp_base.specs.declared.fail.Fail.TheVariants.{Refused, Memory as NoMemory}
 use Rattle.carp_base.specs.declared.fault.InstanceFault.{InstanceFault}
@@ -12,7 +15,7 @@ use Rattle.dat_text.specs.Text.{IsTextOf}
 use Rattle.cert_format.specs.declared.cert.Cert.{Cert}
 use Rattle.instance_edits.specs.Edits.{edited}
 use Rattle.instance_edits.specs.Laws.{BadLineIsUnique, EditsAreUnique, EditsHaveNoFault}
-use Rattle.instance_edits.specs.Texts.{IsEditsText, IsFirstBad}
+use Rattle.instance_edits.specs.Texts.{IsEditsText, IsFirstBad, RefusesFirstBad}
 use Rattle.instance_edits.specs.declared.edit.Edit.{Edit}
 use Rattle.instance_edits.specs.declared.edit.EditFault.{EditFault}
 use Rattle.instance_edits.specs.declared.edit.EditFault.TheVariants as faults
@@ -38,6 +41,20 @@ same_refusal e = cc
 same_fault : {s t : Status} → s ≡ t → failed Changed (Refused s) ≡ failed Changed (Refused t)
 same_fault e = ap (λ s. Err (Refused s)) e
 
+-- what a refusal names
+same_error : {X E : Type 0} (e f : E) → ◌≡◌ {A = Result X E} (Err e) (Err f) → e ≡ f
+same_error e f is = cc
+
+pub named_line : (p : Problem) (bytes : List ℕ) (r : Result (Vec Edit Global) (Fail EditFault)) (fault : EditFault) → IfErr r (RefusesFirstBad p bytes) → r ≡ Err (Refused fault) → IsFirstBad p bytes fault
+named_line p bytes (Ok x) fault is e = cc
+named_line p bytes (Err f) fault is e = subst (RefusesFirstBad p bytes) (same_error f (Refused fault) e) is
+
+pub named_fault : (p : Problem) (given edits : List Edit) → given ≡ edits → (r : Result Problem (Fail InstanceFault)) (fault : InstanceFault) → IfErr r (RefusesFirstFault (edited p given)) → r ≡ Err (Refused fault)
+    → IsFirstFault (edited p edits) fault
+named_fault p given edits same (Ok x) fault is e = cc
+named_fault p given edits same (Err f) fault is e =
+    subst (λ (xs : List Edit). IsFirstFault (edited p xs) fault) same (subst (RefusesFirstFault (edited p given)) (same_error f (Refused fault) e) is)
+
 -- bytes that are no text of edits
 pub unread : EditsHaveNoFault → BadLineIsUnique → (p : Problem) (bytes : List ℕ) (fault : EditFault) → IsFirstBad p bytes fault
     → IsParsed {X = Changed} bytes (IsChangedBy p) (IsBadEdits p) (IsGoodEdits p) (Err (Refused (BadEdit fault)))
@@ -62,8 +79,8 @@ refused one apart valid_where p bytes edits fault text first = record {
   bad = λ status bad. elim bad [
     | inl b ↦ absurd (apart p bytes edits b.fault text b.first)
     | inr r ↦
-      let other : IsFirstFault (edited p edits) r.fault = subst (λ (xs : List Edit). IsFirstFault (edited p xs) r.fault) (one p bytes r.edits edits r.text text) r.first in
-      inl (same_fault (ap (λ (f : InstanceFault). BadEdit (faults.Refused f)) (one_first (edited p edits) fault r.fault first other) ∙ sym r.named))
+        let other : IsFirstFault (edited p edits) r.fault = subst (λ (xs : List Edit). IsFirstFault (edited p xs) r.fault) (one p bytes r.edits edits r.text text) r.first in
+        inl (same_fault (ap (λ (f : InstanceFault). BadEdit (faults.Refused f)) (one_first (edited p edits) fault r.fault first other) ∙ sym r.named))
   ];
   good = λ good. absurd (no_first p edits fault valid_where (subst (λ (xs : List Edit). IsValid (edited p xs)) (one p bytes good.edits edits good.text text) good.valid) first);
 }

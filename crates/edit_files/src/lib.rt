@@ -6,6 +6,8 @@
 
 mod edited;
 mod reading;
+#[cfg(test)]
+mod tests;
 mod texts;
 
 pub use edited::Edited;

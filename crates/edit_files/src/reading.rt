@@ -18,6 +18,11 @@ pub const EDITS_LIMIT: u64 = 1_048_576;
 
 /// Reads an instance, a certificate and edits from three files, all of them before it looks at what they hold. The first file that can't be read or is too long
 /// is refused; then the instance, the certificate for it, and the edits, where they are bad or the edited instance is.
+///
+/// A refusal is [`Status::ReadFault`], [`Status::TooLong`] with the limit of the file, [`Status::BadInstance`], [`Status::BadCertificate`] or
+/// [`Status::Rejected`], or [`Status::BadEdit`]. `Fail::Memory` says only that memory was not to be had.
+///
+/// The time is that of reading the files, checking the certificate and building both instances; the memory grows with the bytes of the files.
 pub fn read_edited<H: Shelf>(
     alloc: Global,
     shelf: &mut H,
