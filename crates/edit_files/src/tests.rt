@@ -4,6 +4,7 @@ use carp_base::{Fail as Stop, Instance};
 use carp_outside::MemShelf;
 use command_files::Status;
 use std::alloc::Global;
+use std::process::Abort;
 use std::test::Fail;
 
 // Each row: a name, and what the file holds. `~` is a line feed.
