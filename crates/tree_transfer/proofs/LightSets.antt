@@ -1,5 +1,5 @@
 -- Sets that fit under any decisions, and trees of them that would show 0.
-use Rattle.std.proofs.Common.{◌≡◌, ℕ, zero, suc, ◌+◌, ◌*◌, ◌≤◌, ◌<◌, List, [], ◌∷◌, ◌++◌, length, drop, slice_index_or, refl, sym, ap, ◌∙◌, subst, arith, append_assoc, append-nil, length-drop, ℤ, pos, ◌+ℤ◌, ◌-ℤ◌, ◌*ℤ◌, ◌≤ℤ◌, ◌<ℤ◌, IsSome}
+use Rattle.std.proofs.Common.{◌≡◌, ℕ, zero, suc, ◌+◌, ◌≤◌, ◌<◌, List, [], ◌∷◌, ◌++◌, length, drop, slice_index_or, refl, sym, ap, ◌∙◌, subst, arith, append_assoc, append-nil, length-drop, ℤ, pos, ◌≤ℤ◌}
 use Rattle.std.specs.List.{All, AllByRecursion}
 use Rattle.std.proofs.lemmas.Int.{ints}
 use Rattle.std.proofs.lemmas.List.{drop_more}
@@ -8,11 +8,10 @@ use Rattle.carp_base.specs.Problem.{Problem, IsRequired, edge_at}
 use Rattle.carp_base.specs.declared.edge.Task.{Task}
 use Rattle.decision_chains.specs.declared.decision.Decision.{Decision}
 use Rattle.decision_chains.specs.declared.decision.Decision.TheVariants.{Yes, No, Low, High}
-use Rattle.decision_chains.specs.Exclusions.{Excluded}
 use Rattle.branch_rules.specs.Decisions.{IsFixed, rules_of}
-use Rattle.branch_rules.specs.Limits.{IsNodeIn, IsShoreOf}
-use Rattle.branch_rules.specs.Prices.{Fits, Prices, Rules, crossing_weight, price_in, signed_sum, task_adds, value_of, weight_value}
-use Rattle.branch_rules.specs.Trees.{Tree, pair, cut, price, void, fixed, Support, PricesShow, PriceShows, no_prices, node_at, preorder, set_at}
+use Rattle.branch_rules.specs.Limits.{IsShoreOf}
+use Rattle.branch_rules.specs.Prices.{Fits, Prices, Rules, crossing_weight, signed_sum, task_adds, value_of, weight_value}
+use Rattle.branch_rules.specs.Trees.{Tree, pair, cut, price, void, fixed, Support, PriceShows, no_prices, node_at, preorder, set_at}
 use Rattle.branch_rules.specs.declared.node.Node.{Node}
 use Rattle.branch_rules.specs.declared.node.Node.TheVariants as nodes
 use Rattle.branch_rules.specs.declared.weight.Weight.{Weight}
@@ -23,7 +22,7 @@ use Rattle.tree_paths.specs.declared.path.Path.{Path}
 use Rattle.tree_transfer.specs.Bounding.{NodeWouldShow, NodesWouldShow}
 use Rattle.tree_transfer.specs.Samples.{AreLight, IsLight, IsTestedTo}
 use Rattle.tree_transfer.specs.Shown.{AreTreeNodes, HasShores, WouldShowSome}
-use Rattle.tree_transfer.proofs.Moving.{is_open, waits_open}
+use Rattle.tree_transfer.proofs.Moving.{waits_open}
 
 no_sum : (f : Weight → ℤ) (ws : List Weight) → length ws ≡ 0 → signed_sum f ws ≡ pos 0
 no_sum f [] none = refl
@@ -134,10 +133,3 @@ module _ (c : Support) where
 
   pub tested_all : (all : List Node) (place : ℕ) (path : Path) → IsTestedTo c all place path → length all ≤ place → waits path ≡ [] → NodesWouldShow c 0 all ([] ∷ [])
   tested_all all place path x end whole = x.back (none_would (drop place all) (waits path) (omega (arith, end, length-drop place all)) whole)
-
-  not_empty : (w : List (List Decision)) → (w ≡ [] → ⊥) → 1 ≤ length w
-  not_empty [] not = absurd (not refl)
-  not_empty (b ∷ w) not = omega arith
-
-  pub goes_on : (path : Path) → (waits path ≡ [] → ⊥) → IsOpen path
-  goes_on path not = is_open path (not_empty (waits path) not)

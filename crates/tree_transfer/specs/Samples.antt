@@ -1,8 +1,7 @@
 -- What the tests know of their small data. No public contract speaks of this.
-use Rattle.std.specs.Prelude.{◌≡◌, ℕ, ◌+◌, ◌*◌, ◌≤◌, ℤ, pos, ◌≤ℤ◌, List, [], ◌∷◌, length, drop}
+use Rattle.std.specs.Prelude.{◌≡◌, ℕ, ◌+◌, ◌*◌, ◌≤◌, pos, ◌≤ℤ◌, List, [], ◌∷◌, length, drop}
 use Rattle.std.specs.List.{All}
 use Rattle.carp_base.specs.Problem.{Problem, edge_at}
-use Rattle.decision_chains.specs.declared.decision.Decision.{Decision}
 use Rattle.branch_rules.specs.Limits.{IsNodeIn}
 use Rattle.branch_rules.specs.Prices.{Prices, price_in}
 use Rattle.branch_rules.specs.Trees.{Tree, Support, preorder}

@@ -1,5 +1,5 @@
 use Rattle.branch_rules.specs.Trees.{Support}
-use Rattle.tree_transfer.proofs.LightSets.{light_shores, tree_would}
+use Rattle.tree_transfer.proofs.LightSets.{tree_would}
 use Rattle.tree_transfer.proofs.bound_tests.bound_with.Goals as goal
 
 pub greatest_bound-requires-clause-shows : goal.greatest_bound-requires-clause-shows

@@ -1,4 +1,4 @@
-use Rattle.std.proofs.Common.{[], ◌≡◌, ◌≤◌, arith, drop, length, subst}
+use Rattle.std.proofs.Common.{[], ◌≡◌, arith, drop, subst}
 use Rattle.tree_transfer.specs.Carrying.{IsForest}
 use Rattle.tree_transfer.proofs.SmallTrees.{gathered, gathered_all, gathers_few}
 use Rattle.tree_transfer.proofs.samples.is_tree.Goals as goal
