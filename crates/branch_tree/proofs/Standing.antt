@@ -26,7 +26,7 @@ use Rattle.branch_tree.specs.Known.{Known}
 use Rattle.branch_tree.specs.Leaves.{IsAtLeaf, IsSplitBy, IsSplitNode, MayBegin, MayStand, NamesSet, set_in, split_nodes}
 use Rattle.branch_tree.specs.Searches.{IsHeld, IsHeldSet, State, support_in}
 use Rattle.branch_tree.specs.Splits.{split_tree}
-use Rattle.branch_tree.specs.Values.{IsMostShown}
+use Rattle.grown_trees.specs.Values.{IsMostShown}
 use Rattle.branch_tree.specs.declared.children.Children.{Children}
 use Rattle.branch_tree.proofs.FixedOnce.{fixed_once}
 use Rattle.branch_tree.proofs.Numbers.{at_most_more, covers_base, reaches_more, reaches_some, reaches_through}
