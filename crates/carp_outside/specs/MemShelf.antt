@@ -28,9 +28,14 @@ keeps_of shelf = log_of shelf.keeps
 abbrev pub given_of : MemShelf → ℕ
 given_of shelf = shelf.given
 
--- no look and no keep was made, and the piece is the same
+-- how many bytes a keep that is torn leaves; none where no keep is torn
+abbrev pub torn_of : MemShelf → Option ℕ
+torn_of shelf = shelf.torn
+
+-- no look and no keep was made, and the piece and the tear are the same
 pub record SameCounts (before now : MemShelf) : Type 0 where
   pub looks : looks_of now ≡ looks_of before
   pub keeps : keeps_of now ≡ keeps_of before
   pub given : given_of now ≡ given_of before
   pub piece : piece_of now ≡ piece_of before
+  pub torn : torn_of now ≡ torn_of before

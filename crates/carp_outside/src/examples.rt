@@ -1,10 +1,10 @@
 // Changes that are as told, and changes that are not.
-ghost use Rattle.std.specs.Prelude.{◌≡◌, ◌≢◌, ℕ, ◌-◌, ◌^◌, [], ◌∷◌, Ok, Err};
+ghost use Rattle.std.specs.Prelude.{◌≡◌, ◌≢◌, ℕ, ◌-◌, ◌^◌, [], ◌∷◌, take, Ok, Err};
 ghost use Rattle.carp_outside.specs.Causes.{RoseBy, Rose, HasCause};
 ghost use Rattle.carp_outside.specs.Calls.{IsListed, AddsCall, empty_log};
 ghost use Rattle.carp_outside.specs.Told.{IsPiece, HoldsExactly, HoldsFront, SameContents, WroteFront};
 ghost use Rattle.carp_outside.specs.Files.{SameRooms, IsMadeReady};
-ghost use Rattle.carp_outside.specs.MemShelf.{SameCounts, given_of, piece_of};
+ghost use Rattle.carp_outside.specs.MemShelf.{SameCounts, given_of, piece_of, torn_of};
 ghost use Rattle.carp_outside.specs.Examples.{nowhere, alone, everywhere};
 
 use crate::MemShelf;
@@ -55,6 +55,13 @@ fn a_failed_keep_leaves_a_front()
     ensures no_front { HoldsFront [] (1 ∷ 2 ∷ []) nowhere (alone (2 ∷ [])) → ⊥ }
 {}
 
+fn a_torn_keep_leaves_its_front()
+    ensures front { HoldsExactly [] (take 1 (1 ∷ 2 ∷ [])) (alone (3 ∷ [])) (alone (1 ∷ [])) }
+    ensures fewer { HoldsExactly [] (take 5 (1 ∷ 2 ∷ [])) nowhere (alone (1 ∷ 2 ∷ [])) }
+    ensures whole { HoldsExactly [] (take 1 (1 ∷ 2 ∷ [])) nowhere (alone (1 ∷ 2 ∷ [])) → ⊥ }
+    ensures old { HoldsExactly [] (take 1 (1 ∷ 2 ∷ [])) (alone (3 ∷ [])) (alone (3 ∷ [])) → ⊥ }
+{}
+
 fn fronts_are_written()
     ensures front { WroteFront (1 ∷ 2 ∷ 3 ∷ []) (9 ∷ []) (9 ∷ 1 ∷ 2 ∷ []) }
     ensures no_front { WroteFront (1 ∷ 2 ∷ 3 ∷ []) (9 ∷ []) (9 ∷ 2 ∷ []) → ⊥ }
@@ -73,4 +80,5 @@ fn counts_stay(before: &MemShelf, now: &MemShelf)
     ensures same { SameCounts before.now before.now }
     ensures given { given_of now.now ≢ given_of before.now → SameCounts before.now now.now → ⊥ }
     ensures piece { piece_of now.now ≢ piece_of before.now → SameCounts before.now now.now → ⊥ }
+    ensures torn { torn_of now.now ≢ torn_of before.now → SameCounts before.now now.now → ⊥ }
 {}

@@ -1,7 +1,8 @@
 //! The outside as the product sees it: a store of named files, and an output.
 //!
 //! A [`Shelf`] and a [`Sink`] are handed in. [`read_whole`] and [`put_all`] move whole texts through them.
-//! [`MemShelf`] and [`MemSink`] stand in memory, tell what they hold, and fail at the calls that they are told to.
+//! [`MemShelf`] and [`MemSink`] stand in memory, tell what they hold, and fail at the calls that they are told to. A keep
+//! that fails can be told to leave a front of the new contents.
 #![tactic(auto)]
 
 mod calls;

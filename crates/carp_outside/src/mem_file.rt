@@ -54,16 +54,17 @@ impl MemFile {
         Ok(())
     }
 
-    // Holds other bytes, where the file is ready for so many.
-    pub(crate) fn put(&mut self, bytes: &[u8]) -> bool
-        ensures fits { OnTrue result (length bytes.now ≤ self.old.room) }
-        ensures lacks { OnFalse result (self.old.room < length bytes.now) }
+    // Holds other bytes, where the file is ready for so many as are needed.
+    pub(crate) fn put(&mut self, bytes: &[u8], needed: usize) -> bool
+        requires { length bytes.now ≤ needed }
+        ensures fits { OnTrue result (needed ≤ self.old.room) }
+        ensures lacks { OnFalse result (self.old.room < needed) }
         ensures held { OnTrue result (self.new.held ≡ true) }
         ensures bytes { OnTrue result (self.new.bytes.items ≡ bytes.now) }
         ensures same { OnFalse result (self.new ≡ self.old) }
         ensures room { self.new.room ≡ self.old.room }
     {
-        if self.room < bytes.len() {
+        if self.room < needed {
             return false;
         }
         self.bytes.clear();

@@ -1,9 +1,9 @@
 // Files in memory, by name.
-ghost use Rattle.std.specs.Prelude.{◌≡◌, ◌<◌, ◌≤◌, length, IsSome, IsSomeAnd, IfSome, OnOk, OnErr};
+ghost use Rattle.std.specs.Prelude.{◌≡◌, ◌<◌, ◌≤◌, length, take, IsNone, IsSome, IsSomeAnd, IfSome, OnOk, OnErr, ◌⊎◌};
 ghost use Rattle.std.specs.BTreeMap.{get_by_text};
 ghost use Rattle.std.specs.Option.{option_copied};
 ghost use Rattle.std.specs.Bool.{OnTrue, OnFalse};
-ghost use Rattle.carp_outside.specs.Told.{HoldsExactly, SameContents};
+ghost use Rattle.carp_outside.specs.Told.{HoldsExactly, HoldsFront, SameContents};
 ghost use Rattle.carp_outside.specs.Files.{bytes_in, room_in, SameRooms, IsMadeReady};
 
 use crate::mem_file::MemFile;
@@ -23,17 +23,33 @@ pub(crate) fn held_in<'a>(files: &'a Files, name: &str) -> Option<&'a [u8]>
     }
 }
 
-// Holds bytes at a name that is ready for so many.
-pub(crate) fn keep_in(files: &mut Files, name: &str, bytes: &[u8]) -> bool
-    ensures fits { OnTrue result (IsSomeAnd (room_in files.old name.now) (λ room. length bytes.now ≤ room)) }
-    ensures lacks { OnFalse result (IfSome (room_in files.old name.now) (λ room. room < length bytes.now)) }
+// Holds bytes at a name that is ready for so many as are needed.
+pub(crate) fn keep_in(files: &mut Files, name: &str, bytes: &[u8], needed: usize) -> bool
+    requires { length bytes.now ≤ needed }
+    ensures fits { OnTrue result (IsSomeAnd (room_in files.old name.now) (λ room. needed ≤ room)) }
+    ensures lacks { OnFalse result (IfSome (room_in files.old name.now) (λ room. room < needed)) }
     ensures kept { OnTrue result (HoldsExactly name.now bytes.now (bytes_in files.old) (bytes_in files.new)) }
     ensures same { OnFalse result (SameContents (bytes_in files.old) (bytes_in files.new)) }
     ensures rooms { SameRooms (room_in files.old) (room_in files.new) }
 {
     match files.get_mut(name) {
         None => false,
-        Some(file) => file.put(bytes),
+        Some(file) => file.put(bytes, needed),
+    }
+}
+
+// Holds a front of bytes, of so many where one is to be left, at a name that is ready for all of them.
+pub(crate) fn tear_in(files: &mut Files, name: &str, bytes: &[u8], left: Option<u64>)
+    ensures torn { IfSome left (λ n. IsSomeAnd (room_in files.old name.now) (λ room. length bytes.now ≤ room)
+        → HoldsExactly name.now (take n bytes.now) (bytes_in files.old) (bytes_in files.new)) }
+    ensures same { IsNone left ⊎ IfSome (room_in files.old name.now) (λ room. room < length bytes.now)
+        → SameContents (bytes_in files.old) (bytes_in files.new) }
+    ensures cut { HoldsFront name.now bytes.now (bytes_in files.old) (bytes_in files.new) }
+    ensures rooms { SameRooms (room_in files.old) (room_in files.new) }
+{
+    if let Some(most) = left {
+        let front = most.min(bytes.len() as u64) as usize;
+        let _held = keep_in(files, name, &bytes[..front], bytes.len());
     }
 }
 

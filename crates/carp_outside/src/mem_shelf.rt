@@ -1,11 +1,11 @@
 // A shelf in memory.
-ghost use Rattle.std.specs.Prelude.{◌≡◌, ◌↔◌, ℕ, ◌-◌, ◌<◌, ◌≤◌, List, length, min, true, None, IsNone, IsErr, IfOk, IfSome, IsSomeAnd, OnOk, OnErr, ◌⊎◌};
+ghost use Rattle.std.specs.Prelude.{◌≡◌, ◌↔◌, ℕ, ◌-◌, ◌<◌, ◌≤◌, List, length, take, min, true, Some, None, IsNone, IsErr, IfOk, IfSome, IsSomeAnd, OnOk, OnErr, ◌⊎◌};
 ghost use Rattle.std.specs.Option.{option_copied};
 ghost use Rattle.carp_outside.specs.Causes.{grown, HasCause};
 ghost use Rattle.carp_outside.specs.Told.{IsPiece, HoldsExactly, HoldsFront, SameContents};
 
 use crate::calls::Calls;
-use crate::mem_files::{Files, held_in, keep_in, ready_in};
+use crate::mem_files::{Files, held_in, keep_in, ready_in, tear_in};
 use crate::{Shelf, ShelfFault};
 use carp_base::Memory;
 use std::alloc::Global;
@@ -14,7 +14,8 @@ use std::collections::BTreeMap;
 /// A shelf in memory, which tells its contents and fails at the calls that it is told to fail.
 ///
 /// Calls are numbered from 1, looks and keeps apart. Where a call fails, the count of faults of its kind rises by one,
-/// and only there. One count of failed looks stands for every name. `look` and `keep` take no memory.
+/// and only there. One count of failed looks stands for every name. `look` and `keep` take no memory. A keep that fails
+/// changes nothing, until [`MemShelf::tear`] says how many bytes one that fails at a listed number leaves.
 #[derive(Drop)]
 pub struct MemShelf {
     alloc: Global,
@@ -23,16 +24,17 @@ pub struct MemShelf {
     looks: Calls,
     keeps: Calls,
     given: u64,
+    torn: Option<u64>,
     ghost some: { 0 < piece },
 }
 
 impl MemShelf {
     ghost use Rattle.carp_outside.specs.Calls.{empty_log};
     ghost use Rattle.carp_outside.specs.Files.{SameRooms, IsMadeReady};
-    ghost use Rattle.carp_outside.specs.MemShelf.{contents_of, room_of, piece_of, looks_of, keeps_of, given_of, SameCounts};
+    ghost use Rattle.carp_outside.specs.MemShelf.{contents_of, room_of, piece_of, looks_of, keeps_of, given_of, torn_of, SameCounts};
 
     /// A shelf that holds nothing. A look gives at most `piece` bytes. The looks and the keeps of the listed numbers
-    /// fail.
+    /// fail, and no keep is torn.
     pub fn new(
         alloc: Global,
         piece: usize,
@@ -46,6 +48,7 @@ impl MemShelf {
         ensures looks { looks_of result ≡ empty_log failing_looks.items }
         ensures keeps { keeps_of result ≡ empty_log failing_keeps.items }
         ensures given { given_of result ≡ 0 }
+        ensures torn { torn_of result ≡ None }
     {
         MemShelf {
             alloc,
@@ -54,6 +57,7 @@ impl MemShelf {
             looks: Calls::new(failing_looks),
             keeps: Calls::new(failing_keeps),
             given: 0,
+            torn: None,
         }
     }
 
@@ -70,7 +74,7 @@ impl MemShelf {
     {
         ready_in(self.alloc, &mut self.files, name, bytes.len())?;
         // The name is ready for them now.
-        let _fits = keep_in(&mut self.files, name, bytes);
+        let _fits = keep_in(&mut self.files, name, bytes, bytes.len());
         Ok(())
     }
 
@@ -85,6 +89,22 @@ impl MemShelf {
         ready_in(self.alloc, &mut self.files, name, room)
     }
 
+    /// From now on a keep that fails at a listed number, at a name that is ready for the new contents, is torn: it
+    /// leaves there the first `bytes` bytes of these, or all of them where there are fewer. It takes no memory.
+    pub fn tear(&mut self, bytes: u64)
+        ensures torn { torn_of self.new ≡ Some bytes }
+
+        // All else stays.
+        ensures contents { SameContents (contents_of self.old) (contents_of self.new) }
+        ensures rooms { SameRooms (room_of self.old) (room_of self.new) }
+        ensures looks { looks_of self.new ≡ looks_of self.old }
+        ensures keeps { keeps_of self.new ≡ keeps_of self.old }
+        ensures given { given_of self.new ≡ given_of self.old }
+        ensures piece { piece_of self.new ≡ piece_of self.old }
+    {
+        self.torn = Some(bytes);
+    }
+
     /// The bytes that a name holds; `None` exactly where it is not held.
     pub fn held(&self, name: &str) -> Option<&[u8]>
         ensures { option_copied result ≡ contents_of self.now name.now }
@@ -96,7 +116,7 @@ impl MemShelf {
 impl Shelf for MemShelf {
     ghost use Rattle.carp_outside.specs.Calls.{IsListed, AddsCall};
     ghost use Rattle.carp_outside.specs.Files.{SameRooms};
-    ghost use Rattle.carp_outside.specs.MemShelf.{contents_of, room_of, piece_of, looks_of, keeps_of, given_of};
+    ghost use Rattle.carp_outside.specs.MemShelf.{contents_of, room_of, piece_of, looks_of, keeps_of, given_of, torn_of};
 
     ghost tells = { true };
 
@@ -127,6 +147,7 @@ impl Shelf for MemShelf {
         ensures looks { AddsCall (looks_of self.old) (looks_of self.new) result }
         ensures rooms { SameRooms (room_of self.old) (room_of self.new) }
         ensures piece { piece_of self.new ≡ piece_of self.old }
+        ensures tear { torn_of self.new ≡ torn_of self.old }
     {
         if self.looks.next_fails() {
             self.looks.add_fault();
@@ -146,7 +167,8 @@ impl Shelf for MemShelf {
     }
 
     /// Fails exactly at a listed number and at a name that was not made ready for so many bytes. Then the name holds
-    /// what it held.
+    /// what it held; where a tear is set, the number is listed and the name is ready, it holds the front that the tear
+    /// says.
     fn keep(&mut self, name: &str, bytes: &[u8]) -> Result<(), ShelfFault>
         ensures kept { OnOk result (HoldsExactly name.now bytes.now (contents_of self.old) (contents_of self.new)) }
         ensures cut { OnErr result (HoldsFront name.now bytes.now (contents_of self.old) (contents_of self.new)) }
@@ -154,18 +176,23 @@ impl Shelf for MemShelf {
         ensures looks { looks_of self.new ≡ looks_of self.old }
         ensures given { given_of self.new ≡ given_of self.old }
 
-        // When it fails, what stays then, and what it counts.
+        // When it fails, what is left then, and what it counts.
         ensures fails { IsErr result ↔ (IsListed (keeps_of self.old) ⊎ IfSome (room_of self.old name.now) (λ room. room < length bytes.now)) }
-        ensures same { OnErr result (SameContents (contents_of self.old) (contents_of self.new)) }
+        ensures same { IsNone (torn_of self.old) ⊎ (IsListed (keeps_of self.old) → ⊥) ⊎ IfSome (room_of self.old name.now) (λ room. room < length bytes.now)
+            → OnErr result (SameContents (contents_of self.old) (contents_of self.new)) }
+        ensures torn { IfSome (torn_of self.old) (λ n. IsListed (keeps_of self.old) → IsSomeAnd (room_of self.old name.now) (λ room. length bytes.now ≤ room)
+            → HoldsExactly name.now (take n bytes.now) (contents_of self.old) (contents_of self.new)) }
         ensures keeps { AddsCall (keeps_of self.old) (keeps_of self.new) result }
         ensures rooms { SameRooms (room_of self.old) (room_of self.new) }
         ensures piece { piece_of self.new ≡ piece_of self.old }
+        ensures tear { torn_of self.new ≡ torn_of self.old }
     {
         if self.keeps.next_fails() {
             self.keeps.add_fault();
+            tear_in(&mut self.files, name, bytes, self.torn);
             return Err(ShelfFault);
         }
-        if keep_in(&mut self.files, name, bytes) {
+        if keep_in(&mut self.files, name, bytes, bytes.len()) {
             Ok(())
         } else {
             self.keeps.add_fault();

@@ -114,6 +114,49 @@ fn keeps_fail_where_listed_and_where_room_is_short(rt: HostRuntime) -> Result<()
     Ok(())
 }
 
+// Keeps 1, 3 and 4 are to fail, and three bytes are left of what was to be kept.
+#[test]
+fn torn_keeps_leave_a_front(rt: HostRuntime) -> Result<(), Failure> {
+    let alloc = rt.alloc();
+    let mut shelf = MemShelf::new(alloc, 4, Vec::new(alloc), [1, 3, 4].to_vec(alloc)?);
+    shelf.place("b", b"other")?;
+    shelf.ready("a", 10)?;
+    shelf.tear(3);
+    // What is kept at the name, whether it is kept, and what the name holds then.
+    for (bytes, kept, held) in [
+        (b"0123456789".as_slice(), false, b"012".as_slice()),
+        (b"abcdef".as_slice(), true, b"abcdef".as_slice()),
+        (b"xy".as_slice(), false, b"xy".as_slice()),
+        (b"0123456789A".as_slice(), false, b"xy".as_slice()),
+        (b"0123456789A".as_slice(), false, b"xy".as_slice()),
+        (b"0123".as_slice(), true, b"0123".as_slice()),
+    ] {
+        assert_eq!(rt; shelf.keep("a", bytes).is_ok(), kept, "of {}", bytes.len());
+        assert_eq!(rt;
+            shelf.held("a").unwrap_or(b"not held"),
+            held,
+            "of {}",
+            bytes.len()
+        );
+        assert_eq!(rt; shelf.held("b").unwrap_or(b"not held"), b"other".as_slice());
+    }
+    Ok(())
+}
+
+#[test]
+fn a_keep_that_is_torn_at_once_leaves_an_empty_file(rt: HostRuntime) -> Result<(), Failure> {
+    let alloc = rt.alloc();
+    let mut shelf = MemShelf::new(alloc, 4, Vec::new(alloc), [1, 2].to_vec(alloc)?);
+    shelf.ready("a", 3)?;
+    shelf.tear(2);
+    shelf.tear(0);
+    assert!(rt; shelf.keep("b", b"").is_err());
+    assert!(rt; shelf.held("b").is_none());
+    assert!(rt; shelf.keep("a", b"abc").is_err());
+    assert_eq!(rt; shelf.held("a").unwrap_or(b"not held"), b"".as_slice());
+    Ok(())
+}
+
 #[test]
 fn names_are_placed_and_made_ready(rt: HostRuntime) -> Result<(), Failure> {
     let alloc = rt.alloc();
