@@ -1,6 +1,6 @@
 -- An instance has at most one first fault, and none where it is valid.
-use Rattle.std.proofs.Common.{◌≡◌, ℕ, ◌==◌, ◌≤◌, ◌<◌, refl, sym, ap, ◌∙◌, inl, inr, arith}
-use Rattle.std.specs.Prelude.{◌⊎◌, if◌then◌else◌}
+use Rattle.std.proofs.Common.{◌≡◌, ℕ, ◌==◌, refl, sym, ap, ◌∙◌, inl, inr, arith}
+use Rattle.std.specs.Prelude.{if◌then◌else◌}
 use Rattle.carp_base.specs.Problem.{Problem}
 use Rattle.carp_base.specs.Faults.{FaultNoLater, IsFirstFault, fault_number, fault_rank}
 use Rattle.carp_base.specs.declared.fault.InstanceFault.{InstanceFault}

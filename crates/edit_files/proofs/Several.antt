@@ -1,13 +1,13 @@
 -- What becomes of files that are read one after another.
-use Rattle.std.proofs.Common.{◌≡◌, ℕ, ◌+◌, ◌≤◌, List, [], ◌∷◌, refl, sym, ap, subst, inl, inr, arith, IsTrue, Bool, Option, None, Some}
+use Rattle.std.proofs.Common.{◌≡◌, ℕ, ◌+◌, ◌≤◌, List, [], ◌∷◌, sym, ap, subst, inl, inr, arith, IsTrue, Bool, Option, None, Some}
 use Rattle.std.specs.Prelude.{◌⊎◌, Result, Ok, Err, IsOk, IfOk, IsErrOf, IsSomeAnd}
 use Rattle.std.specs.declared.alloc.Global.{Global}
 use Rattle.std.specs.declared.vec.Vec.{Vec}
 use Rattle.carp_base.specs.declared.fail.Fail.{Fail}
 use Rattle.carp_base.specs.declared.fail.Fail.TheVariants.{Refused, Memory as NoMemory}
-use Rattle.carp_outside.specs.Causes.{Rose, RoseBy}
+use Rattle.carp_outside.specs.Causes.{RoseBy}
 use Rattle.command_words.specs.Commands.{Source}
-use Rattle.command_files.specs.Files.{HasLimit, Holds, IsBadFile, IsTooLong, RoseAtSome}
+use Rattle.command_files.specs.Files.{HasLimit, Holds, IsBadFile, RoseAtSome}
 use Rattle.command_files.specs.Reads.{AreBytes, EachIsGood, IsFileRead, IsOfBytes, IsParsed, IsRefusal, IsTried, NoneIsBad}
 use Rattle.command_files.specs.declared.status.Status.{Status}
 use Rattle.command_files.specs.declared.status.Status.TheVariants.{Proven, Gap, Accepted, Done, Rejected, BadUsage, BadInstance, BadCertificate, ReadFault, WriteFault, Memory, TooLong, NotJoined, BadEdit}

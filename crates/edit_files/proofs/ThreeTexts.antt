@@ -1,11 +1,11 @@
 -- What is made of three texts.
 use Rattle.std.proofs.Common.{◌≡◌, ℕ, List, refl, sym, ap, ◌∙◌, subst, inl, inr}
-use Rattle.std.specs.Prelude.{◌⊎◌, ◌↔◌, Result, Ok, Err, IfErr}
+use Rattle.std.specs.Prelude.{◌⊎◌, Result, Ok, Err, IfErr}
 use Rattle.std.specs.declared.alloc.Global.{Global}
 use Rattle.std.specs.declared.vec.Vec.{Vec}
 use Rattle.carp_base.specs.Laws.{ValidWhereNoFault}
 use Rattle.carp_base.specs.Problem.{Problem, IsValid}
-use Rattle.carp_base.specs.Faults.{FaultApplies, IsFirstFault}
+use Rattle.carp_base.specs.Faults.{IsFirstFault}
 use Rattle.carp_base.specs.Refusals.{RefusesFirstFault}
 use Rattle.carp_base.specs.declared.fail.Fail.{Fail}
 use Rattle.carp_base.specs.declared.fail.Fail.TheVariants.{Refused, Memory as NoMemory}
