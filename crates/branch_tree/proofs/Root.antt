@@ -19,7 +19,7 @@ use Rattle.grown_trees.specs.Stands.{stands}
 use Rattle.grown_trees.specs.declared.growing.GrowingNode.{GrowingNode}
 use Rattle.branch_tree.specs.Beginnings.{IsFloor, IsRoot, fraction_of}
 use Rattle.branch_tree.specs.Searches.{IsHeld, IsHeldSet, IsShortPlan, State, support_in}
-use Rattle.branch_tree.specs.Values.{IsMostShown}
+use Rattle.grown_trees.specs.Values.{IsMostShown}
 use Rattle.branch_tree.specs.declared.beginning.Floor.{Floor}
 use Rattle.branch_tree.proofs.Numbers.{at_most_more}
 use Rattle.branch_tree.proofs.PlanCosts.{cost_is_small}

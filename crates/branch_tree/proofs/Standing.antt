@@ -26,9 +26,8 @@ use Rattle.branch_tree.specs.Known.{Known}
 use Rattle.branch_tree.specs.Leaves.{IsAtLeaf, IsSplitBy, IsSplitNode, MayBegin, MayStand, NamesSet, set_in, split_nodes}
 use Rattle.branch_tree.specs.Searches.{IsHeld, IsHeldSet, State, support_in}
 use Rattle.branch_tree.specs.Splits.{split_tree}
-use Rattle.branch_tree.specs.Values.{IsMostShown}
+use Rattle.grown_trees.specs.Values.{IsMostShown}
 use Rattle.branch_tree.specs.declared.children.Children.{Children}
-use Rattle.branch_tree.proofs.FixedOnce.{fixed_once}
 use Rattle.branch_tree.proofs.Numbers.{at_most_more, covers_base, reaches_more, reaches_some, reaches_through}
 use Rattle.branch_tree.proofs.Taking.{no_entry, old, small_cost, sound}
 
@@ -128,7 +127,7 @@ module _ (known : Known) (p : Problem) (s : State) (held : IsHeld p s) where
             fits = tt;
             reaches = tt;
             shows = λ bound small. (
-              λ shows. omega (arith, shows.enough, fixed_once known.joins p branch shows.value value shows.fixed has_value),
+              λ shows. omega (arith, shows.enough, known.fixed_once p branch shows.value value shows.fixed has_value),
               λ within. record { settled = is; value = value; fixed = has_value; enough = within },
             );
             enough = subst (λ (n : ℕ). base.value ≤ℤ pos (base.unit * n)) (sym value_is) (held.floors.below plan lawful);

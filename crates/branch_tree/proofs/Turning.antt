@@ -24,7 +24,7 @@ use Rattle.branch_tree.specs.Leaves.{IsAtLeaf, IsSplitBy, MayStand, NamesSet, se
 use Rattle.branch_tree.specs.Searches.{IsHeld, IsHeldSet, IsShortPlan, State, support_in}
 use Rattle.branch_tree.specs.Splits.{split_tree}
 use Rattle.branch_tree.specs.Steps.{HasNewSet, IsStep}
-use Rattle.branch_tree.specs.Values.{IsMostShown}
+use Rattle.grown_trees.specs.Values.{IsMostShown}
 use Rattle.branch_tree.specs.declared.children.Children.{Children}
 use Rattle.branch_tree.specs.declared.search.Turn.TheVariants.{Closed, Split}
 use Rattle.branch_tree.specs.declared.search.Turn.{Turn}

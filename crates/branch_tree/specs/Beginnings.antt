@@ -12,7 +12,8 @@ use Rattle.floor_prices.specs.Floors.{FitsAlways, plain_value}
 use Rattle.grown_trees.specs.Growth.{Fraction, Growth}
 use Rattle.branch_tree.specs.declared.beginning.Floor.{Floor}
 use Rattle.branch_tree.specs.declared.beginning.Tools.{Tools}
-use Rattle.branch_tree.specs.Values.{IsMostShown, ReachesFloors}
+use Rattle.grown_trees.specs.Values.{IsMostShown}
+use Rattle.branch_tree.specs.Values.{ReachesFloors}
 
 -- the network, the distances by cost and the table of an instance
 pub record AreTools (p : Problem) (tools : Tools) : Type 0 where

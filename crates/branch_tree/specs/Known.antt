@@ -1,5 +1,5 @@
 -- What is known of grown trees, of branches and of price sets, for the proofs of private functions.
-use Rattle.decision_chains.specs.Laws.{YesPairsJoin}
+use Rattle.chain_plans.specs.Laws.{FixedValueIsUnique}
 use Rattle.dual_master.specs.Growth.{GrowthKeepsSets}
 use Rattle.grown_trees.specs.Laws.{DecisionsKeepSets, GrownIsSound, MoreSetsKeepSound, MoreShoresKeepSound, SoundAtPlace, SoundIsTree, UnshownIsLeaf}
 
@@ -12,4 +12,4 @@ pub record Known : Type 0 where
   pub leaf : UnshownIsLeaf
   pub kept : DecisionsKeepSets
   pub growth : GrowthKeepsSets
-  pub joins : YesPairsJoin
+  pub fixed_once : FixedValueIsUnique

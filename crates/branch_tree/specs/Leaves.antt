@@ -28,7 +28,7 @@ use Rattle.branch_tree.specs.declared.search.Turn.{Turn}
 use Rattle.branch_tree.specs.declared.search.Turn.TheVariants.{Closed, Split}
 use Rattle.branch_tree.specs.Steps.{IsAsBefore, IsStep}
 use Rattle.branch_tree.specs.Splits.{IsInner, first_of, second_of}
-use Rattle.branch_tree.specs.Values.{IsMostShown}
+use Rattle.grown_trees.specs.Values.{IsMostShown}
 
 -- at the place stands a leaf that does not show the best plan's cost by itself, and these are the decisions on the way to it
 pub record IsAtLeaf (s : State) (place : ℕ) (branch : List Decision) : Type 0 where

@@ -7,12 +7,13 @@ ghost use Rattle.branch_tree.specs.Searches.{IsBegun, IsSearch, IsShortPlan, sta
 use crate::changing::price_leaf;
 use crate::laws::short_plans_cost_little;
 use crate::search::Search;
+use crate::values::shown_under;
 use branch_rules::{Branch, PriceSet, prices_bound};
 use carp_base::{Instance, Memory};
 use cut_pool::ShorePool;
 use deadhead_paths::{Distances, least_prices_are_there};
 use dual_master::floors;
-use grown_trees::{GrowingTree, shown_under};
+use grown_trees::GrowingTree;
 use plan_model::Plan;
 use road_network::Network;
 use route_pricing::Table;

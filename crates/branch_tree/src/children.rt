@@ -12,10 +12,10 @@ ghost use Rattle.branch_tree.specs.Splits.{IsInner, first_of, second_of};
 ghost use Rattle.grown_trees.specs.Values.{IsMostShown};
 
 use crate::laws::known_laws;
+use crate::values::shown_under;
 use branch_rules::{Branch, Decision, Node, PriceSet};
 use carp_base::{Instance, Memory};
 use cut_pool::ShorePool;
-use grown_trees::shown_under;
 
 // The greatest bounds that a price set shows under the decisions of both children of a node.
 #[derive(Clone, Copy, Debug, PartialEq, Eq)]

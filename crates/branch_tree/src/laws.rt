@@ -2,7 +2,7 @@
 ghost use Rattle.branch_tree.specs.Known.{Known};
 ghost use Rattle.branch_tree.specs.Laws.{ShortPlansCostLittle};
 
-use decision_chains::yes_pairs_join;
+use chain_plans::fixed_values_compare;
 use dual_master::growth_keeps_sets;
 use grown_trees::{
     decisions_keep_sets, grown_trees_stay_sound, more_support_keeps_trees_sound,
@@ -23,5 +23,5 @@ pub(crate) fn known_laws()
     sound_trees_are_lean();
     decisions_keep_sets();
     growth_keeps_sets();
-    yes_pairs_join();
+    fixed_values_compare();
 }

@@ -17,6 +17,7 @@ mod splitting;
 mod stepping;
 #[cfg(test)]
 mod tests;
+mod values;
 
 pub use finishing::Found;
 pub use laws::short_plans_cost_little;

@@ -13,10 +13,10 @@ use crate::children::{Children, children_show};
 use crate::choosing::choose_split;
 use crate::laws::known_laws;
 use crate::search::{Search, Turn};
+use crate::values::shown_under;
 use branch_rules::{Branch, Node, PriceSet};
 use carp_base::{Instance, Memory};
 use cut_pool::ShorePool;
-use grown_trees::shown_under;
 use std::alloc::Global;
 
 // The most price sets that are held.

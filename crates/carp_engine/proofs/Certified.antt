@@ -24,10 +24,9 @@ use Rattle.branch_tree.specs.Laws.{ShortPlansCostLittle}
 use Rattle.branch_tree.specs.Searches.{IsHeldSet}
 use Rattle.cert_lines.specs.Laws.{FineIsSpellable, ShoreIsFine}
 use Rattle.cert_lines.specs.Spelling.{IsFine, IsFineNode, IsFineSet, IsFineShore}
-use Rattle.cert_format.specs.Good.{CountsAreInRange, HasPriceEach, IsGood}
+use Rattle.cert_format.specs.Good.{CountsAreInRange, HasPriceEach, IsGood, PlansAreOnEdges}
 use Rattle.carp_engine.specs.Certifying.{AreWithinLimits, certificate_by}
 use Rattle.carp_engine.specs.Solutions.{IsAboveFloors}
-use Rattle.carp_engine.proofs.PlanEdges.{edges_in}
 
 -- the laws that a certificate rests on
 pub record Laws : Type 0 where
@@ -36,6 +35,7 @@ pub record Laws : Type 0 where
   pub spelled : FineIsSpellable
   pub shores : ShoreIsFine
   pub costs : ShortPlansCostLittle
+  pub edges : PlansAreOnEdges
 
 both_all : {X : Type 0} (P Q R : X → Type 0) → ((x : X) → P x → Q x → R x) → (xs : List X) → All P xs → All Q xs → All R xs
 both_all P Q R gives xs one other = λ k d less. gives (get_or xs k d) (one k d less) (other k d less)
@@ -70,7 +70,7 @@ module _ (laws : Laws) (p : Problem) (f : Findings) (turns : ℕ) (found : IsFou
     bound_in = omega (arith, small, found.at_most);
     few_tours = omega (arith, found.short.few_tours, found.valid.few_required);
     few_steps = subst (λ n. n ≤ 2000000) (length-flat_map (λ walk. walk) f.plan) found.short.few_steps;
-    edges_in = edges_in p found.valid f.plan found.short.lawful.walks;
+    edges_in = laws.edges p f.plan found.valid found.short.lawful;
     few_shores = limits.few;
     shores_fine = both_all IsShore (Belongs p) IsFineShore (λ shore is belongs. laws.shores p shore found.valid is belongs) f.pool limits.shores found.belong;
     different = limits.different;

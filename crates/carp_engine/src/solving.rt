@@ -10,7 +10,7 @@ use crate::searching::search;
 use branch_rules::{lean_trees_are_small, tree_bounds};
 use branch_tree::short_plans_cost_little;
 use carp_base::{Instance, Memory};
-use cert_format::{Cert, counts_are_in_range};
+use cert_format::{Cert, counts_are_in_range, plans_are_on_edges};
 use cert_lines::{fine_is_spellable, shores_are_fine};
 use deadhead_paths::{single_tours, tidy};
 use plan_model::Proposer;
@@ -62,6 +62,7 @@ pub fn solve<P: Proposer>(
     counts_are_in_range();
     fine_is_spellable();
     shores_are_fine();
+    plans_are_on_edges();
     let dist = cost_distances(alloc, inst)?;
     let mut plan = tidy(alloc, inst, &dist, &single_tours(alloc, inst, &dist)?)?;
     ask_all(alloc, inst, &dist, &mut plan, helpers, seed)?;

@@ -19,4 +19,5 @@ pub mod Standings
 pub mod NodesGiven
 pub mod TreeSteps
 pub mod Steps
+pub mod PlanEdges
 pub mod Wholes

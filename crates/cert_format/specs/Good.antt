@@ -4,6 +4,7 @@ use Rattle.std.specs.Prelude.{◌≡◌, ℕ, List, [], length, Some, IfSome}
 use Rattle.std.specs.List.{All}
 use Rattle.carp_base.specs.Problem.{Problem, IsValid, total_demand}
 use Rattle.plan_model.specs.Plans.{IsLawful, plan_cost}
+use Rattle.plan_model.specs.declared.step.Step.{Step}
 use Rattle.plan_model.specs.Laws.{IsLowerBound}
 use Rattle.cut_pool.specs.Shores.{Belongs}
 use Rattle.branch_rules.specs.Prices.{Prices}
@@ -11,7 +12,7 @@ use Rattle.branch_rules.specs.Refusals.{NoneTooHeavy}
 use Rattle.branch_rules.specs.Trees.{Tree, preorder, Support, IsLean, Shows, PairsIn}
 use Rattle.cert_lines.specs.declared.counts.Counts.{Counts}
 use Rattle.cert_lines.specs.Certificates.{Certificate}
-use Rattle.cert_lines.specs.Ranges.{AreCountsInRange}
+use Rattle.cert_lines.specs.Ranges.{AreCountsInRange, IsWithin}
 use Rattle.cert_lines.specs.Spelling.{IsSpellable}
 
 -- the numbers of an instance
@@ -71,3 +72,7 @@ CountsKeepGood = (p : Problem) (c : Certificate) → IsValid p → IsGood p c �
 -- a good certificate is a proof
 abbrev pub GoodIsProof : Type 0
 GoodIsProof = (p : Problem) (c : Certificate) → IsValid p → IsGood p c → IsProof p c
+
+-- each step of a lawful plan of a valid instance is on an edge whose number is in its range
+abbrev pub PlansAreOnEdges : Type 0
+PlansAreOnEdges = (p : Problem) (plan : List (List Step)) → IsValid p → IsLawful p plan → All (All (λ s. IsWithin 1 4000 s.edge)) plan

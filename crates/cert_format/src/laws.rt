@@ -1,5 +1,5 @@
 // Laws over certificates, as functions whose contracts are the laws.
-ghost use Rattle.cert_format.specs.Good.{GoodIsProof, CountsAreInRange, CountsKeepGood};
+ghost use Rattle.cert_format.specs.Good.{CountsAreInRange, CountsKeepGood, GoodIsProof, PlansAreOnEdges};
 
 use branch_rules::tree_bounds;
 use cert_lines::{fine_is_spellable, spellable_is_fine};
@@ -24,3 +24,8 @@ pub fn counts_keep_good()
     fine_is_spellable();
     spellable_is_fine();
 }
+
+/// The steps of a lawful plan of a valid instance are on edges of it, whose numbers are in the range of a certificate's text.
+pub fn plans_are_on_edges()
+    ensures { PlansAreOnEdges }
+{}

@@ -28,6 +28,6 @@ pub use cert::{Cert, CertHead};
 pub use cert_lines::{CertFault, Counts, Item};
 pub use cert_reader::CertReader;
 pub use counting::counts_of;
-pub use laws::{counts_are_in_range, counts_keep_good, good_is_proof};
+pub use laws::{counts_are_in_range, counts_keep_good, good_is_proof, plans_are_on_edges};
 pub use reading::read_cert;
 pub use writing::write_cert;

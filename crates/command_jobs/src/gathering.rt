@@ -59,10 +59,7 @@ pub fn gather<'a, H: Shelf>(
             edits,
             edited,
             carried,
-        } => {
-            let names = Kept { edited, carried };
-            gather_edited(alloc, file, cert, edits, names, shelf)
-        }
+        } => gather_edited(alloc, file, cert, edits, edited, carried, shelf),
     }
 }
 
@@ -215,32 +212,26 @@ fn gather_fleet<'a, H: Shelf>(
     }
 }
 
-// The names under which an edit keeps what it makes.
-#[derive(Clone, Copy)]
-struct Kept<'a> {
-    edited: &'a str,
-    carried: &'a str,
-}
-
 // An instance, a certificate that is good for it, and edits.
 fn gather_edited<'a, H: Shelf>(
     alloc: Global,
     file: &str,
     cert: &str,
     edits: &str,
-    names: Kept<'a>,
+    edited: &'a str,
+    carried: &'a str,
     shelf: &mut H,
 ) -> Result<Job<'a>, Fail<Status>>
-    ensures job { IfOk result (IsJobOf H.tells (Edit file.now cert.now edits.now names.edited.now names.carried.now) (H.contents shelf.old)) }
-    ensures tried { IsTried H.tells (reads (Edit file.now cert.now edits.now names.edited.now names.carried.now)) (H.failed_looks shelf.old) (H.failed_looks shelf.new) (H.given shelf.old) (H.given shelf.new) (IsRefused (Edit file.now cert.now edits.now names.edited.now names.carried.now) (H.contents shelf.old)) (CanBeDone (Edit file.now cert.now edits.now names.edited.now names.carried.now) (H.contents shelf.old)) result }
+    ensures job { IfOk result (IsJobOf H.tells (Edit file.now cert.now edits.now edited.now carried.now) (H.contents shelf.old)) }
+    ensures tried { IsTried H.tells (reads (Edit file.now cert.now edits.now edited.now carried.now)) (H.failed_looks shelf.old) (H.failed_looks shelf.new) (H.given shelf.old) (H.given shelf.new) (IsRefused (Edit file.now cert.now edits.now edited.now carried.now) (H.contents shelf.old)) (CanBeDone (Edit file.now cert.now edits.now edited.now carried.now) (H.contents shelf.old)) result }
     ensures contents { IsTrue H.tells → SameContents (H.contents shelf.old) (H.contents shelf.new) }
     ensures keeps { H.failed_keeps shelf.new ≡ H.failed_keeps shelf.old }
 {
     match read_edited(alloc, shelf, file, cert, edits) {
         Ok(read) => Ok(Job::Edit {
             read,
-            edited: names.edited,
-            carried: names.carried,
+            edited,
+            carried,
         }),
         Err(fail) => Err(fail),
     }

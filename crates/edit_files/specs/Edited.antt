@@ -4,7 +4,6 @@ use Rattle.carp_base.specs.Problem.{Problem, IsValid}
 use Rattle.carp_base.specs.Faults.{IsFirstFault}
 use Rattle.carp_base.specs.declared.fault.InstanceFault.{InstanceFault}
 use Rattle.dat_text.specs.Text.{IsTextOf}
-use Rattle.cert_lines.specs.Certificates.{Certificate}
 use Rattle.cert_lines.specs.Spelling.{IsSpellable}
 use Rattle.cert_lines.specs.Texts as certificates
 use Rattle.cert_format.specs.Certs.{certificate_in}
@@ -15,7 +14,7 @@ use Rattle.instance_edits.specs.declared.edit.EditFault.TheVariants.{Refused}
 use Rattle.instance_edits.specs.Edits.{AreKnown, edited}
 use Rattle.instance_edits.specs.Texts.{IsEditsText, IsFirstBad}
 use Rattle.command_words.specs.Commands.{instance_at, certificate_at, edits_at}
-use Rattle.command_files.specs.Files.{Holds, IsInstance, IsBadInstance, IsGoodText, IsBadCertificate, IsBadFile}
+use Rattle.command_files.specs.Files.{Holds, IsBadInstance, IsGoodText, IsBadCertificate, IsBadFile}
 use Rattle.command_files.specs.declared.status.Status.{Status}
 use Rattle.command_files.specs.declared.status.Status.TheVariants.{BadEdit}
 use Rattle.edit_files.specs.declared.edited.Edited.{Edited}

@@ -2,5 +2,4 @@ pub mod Ranges
 pub mod Counting
 pub mod Parts
 pub mod Whole
-pub mod WalkTasks
 pub mod SameServices

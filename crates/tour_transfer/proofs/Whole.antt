@@ -3,7 +3,7 @@ use Rattle.std.proofs.Common.{◌≡◌, ℕ, zero, suc, ◌+◌, ◌*◌, ◌<�
 use Rattle.std.specs.Prelude.{if◌then◌else◌}
 use Rattle.std.specs.List.{AllByRecursion}
 use Rattle.std.proofs.lemmas.Bool.Decides.{nat_tests}
-use Rattle.std.proofs.lemmas.List.{flat_map_more, length-map, map-append, take_all, take_more}
+use Rattle.std.proofs.lemmas.List.{length-map, take_all}
 use Rattle.std.proofs.lemmas.List.Concat.{flat_map-append}
 use Rattle.std.proofs.lemmas.List.Sums.{sum_by-append}
 use Rattle.carp_base.specs.declared.edge.Task.{Task}
@@ -108,36 +108,6 @@ module _ (p : Problem) where
       )
 
   -- a plan that is carried over walk by walk
-  pub none_carried : (old : List (List Step)) → IsCarriedUpTo p old 0 []
-  none_carried old = record {
-    tours = refl;
-    paths = tt;
-    few = omega arith;
-  }
-
-  tasks_more : (plan : List (List Step)) (walk : List Step) → all_tasks (plan_tours (plan ++ walk ∷ [])) ≡ all_tasks (plan_tours plan) ++ tasks_of walk
-  tasks_more plan walk = ap all_tasks (map-append tasks_of plan (walk ∷ [])) ∙ sym (flat_map_more (λ (tour : List Task). tour) [] (plan_tours plan) (tasks_of walk))
-
-  cut_more : (plan : List (List Step)) (walk : List Step) → cut_tours p (plan_tours (plan ++ walk ∷ [])) ≡ cut_tours p (plan_tours plan) ++ cut_tour p (tasks_of walk)
-  cut_more plan walk = ap (cut_tours p) (map-append tasks_of plan (walk ∷ [])) ∙ sym (flat_map_more (cut_tour p) [] (plan_tours plan) (tasks_of walk))
-
-  pub one_carried : (old : List (List Step)) (place : ℕ) (plan longer : List (List Step)) → IsCarriedUpTo p old place plan → place < length old →
-      plan_tours longer ≡ plan_tours plan ++ cut_tour p (tasks_of (walk_at old place)) → (PlanGoesByLeastPaths p plan → PlanGoesByLeastPaths p longer) →
-      length longer ≤ length plan + length (tasks_of (walk_at old place)) → IsCarriedUpTo p old (place + 1) longer
-  one_carried old place plan longer so_far below added paths few = record {
-    tours = added ∙ ap (λ tours. tours ++ cut_tour p (tasks_of (walk_at old place))) so_far.tours ∙ sym (cut_more (take place old) (walk_at old place))
-        ∙ sym (ap (λ walks. cut_tours p (plan_tours walks)) (take_more old place [] below));
-    paths = paths so_far.paths;
-    few = omega (
-      arith,
-      few,
-      so_far.few,
-      ap (λ walks. length (all_tasks (plan_tours walks))) (take_more old place [] below),
-      ap length (tasks_more (take place old) (walk_at old place)),
-      length-append (all_tasks (plan_tours (take place old))) (tasks_of (walk_at old place)),
-    );
-  }
-
   -- the tasks of a walk and of those before it
   pub few_before : (old : List (List Step)) (place : ℕ) → place < length old →
       length (all_tasks (plan_tours (take place old))) + length (tasks_of (walk_at old place)) ≤ length (all_tasks (plan_tours old))

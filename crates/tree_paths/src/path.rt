@@ -1,5 +1,5 @@
 // The way from the root to the node that is read next.
-ghost use Rattle.std.specs.Prelude.{◌≡◌, ◌<◌, ◌++◌, ◌∷◌, [], length, All, IfSome, IsTrue, OnOk, Some, None, ◌↔◌};
+ghost use Rattle.std.specs.Prelude.{◌≡◌, ◌<◌, ◌++◌, ◌∷◌, [], length, All, IfSome, IsTrue, OnOk, Some, None, false, ◌↔◌};
 ghost use Rattle.decision_chains.specs.declared.decision.Decision.{Decision};
 ghost use Rattle.branch_rules.specs.Limits.{IsFineDecision, IsNodeIn};
 ghost use Rattle.branch_rules.specs.Trees.{Support};
@@ -45,7 +45,8 @@ impl Path {
 
     /// Whether no node is still to come.
     pub fn is_whole(&self) -> bool
-        ensures { IsTrue result ↔ (waits self.now ≡ []) }
+        ensures whole { IsTrue result ↔ (waits self.now ≡ []) }
+        ensures goes { result ≡ false → IsOpen self.now }
     {
         self.whole
     }

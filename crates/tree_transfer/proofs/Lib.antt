@@ -1,4 +1,6 @@
 mod Forests
+mod LightSets
 mod Moving
 mod Nodes
+mod SmallTrees
 mod Values

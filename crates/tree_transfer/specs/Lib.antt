@@ -1,3 +1,4 @@
 pub mod Shown
 pub mod Carrying
 pub mod Bounding
+pub mod Samples

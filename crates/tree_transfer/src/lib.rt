@@ -4,8 +4,12 @@
 //! [`greatest_bound`] says what such a tree shows there with the price sets that it names.
 #![tactic(auto)]
 
+#[cfg(test)]
+mod bound_tests;
 mod bounding;
 mod carrying;
+#[cfg(test)]
+mod samples;
 #[cfg(test)]
 mod tests;
 

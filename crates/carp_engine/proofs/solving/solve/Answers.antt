@@ -9,7 +9,7 @@ use Rattle.carp_engine.proofs.solving.solve.Goals as goal
 pub returns-clause-sound : goal.returns-clause-sound
 returns-clause-sound g c =
     let p = c.args.inst.now in
-    let laws : Laws = record { trees = c.tree_bounds.ensures; counts = c.counts_are_in_range.ensures; spelled = c.fine_is_spellable.ensures; shores = c.shores_are_fine.ensures; costs = c.short_plans_cost_little.ensures } in
+    let laws : Laws = record { trees = c.tree_bounds.ensures; counts = c.counts_are_in_range.ensures; spelled = c.fine_is_spellable.ensures; shores = c.shores_are_fine.ensures; costs = c.short_plans_cost_little.ensures; edges = c.plans_are_on_edges.ensures } in
     let no_dearer : IsAtMostSingles p (plan_cost p c.ask_all.new.best) = record {
       singles = c.in_ok-single_tours.field-0;
       tours = c.in_ok-single_tours.ensures.tours;

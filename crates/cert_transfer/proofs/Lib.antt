@@ -1,0 +1,3 @@
+mod Preorders
+mod Parts
+mod Copying

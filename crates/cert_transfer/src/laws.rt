@@ -1,0 +1,26 @@
+// The laws that a carried certificate stands on, as one.
+ghost use Rattle.cert_transfer.specs.Known.{Known};
+
+use branch_rules::tree_bounds;
+use branch_tree::short_plans_cost_little;
+use carried_trees::carried_trees_show;
+use cert_format::{counts_are_in_range, plans_are_on_edges};
+use cert_lines::{fine_is_spellable, spellable_is_fine};
+use raised_instances::{edits_raise_instances, raised_sets_stay_fit};
+use task_tours::plans_are_tours;
+
+// What is known of certificates, of plans, and of raised instances.
+pub(crate) fn known_laws()
+    ensures { Known }
+{
+    edits_raise_instances();
+    raised_sets_stay_fit();
+    carried_trees_show();
+    plans_are_tours();
+    plans_are_on_edges();
+    short_plans_cost_little();
+    tree_bounds();
+    fine_is_spellable();
+    spellable_is_fine();
+    counts_are_in_range();
+}

@@ -1,0 +1,4 @@
+pub mod Several
+pub mod FirstFaults
+pub mod Lines
+pub mod ThreeTexts

@@ -1,0 +1,169 @@
+-- What becomes of files that are read one after another.
+use Rattle.std.proofs.Common.{◌≡◌, ℕ, ◌+◌, ◌≤◌, List, [], ◌∷◌, sym, ap, subst, inl, inr, arith, IsTrue, Bool, Option, None, Some}
+use Rattle.std.specs.Prelude.{◌⊎◌, Result, Ok, Err, IsOk, IfOk, IsErrOf, IsSomeAnd}
+use Rattle.std.specs.declared.alloc.Global.{Global}
+use Rattle.std.specs.declared.vec.Vec.{Vec}
+use Rattle.carp_base.specs.declared.fail.Fail.{Fail}
+use Rattle.carp_base.specs.declared.fail.Fail.TheVariants.{Refused, Memory as NoMemory}
+use Rattle.carp_outside.specs.Causes.{RoseBy}
+use Rattle.command_words.specs.Commands.{Source}
+use Rattle.command_files.specs.Files.{HasLimit, Holds, IsBadFile, RoseAtSome}
+use Rattle.command_files.specs.Reads.{AreBytes, EachIsGood, IsFileRead, IsOfBytes, IsParsed, IsRefusal, IsTried, NoneIsBad}
+use Rattle.command_files.specs.declared.status.Status.{Status}
+use Rattle.command_files.specs.declared.status.Status.TheVariants.{Proven, Gap, Accepted, Done, Rejected, BadUsage, BadInstance, BadCertificate, ReadFault, WriteFault, Memory, TooLong, NotJoined, BadEdit}
+
+pub of_some : {X : Type 0} {P Q : X → Type 0} (o : Option X) → IsSomeAnd o P → ((x : X) → P x → Q x) → IsSomeAnd o Q
+of_some None none f = none
+of_some (Some x) holds f = f x holds
+
+pub of_ok : {X E : Type 0} {P Q : X → Type 0} (r : Result X E) → IfOk r P → ((x : X) → P x → Q x) → IfOk r Q
+of_ok (Ok x) holds f = f x holds
+of_ok (Err e) holds f = tt
+
+-- two facts of what is there
+of_both : {X : Type 0} {P Q : X → Type 0} {R : Type 0} (o : Option X) → IsSomeAnd o P → IsSomeAnd o Q → ((x : X) → P x → Q x → R) → R
+of_both None none other f = absurd none
+of_both (Some x) p q f = f x p q
+
+-- a refusal of each type
+abbrev pub failed : (X : Type 0) → Fail Status → Result X (Fail Status)
+failed X f = Err f
+
+abbrev pub made : (X : Type 0) → X → Result X (Fail Status)
+made X x = Ok x
+
+pub again : {X Y : Type 0} {f g : Fail Status} → failed X f ≡ failed X g → failed Y f ≡ failed Y g
+again {X} {Y} {f} {g} e = ap (failed Y) (inside e) where
+  inside : failed X f ≡ failed X g → f ≡ g
+  inside e = cc
+
+pub moved : {X Y : Type 0} {f : Fail Status} {status : Status} → IsErrOf (failed X f) (Refused status) ⊎ IsErrOf (failed X f) NoMemory → IsErrOf (failed Y f) (Refused status) ⊎ IsErrOf (failed Y f) NoMemory
+moved (inl e) = inl (again e)
+moved (inr e) = inr (again e)
+
+pub out : {X Y : Type 0} {P : Type 0} {f : Fail Status} → IsOk (failed X f) ⊎ IsErrOf (failed X f) NoMemory → P ⊎ IsErrOf (failed Y f) NoMemory
+out (inl none) = cc
+out (inr e) = inr (again e)
+
+refuses : (status : Status) → IsOfBytes status → IsRefusal status
+refuses (BadInstance fault) is = tt
+refuses (BadCertificate fault) is = tt
+refuses (Rejected reason) is = tt
+refuses (NotJoined edge) is = tt
+refuses (BadEdit fault) is = tt
+refuses ReadFault is = tt
+refuses (TooLong limit) is = tt
+refuses Proven is = is
+refuses Gap is = is
+refuses Accepted is = is
+refuses Done is = is
+refuses BadUsage is = is
+refuses WriteFault is = is
+refuses Memory is = is
+
+-- what is made of bytes reads no file
+pub tried_none : {X : Type 0} {held : Bool} {bytes : List ℕ} {l : List ℕ → ℕ} {g : ℕ} {Is : List ℕ → X → Type 0} {Bad : List ℕ → Status → Type 0} {Good : List ℕ → Type 0} (r : Result X (Fail Status))
+    → IsParsed bytes Is Bad Good r → IsTried held [] l l g g (Bad bytes) (Good bytes) r
+tried_none r parsed = record {
+  refusal = λ status e. refuses status (parsed.refusal status e);
+  read = λ e. parsed.refusal ReadFault e;
+  too_long = λ limit e. absurd (parsed.refusal (TooLong limit) e);
+  refused = λ told status e. inr (parsed.refused status e);
+  bad = λ told status bad no. parsed.bad status bad;
+  good = λ told good no. parsed.good good;
+}
+
+-- of equal bytes the same is made
+pub parsed_of : {X : Type 0} {b c : List ℕ} {Is : List ℕ → X → Type 0} {Bad : List ℕ → Status → Type 0} {Good : List ℕ → Type 0} {r : Result X (Fail Status)}
+    → b ≡ c → IsParsed b Is Bad Good r → IsParsed c Is Bad Good r
+parsed_of {Is = Is} {Bad = Bad} {Good = Good} {r = r} same parsed = subst (λ (x : List ℕ). IsParsed x Is Bad Good r) same parsed
+
+-- by equal contents
+pub same_tried : {X : Type 0} {held : Bool} {sources : List Source} {c d : List ℕ → Option (List ℕ)} {lb ln : List ℕ → ℕ} {gb gn : ℕ}
+    (Bad : (List ℕ → Option (List ℕ)) → Status → Type 0) (Good : (List ℕ → Option (List ℕ)) → Type 0) (r : Result X (Fail Status)) → (IsTrue held → c ≡ d)
+    → IsTried held sources lb ln gb gn (Bad c) (Good c) r → IsTried held sources lb ln gb gn (Bad d) (Good d) r
+same_tried Bad Good r same tried = record {
+  refusal = tried.refusal;
+  read = tried.read;
+  too_long = tried.too_long;
+  refused = λ told status e. subst (λ x. (status ≡ ReadFault) ⊎ Bad x status) (same told) (tried.refused told status e);
+  bad = λ told status bad no. tried.bad told status (subst (λ x. Bad x status) (sym (same told)) bad) no;
+  good = λ told good no. tried.good told (subst Good (sym (same told)) good) no;
+}
+
+-- counts that rose later, or until earlier, rose
+rose_since : (n before mid now : ℕ) → before ≤ mid → RoseBy n mid now → RoseBy n before now
+rose_since n before mid now later rose = omega (arith, later, rose)
+
+rose_until : (n before mid now : ℕ) → mid ≤ now → RoseBy n before mid → RoseBy n before now
+rose_until n before mid now later rose = omega (arith, later, rose)
+
+some_since : (sources : List Source) (before mid now : List ℕ → ℕ) → ((name : List ℕ) → before name ≤ mid name) → RoseAtSome sources mid now → RoseAtSome sources before now
+some_since [] before mid now later rose = rose
+some_since (source ∷ sources) before mid now later (inl rose) = inl (rose_since 1 (before source.name) (mid source.name) (now source.name) (later source.name) rose)
+some_since (source ∷ sources) before mid now later (inr rose) = inr (some_since sources before mid now later rose)
+
+at_first : (source : Source) (sources : List Source) (before now : List ℕ → ℕ) → RoseAtSome (source ∷ []) before now → RoseAtSome (source ∷ sources) before now
+at_first source sources before now (inl rose) = inl rose
+at_first source sources before now (inr none) = absurd none
+
+at_first_until : (source : Source) (sources : List Source) (before mid now : List ℕ → ℕ) → ((name : List ℕ) → mid name ≤ now name) → RoseAtSome (source ∷ []) before mid → RoseAtSome (source ∷ sources) before now
+at_first_until source sources before mid now later (inl rose) = inl (rose_until 1 (before source.name) (mid source.name) (now source.name) (later source.name) rose)
+at_first_until source sources before mid now later (inr none) = absurd none
+
+limited : (limit g h : ℕ) (source : Source) (sources : List Source) → HasLimit limit (source ∷ []) × RoseBy (limit + 1) g h → HasLimit limit (source ∷ sources) × RoseBy (limit + 1) g h
+limited limit g h source sources (inl is, rose) = (inl is, rose)
+limited limit g h source sources (inr none, rose) = absurd none
+
+-- the first of some files is not to be had
+pub first_stops : {X : Type 0} {held : Bool} {source : Source} {sources : List Source} {contents : List ℕ → Option (List ℕ)} {lb ln : List ℕ → ℕ} {gb gn : ℕ}
+    (Bad : List ℕ → Status → Type 0) (Good : List ℕ → Type 0) (f : Fail Status)
+    → IsFileRead held source contents lb ln gb gn AreBytes NoneIsBad EachIsGood (failed (Vec ℕ Global) f)
+    → IsTried held (source ∷ sources) lb ln gb gn (IsBadFile Bad source contents) (Holds source contents Good) (failed X f)
+first_stops {source = source} {sources = sources} {contents = contents} {lb = lb} {ln = ln} {gb = gb} {gn = gn} Bad Good f first = record {
+  refusal = λ status e. first.tried.refusal status (again e);
+  read = λ e. at_first source sources lb ln (first.tried.read (again e));
+  too_long = λ limit e. limited limit gb gn source sources (first.tried.too_long limit (again e));
+  refused = λ told status e. elim (first.tried.refused told status (again e)) [
+    | inl fault ↦ inl fault
+    | inr (inl long) ↦ inr (inl long)
+    | inr (inr none) ↦ absurd (of_both (contents source.name) none none (λ bytes held more. held.1))
+  ];
+  bad = λ told status bad no. elim bad [
+    | inl long ↦ moved (first.tried.bad told status (inl long) (λ rose. no (at_first source sources lb ln rose)))
+    | inr of ↦ out (first.tried.good told (of_some (contents source.name) of (λ bytes held. (held.0, tt))) (λ rose. no (at_first source sources lb ln rose)))
+  ];
+  good = λ told good no. out (first.tried.good told (of_some (contents source.name) good (λ bytes held. (held.0, tt))) (λ rose. no (at_first source sources lb ln rose)));
+}
+
+-- the first of some files is read, and the others decide
+pub others_decide : {X : Type 0} {held : Bool} {source : Source} {sources : List Source} {contents : List ℕ → Option (List ℕ)} {lb lm ln : List ℕ → ℕ} {gb gm gn : ℕ}
+    (Bad : List ℕ → Status → Type 0) (Good : List ℕ → Type 0) (v : Vec ℕ Global) (r : Result X (Fail Status))
+    → IsFileRead held source contents lb lm gb gm AreBytes NoneIsBad EachIsGood (made (Vec ℕ Global) v)
+    → IsTried held sources lm ln gm gn (Bad v.items) (Good v.items) r
+    → ((name : List ℕ) → lb name ≤ lm name) → ((name : List ℕ) → lm name ≤ ln name) → gb ≤ gm
+    → IsTried held (source ∷ sources) lb ln gb gn (IsBadFile Bad source contents) (Holds source contents Good) r
+others_decide {X} {held} {source} {sources} {contents} {lb} {lm} {ln} {gb} {gm} {gn} Bad Good v r first others risen rises given = record {
+  refusal = others.refusal;
+  read = λ e. inr (some_since sources lb lm ln risen (others.read e));
+  too_long = λ limit e. let found = others.too_long limit e in (inr found.0, rose_since (limit + 1) gb gm gn given found.1);
+  refused = λ told status e. elim (others.refused told status e) [
+    | inl fault ↦ inl fault
+    | inr bad ↦ inr (inr (of_some (contents source.name) (first.made told) (λ bytes own. (own.0, subst (λ b. Bad b status) own.1 bad))))
+  ];
+  bad = λ told status bad no. elim bad [
+    | inl long ↦ elim (first.tried.bad told status (inl long) (λ rose. no (at_first_until source sources lb lm ln rises rose))) [ inl e ↦ cc | inr e ↦ cc ]
+    | inr of ↦ of_both (contents source.name) (first.made told) of (λ bytes own held. others.bad told status (subst (λ b. Bad b status) (sym own.1) held.1) (λ rose. no (inr (some_since sources lb lm ln risen rose))))
+  ];
+  good = λ told good no. of_both (contents source.name) (first.made told) good (λ bytes own held. others.good told (subst Good (sym own.1) held.1) (λ rose. no (inr (some_since sources lb lm ln risen rose))));
+}
+
+-- what is made of the bytes is made of the file that holds them
+pub made_of : {X : Type 0} {held : Bool} {source : Source} {contents mid : List ℕ → Option (List ℕ)} {lb lm : List ℕ → ℕ} {gb gm : ℕ}
+    (P : (List ℕ → Option (List ℕ)) → List ℕ → X → Type 0) (v : Vec ℕ Global) (r : Result X (Fail Status))
+    → IsFileRead held source contents lb lm gb gm AreBytes NoneIsBad EachIsGood (made (Vec ℕ Global) v) → IsTrue held → mid ≡ contents
+    → IfOk r (P mid v.items) → IfOk r (λ x. Holds source contents (λ bytes. P contents bytes x))
+made_of {X = X} {source = source} {contents = contents} P v r first told same is = by r (subst (λ held. IfOk r (P held v.items)) same is) where
+  by : (r : Result X (Fail Status)) → IfOk r (P contents v.items) → IfOk r (λ x. Holds source contents (λ bytes. P contents bytes x))
+  by (Ok x) is = of_some (contents source.name) (first.made told) (λ bytes own. (own.0, subst (λ b. P contents b x) own.1 is))
+  by (Err e) is = tt
