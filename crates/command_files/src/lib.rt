@@ -12,8 +12,8 @@ mod status;
 mod tests;
 
 pub use reading::{
-    CERTIFICATE_LIMIT, INSTANCE_LIMIT, check_file, parse_good, parse_instance, read_file, read_good,
-    read_instance,
+    CERTIFICATE_LIMIT, INSTANCE_LIMIT, check_file, parse_good, parse_instance, read_file,
+    read_good, read_instance,
 };
 pub use rounds::{Laid, read_round};
 pub use status::Status;

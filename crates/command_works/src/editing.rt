@@ -30,7 +30,13 @@ pub(crate) fn keep_edited<'a>(
     good_is_proof();
     let cert = carry(alloc, &read.before, &read.edits, &read.after, &read.cert)?;
     let (before, after) = (read.before.edge_count(), read.after.edge_count());
-    let text = summary(alloc, after, before.saturating_sub(after), cert.cost, cert.bound)?;
+    let text = summary(
+        alloc,
+        after,
+        before.saturating_sub(after),
+        cert.cost,
+        cert.bound,
+    )?;
     let first = Kept {
         name: edited,
         bytes: write_dat(alloc, &read.after)?,
@@ -49,7 +55,7 @@ fn deliver_two<'a>(
     second: Kept<'a>,
     text: Vec<u8>,
 ) -> Result<Delivery<'a>, Memory>
-    ensures { IfOk result (λ d. (d.status ≡ Status.Done) × (d.kept.items ≡ first ∷ second ∷ []) × (d.text ≡ text)) }
+    ensures { IfOk result (λ d. (d.status ≡ Status.Done) × (d.kept.items ≡ first.entry ∷ second.entry ∷ []) × (d.text ≡ text)) }
 {
     let mut kept = Vec::new(alloc);
     kept.push(first)?;
@@ -63,13 +69,7 @@ fn deliver_two<'a>(
 
 // The sizes, the cost and the bound, and the gap between them.
 #[tactic(auto, unfolding(crate::specs::Texts::edit_text))]
-fn summary(
-    alloc: Global,
-    edges: u32,
-    closed: u32,
-    cost: u64,
-    bound: u64,
-) -> Result<Vec<u8>, Memory>
+fn summary(alloc: Global, edges: u32, closed: u32, cost: u64, bound: u64) -> Result<Vec<u8>, Memory>
     requires { bound ≤ cost }
     ensures { IfOk result (λ text. text.items ≡ edit_text edges closed cost bound) }
 {

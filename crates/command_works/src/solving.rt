@@ -41,6 +41,7 @@ pub(crate) fn solve_instance<'a, P: Proposer>(
 pub(crate) fn ending(bound: u64, cost: u64) -> Status
     ensures proven { bound ≡ cost → result ≡ Status.Proven }
     ensures gap { bound ≢ cost → result ≡ Status.Gap }
+    ensures either { (result ≡ Status.Proven) ⊎ (result ≡ Status.Gap) }
     ensures is_proven { result ≡ Status.Proven → bound ≡ cost }
     ensures is_gap { result ≡ Status.Gap → bound ≢ cost }
 {

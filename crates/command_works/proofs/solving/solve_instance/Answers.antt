@@ -19,4 +19,4 @@ returns-clause-solved g c =
     solved_by certificate c.args.turns c.in_ok-solved.solved.turns _ _ c.ending-status.result c.in_ok-solved.ensures.sound
     (record { proven = c.ending-status.ensures.is_proven; gap = λ gap. (c.ending-status.ensures.is_gap gap, spent certificate.bound certificate.cost c.args.turns c.in_ok-solved.solved.turns c.in_ok-solved.ensures.ended (c.ending-status.ensures.is_gap gap)) })
     (λ enough. c.ending-status.ensures.proven (c.in_ok-solved.ensures.whole enough))
-    (search rules) helped c.in_ok-bytes.ensures.read c.in_ok-text.ensures d made)
+    c.ending-status.ensures.either helped c.in_ok-bytes.ensures.read c.in_ok-text.ensures d made)
