@@ -8,21 +8,13 @@
 //! answers that have no report, and `delivering` keeps and writes what was made: all that is kept or written goes through one function.
 #![tactic(auto)]
 
-#[cfg(test)]
-mod check_tests;
-#[cfg(test)]
-mod command_tests;
 mod delivering;
 mod dir_shelf;
 #[cfg(test)]
 mod examples;
-#[cfg(test)]
-mod file_tests;
 mod refusals;
 mod running;
 mod std_sink;
-#[cfg(test)]
-mod tests;
 
 pub use command_files::Status;
 pub use dir_shelf::DirShelf;

@@ -114,7 +114,23 @@ fn keeps_fail_where_listed_and_where_room_is_short(rt: HostRuntime) -> Result<()
     Ok(())
 }
 
-// Keeps 1, 3 and 4 are to fail, and three bytes are left of what was to be kept.
+// Each row: what is to be kept at `a`, whether it is kept, and what `a` holds then. The keeps 1, 3 and 4 are to fail, `a` is ready
+// for ten bytes, and three are left of what is torn.
+const TORN: &str = "\
+    0123456789 no 012\n\
+    abcdef yes abcdef\n\
+    xy no xy\n\
+    0123456789A no xy\n\
+    0123456789A no xy\n\
+    0123 yes 0123";
+
+fn is_kept_so(shelf: &mut MemShelf, row: &str) -> bool {
+    let (bytes, wanted) = row.split_once(' ').unwrap_or(("", ""));
+    let (kept, held) = wanted.split_once(' ').unwrap_or(("", ""));
+    let is_kept = shelf.keep("a", bytes.as_bytes()).is_ok();
+    is_kept == (kept == "yes") && shelf.held("a").unwrap_or(b"not held") == held.as_bytes()
+}
+
 #[test]
 fn torn_keeps_leave_a_front(rt: HostRuntime) -> Result<(), Failure> {
     let alloc = rt.alloc();
@@ -122,24 +138,10 @@ fn torn_keeps_leave_a_front(rt: HostRuntime) -> Result<(), Failure> {
     shelf.place("b", b"other")?;
     shelf.ready("a", 10)?;
     shelf.tear(3);
-    // What is kept at the name, whether it is kept, and what the name holds then.
-    for (bytes, kept, held) in [
-        (b"0123456789".as_slice(), false, b"012".as_slice()),
-        (b"abcdef".as_slice(), true, b"abcdef".as_slice()),
-        (b"xy".as_slice(), false, b"xy".as_slice()),
-        (b"0123456789A".as_slice(), false, b"xy".as_slice()),
-        (b"0123456789A".as_slice(), false, b"xy".as_slice()),
-        (b"0123".as_slice(), true, b"0123".as_slice()),
-    ] {
-        assert_eq!(rt; shelf.keep("a", bytes).is_ok(), kept, "of {}", bytes.len());
-        assert_eq!(rt;
-            shelf.held("a").unwrap_or(b"not held"),
-            held,
-            "of {}",
-            bytes.len()
-        );
-        assert_eq!(rt; shelf.held("b").unwrap_or(b"not held"), b"other".as_slice());
+    for row in TORN.split('\n') {
+        assert!(rt; is_kept_so(&mut shelf, row), "{row}");
     }
+    assert_eq!(rt; shelf.held("b").unwrap_or(b"not held"), b"other".as_slice());
     Ok(())
 }
 

@@ -1,6 +1,6 @@
 // What is answered for the texts of files, valid and not.
-use crate::Status;
 use crate::tests::{REPORT_ROOM, run_words, shelf_with};
+use carp_cli::Status;
 use carp_outside::MemSink;
 use std::alloc::Global;
 use std::test::Fail;

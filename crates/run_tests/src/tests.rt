@@ -1,13 +1,13 @@
 // Runs over files in memory.
 ghost use Rattle.std.specs.Prelude.{◌<◌};
 
-use crate::{Status, run};
-use carp_outside::{MemShelf, MemSink, Shelf};
+use carp_cli::{Status, run};
+use carp_outside::{MemShelf, MemSink, Shelf, Sink};
 use plan_model::Proposer;
 use std::alloc::Global;
 use std::test::Fail;
 
-const STREET: &str = "NOMBRE : carp
+pub(crate) const STREET: &str = "NOMBRE : carp
 COMENTARIO : none
 VERTICES : 2
 ARISTAS_REQ : 1
@@ -55,6 +55,7 @@ const USAGE: &str = "usage: carp solve FILE CERT [--turns N] [--seed N]
        carp upgrade FILE CERT NEWCERT
        carp postman FILE
        carp fleet FILE [--turns N]
+       carp edit FILE CERT EDITS NEWFILE NEWCERT
 ";
 
 // Room for any certificate and any report of these tests.
@@ -79,11 +80,11 @@ pub(crate) fn shelf_with(
     Ok(shelf)
 }
 
-pub(crate) fn run_words(
+pub(crate) fn run_words<H: Shelf, O: Sink>(
     alloc: Global,
     words: &[&str],
-    shelf: &mut MemShelf,
-    out: &mut MemSink,
+    shelf: &mut H,
+    out: &mut O,
 ) -> Result<Status, Fail> {
     let mut all = Vec::new(alloc);
     for word in words {
@@ -271,7 +272,7 @@ const CALLS: &str = "\
     upgrade file other cert | | | | 5 | no | bad certificate: ends before line 1 is complete~";
 
 // The words of a text.
-fn words_in(alloc: Global, text: &str) -> Result<Vec<&str>, Fail> {
+pub(crate) fn words_in(alloc: Global, text: &str) -> Result<Vec<&str>, Fail> {
     let mut words = Vec::new(alloc);
     for word in text.split_ascii_whitespace() {
         words.push(if word == "_" { "" } else { word })?;
