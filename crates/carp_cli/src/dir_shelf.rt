@@ -6,16 +6,20 @@ use std::alloc::Global;
 use std::fs::{Metadata, OpenFile, OpenOptions};
 use std::io::{Error, ErrorKind, Read, Seek, SeekFrom, Write};
 use std::rt::Files;
+use std::time::{Duration, SystemTime};
 use std::{fs, io};
 
 // How many names beside a file are tried before a keep is given up.
 const NAMES_TRIED: u32 = 1000;
 
+// What lies beside a file for so many seconds was left by a keep that was killed: a keep takes seconds.
+const LEFT_BEHIND: u64 = 3600;
+
 /// The files of the system by their paths, as a shelf. It does not tell what they hold, and counts each failure of the
 /// system.
 ///
 /// A file is replaced whole: the new bytes are written beside it, synced and renamed, so that a failure leaves the old
-/// file as it was. A file that is write-protected is left alone. Where the path stands for something other than a
+/// file as it was. What a keep that was killed left beside the file is removed by a keep an hour later. A file that is write-protected is left alone. Where the path stands for something other than a
 /// regular file, as a link or a device, it is written in place.
 #[derive(Drop)]
 pub struct DirShelf<R: Files> {
@@ -121,12 +125,38 @@ fn create_beside<R: Files>(rt: &R, alloc: Global, name: &str) -> io::Result<(Str
             .create_new(true)
             .open(rt, beside.as_str())
         {
-            Ok(file) => return Ok((beside, file)),
+            Ok(file) => {
+                clear_left(rt, alloc, name, number, &file);
+                return Ok((beside, file));
+            }
             Err(error) if error.kind() == ErrorKind::AlreadyExists => {}
             Err(error) => return Err(error),
         }
     }
     Err(Error::from(ErrorKind::AlreadyExists))
+}
+
+// Removes what killed keeps left beside the path, under the names before the one of a new file. A name that cannot be looked at or removed stays.
+fn clear_left<R: Files>(rt: &R, alloc: Global, name: &str, below: u32, file: &R::File) {
+    let Ok(now) = file.metadata().and_then(|new| new.modified()) else {
+        return;
+    };
+    for number in 0..below {
+        if let Ok(beside) = format!(in alloc; "{name}.{number}.new") {
+            let _ = clear_one(rt, beside.as_str(), now);
+        }
+    }
+}
+
+// Removes a regular file that was last changed long before a moment.
+fn clear_one<R: Files>(rt: &R, beside: &str, now: SystemTime) -> io::Result<()> {
+    let left = rt.symlink_metadata(beside)?;
+    match now.duration_since(left.modified()?) {
+        Ok(age) if left.is_file() && age > Duration::from_secs(LEFT_BEHIND) => {
+            rt.remove_file(beside)
+        }
+        _ => Ok(()),
+    }
 }
 
 // Fills a new file, under the permissions of the file that it is to replace.

@@ -4,6 +4,8 @@
 #![tactic(auto)]
 
 #[cfg(test)]
+mod carried_tests;
+#[cfg(test)]
 mod check_tests;
 #[cfg(test)]
 mod command_tests;
