@@ -5,6 +5,7 @@ use carp_outside::MemShelf;
 use cert_checker::Reason;
 use cert_format::CertFault;
 use dat_text::DatFault;
+use instance_edits::EditFault;
 use std::alloc::Global;
 use std::test::Fail;
 
@@ -102,6 +103,7 @@ fn each_status_has_its_code(rt: HostRuntime) {
     assert!(rt; Status::ReadFault.code() == 6 && Status::WriteFault.code() == 7);
     assert!(rt; Status::Memory.code() == 8 && Status::TooLong(9).code() == 9);
     assert!(rt; Status::NotJoined(1).code() == 10);
+    assert!(rt; Status::BadEdit(EditFault::Syntax(1)).code() == 11);
 }
 
 // Each row: the status of a round over an instance, or its cost; and the text of the instance.

@@ -1,9 +1,10 @@
 // Each kind of refusal with its line.
-use crate::{certificate_fault_line, instance_fault_line, rejection_line};
+use crate::{certificate_fault_line, edit_fault_line, instance_fault_line, rejection_line};
 use carp_base::InstanceFault;
 use cert_checker::{Part, Reason};
 use cert_lines::CertFault;
 use dat_text::{DatFault, Key};
+use instance_edits::EditFault;
 use plan_model::Verdict;
 use std::alloc::Global;
 use std::test::Fail;
@@ -222,6 +223,29 @@ rejected: node 16 has value -20, not above -1
     assert_eq!(rt;
         rejection_lines(rt.alloc(), &reasons)?.as_slice(),
         lines.as_bytes()
+    );
+    Ok(())
+}
+
+fn edit_fault_lines(alloc: Global, faults: &[EditFault]) -> Result<Vec<u8>, Fail> {
+    let mut text = Vec::new(alloc);
+    for fault in faults {
+        text.extend_from_slice(&edit_fault_line(alloc, fault)?)?;
+    }
+    Ok(text)
+}
+
+#[test]
+fn faults_of_edits_have_lines(rt: HostRuntime) -> Result<(), Fail> {
+    let faults = [
+        EditFault::Syntax(7),
+        EditFault::Unknown(1),
+        EditFault::Refused(InstanceFault::Overweight(2)),
+    ];
+    let text = edit_fault_lines(rt.alloc(), &faults)?;
+    assert_eq!(rt;
+        text.as_slice(),
+        b"bad edit: line 7 cannot be read\nbad edit: line 1 names a wrong edge\nbad edit: edge 2 has a demand above the capacity\n".as_slice()
     );
     Ok(())
 }
