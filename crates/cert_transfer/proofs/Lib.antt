@@ -1,3 +1,4 @@
 mod Preorders
 mod Parts
 mod Copying
+mod PlanCosts

@@ -21,7 +21,6 @@ use Rattle.branch_rules.specs.Trees.{Tree, pair, cut, price, void, fixed, preord
 use Rattle.branch_rules.specs.declared.node.Node.{Node}
 use Rattle.branch_rules.specs.declared.node.Node.TheVariants as nodes
 use Rattle.branch_rules.specs.declared.weight.Weight.{Weight}
-use Rattle.branch_tree.specs.Searches.{IsShortPlan}
 use Rattle.grown_trees.specs.Places as places
 use Rattle.cert_lines.specs.Certificates.{Certificate}
 use Rattle.cert_lines.specs.Ranges.{IsWithin}
@@ -142,9 +141,6 @@ module _ (known : Known) (p q : Problem) (valid : IsValid p) (valid_now : IsVali
       abbrev made : Certificate
       made = record { counts = Some (counts_in q); cost = cost; bound = bound; plan = plan; shores = c.shores; sets = c.sets; nodes = new }
 
-      short : IsShortPlan q plan
-      short = record { lawful = lawful; few_tours = few_tours; few_steps = few_steps }
-
       shown : Shows support [] bound carried.carried
       shown = (greatest.shows carried.carried bound carried.new_nodes greatest.at_most).1 (omega arith)
 
@@ -166,8 +162,8 @@ module _ (known : Known) (p q : Problem) (valid : IsValid p) (valid_now : IsVali
       is_fine : IsFine made
       is_fine = record {
         counts_in = known.counts q valid_now;
-        cost_in = omega (arith, cost_is, known.costs q plan valid_now short);
-        bound_in = omega (arith, greatest.at_most, cost_is, known.costs q plan valid_now short);
+        cost_in = omega (arith, cost_is, known.costs q plan valid_now lawful few_steps);
+        bound_in = omega (arith, greatest.at_most, cost_is, known.costs q plan valid_now lawful few_steps);
         few_tours = omega (arith, few_tours, valid_now.few_required);
         few_steps = subst (λ n. n ≤ 2000000) (length-flat_map (λ walk. walk) plan) few_steps;
         edges_in = known.edges q plan valid_now lawful;

@@ -2,7 +2,6 @@
 ghost use Rattle.cert_transfer.specs.Known.{Known};
 
 use branch_rules::tree_bounds;
-use branch_tree::short_plans_cost_little;
 use carried_trees::carried_trees_show;
 use cert_format::{counts_are_in_range, plans_are_on_edges};
 use cert_lines::{fine_is_spellable, spellable_is_fine};
@@ -18,7 +17,6 @@ pub(crate) fn known_laws()
     carried_trees_show();
     plans_are_tours();
     plans_are_on_edges();
-    short_plans_cost_little();
     tree_bounds();
     fine_is_spellable();
     spellable_is_fine();

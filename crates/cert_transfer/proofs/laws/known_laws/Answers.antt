@@ -1,3 +1,4 @@
+use Rattle.cert_transfer.proofs.PlanCosts.{cost_little}
 use Rattle.cert_transfer.proofs.laws.known_laws.Goals as goal
 
 pub returns : goal.returns
@@ -7,7 +8,7 @@ returns c = record {
   trees = c.carried_trees_show.ensures;
   tours = c.plans_are_tours.ensures.tours;
   edges = c.plans_are_on_edges.ensures;
-  costs = c.short_plans_cost_little.ensures;
+  costs = cost_little;
   bounds = c.tree_bounds.ensures;
   spelled = c.fine_is_spellable.ensures;
   fine = c.spellable_is_fine.ensures;
