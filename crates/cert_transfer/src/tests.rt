@@ -1,5 +1,5 @@
 // Certificates that are carried over to edited instances, worked by hand.
-ghost use Rattle.std.specs.Prelude.{◌×◌, IfOk};
+ghost use Rattle.std.specs.Prelude.{IfOk, IfSome};
 ghost use Rattle.cert_lines.specs.Spelling.{IsSpellable};
 ghost use Rattle.cert_format.specs.Certs.{certificate_in};
 ghost use Rattle.cert_format.specs.Good.{IsGood};
@@ -45,22 +45,30 @@ const SPLIT_RING: &str =
     "carp-certificate 1~cost 45~bound 45~tours 2~tour 5 >4 +1 +2 >3 <4~tour 4 >4 -3 >3 <4~shores 2~shore 3 2 3 4~shore 2 3 4~sets 1~prices 1 3 1 1 1~weights 2 1 10 2 1~nodes 3~pair 1 2~price 1~price 1~end~";
 
 // The certificate of a text, in which `~` stands for a line feed, where it is good for the instance.
-fn good(alloc: Global, inst: &Instance, text: &str) -> Result<Cert, Fail>
-    ensures { IfOk result (λ cert. IsSpellable (certificate_in cert) × IsGood inst.now (certificate_in cert)) }
+fn good(alloc: Global, inst: &Instance, text: &str) -> Result<Option<Cert>, Fail>
+    ensures { IfOk result (λ found. IfSome found (λ cert. IsSpellable (certificate_in cert) × IsGood inst.now (certificate_in cert))) }
 {
     read_is_spelled();
     let text = text.replace(alloc, "~", "\n")?;
     let cert = read_cert(alloc, text.as_bytes())?;
     match check(alloc, inst, &cert)? {
-        Answer::Accepted => Ok(cert),
-        Answer::Rejected(_) => Err(Fail),
+        Answer::Accepted => Ok(Some(cert)),
+        Answer::Rejected(_) => Ok(None),
     }
 }
 
 // The cost, the bound, the numbers of tours, shores, sets and nodes, and the edges of the certificate that is carried over by the edits.
 fn carried(alloc: Global, inst: &Instance, text: &str, edits: &str) -> Result<String, Fail> {
-    let cert = good(alloc, inst, text)?;
+    let Some(cert) = good(alloc, inst, text)? else {
+        return Ok(String::new(alloc));
+    };
+    if edits.len() > 1_000 {
+        return Ok(String::new(alloc));
+    }
     let edits = read_edits(alloc, inst, edits.as_bytes())?;
+    if edits.len() > 1_000 {
+        return Ok(String::new(alloc));
+    }
     let after = edited(alloc, inst, &edits)?;
     let new = carry(alloc, inst, &edits, &after, &cert)?;
     let edges = new.counts.map_or(0, |counts| counts.edges);
@@ -74,7 +82,7 @@ fn carried(alloc: Global, inst: &Instance, text: &str, edits: &str) -> Result<St
     Ok(format!(in alloc; "{} {} {sizes} {edges}", new.cost, new.bound)?)
 }
 
-// Four times the street of cost 3, and twice each service: 2 * (3 + 2) more to and fro, less what the services keep.
+// The street of cost 3 is driven three times without service, each time for 2 more.
 #[test]
 fn a_dearer_street_costs_more(rt: HostRuntime) -> Result<(), Fail> {
     let alloc = rt.alloc();
