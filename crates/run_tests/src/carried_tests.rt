@@ -50,9 +50,18 @@ fn place(alloc: Global, shelf: &mut MemShelf, name: &str, text: &str) -> Result<
     Ok(shelf.place(name, text.as_bytes())?)
 }
 
+// A store with room for what is kept.
+fn store(alloc: Global) -> Result<MemShelf, Fail> {
+    let mut shelf = MemShelf::new(alloc, 65_536, Vec::new(alloc), Vec::new(alloc));
+    for name in "cert new kept".split_ascii_whitespace() {
+        shelf.ready(name, 65_536)?;
+    }
+    Ok(shelf)
+}
+
 // A store with the files of a name, and edits.
 fn files(alloc: Global, wanted: &str, edits: &str) -> Result<MemShelf, Fail> {
-    let mut shelf = MemShelf::new(alloc, 65_536, Vec::new(alloc), Vec::new(alloc));
+    let mut shelf = store(alloc)?;
     for row in FILES.split('\n') {
         let mut fields = row.split(" | ");
         if fields.next().unwrap_or("") == wanted {
@@ -171,7 +180,7 @@ fn is_carried(alloc: Global, told: &str, bound: u64) -> Result<bool, Fail> {
 
 fn expect_carried(rt: &impl Abort, alloc: Global, state: &mut u64) -> Result<(), Fail> {
     let edits = drawn_edits(alloc, state)?;
-    let mut shelf = MemShelf::new(alloc, 65_536, Vec::new(alloc), Vec::new(alloc));
+    let mut shelf = store(alloc)?;
     place(alloc, &mut shelf, "file", STAR)?;
     place(alloc, &mut shelf, "edits", edits.as_str())?;
     let report = answer(
