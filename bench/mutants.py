@@ -78,6 +78,7 @@ rejected: tour X does not start and end at the depot
 rejected: tour X has load X
 rejected: tour X step X is broken
 too long: more than X bytes
+usage: check.py FILE CERT
 """.split("\n")[1:-1]
 
 
@@ -92,16 +93,35 @@ def draw_instance(rng):
     ends += [tuple(rng.sample(order, 2)) for _ in range(rng.choice([0, 1, 1, 2, 4]))]
     rng.shuffle(ends)
     required = min(len(ends), rng.choice([0, 1, 2, 3, 3, 4, 4, 5, 6]))
-    capacity = rng.choice([1, 2, 3, 4, 5, 7, 10, 20])
-    least_demand = rng.choice([1, 1, (capacity + 2) // 3, (capacity + 1) // 2])
+    depot = rng.choice(order)
+    if rng.randrange(8) == 0:  # a street that cannot be reached, and perhaps a vertex without streets
+        ends.append((vertices + 1, vertices + 2))
+        vertices += rng.choice([2, 3])
+    capacity = rng.choice([1, 2, 3, 4, 5, 7, 10, 20, 30])
+    least_demand = rng.choice([1, 1, 1, (capacity + 2) // 3, (capacity + 1) // 2])
+    largest_demand = max(least_demand, rng.choice([capacity, capacity // 2, capacity // 5]))
     largest_cost = rng.choice([1, 10, 10, 10, 100, 1_000_000])
     edges = []
     for number, (u, v) in enumerate(ends):
         cost = rng.choice([0, 1, rng.randint(0, largest_cost), rng.randint(0, largest_cost), rng.randint(0, largest_cost)])
         service = cost if rng.randrange(4) or number >= required else rng.randint(0, largest_cost)
-        demand = rng.randint(least_demand, max(least_demand, rng.choice([capacity, capacity // 2]))) if number < required else 0
+        demand = rng.randint(least_demand, largest_demand) if number < required else 0
         edges.append(Edge(u, v, cost, demand, service))
-    return Instance(vertices, edges, required, capacity, rng.choice(order))
+    return Instance(vertices, edges, required, capacity, depot)
+
+
+def draw_far(rng):
+    """An instance whose depot lies apart, with demands that fill vehicles badly, so that now and then a tree is needed."""
+    vertices = rng.randint(5, 8)
+    ends = [(rng.randint(2, vertex - 1), vertex) for vertex in range(3, vertices + 1)]
+    ends += [tuple(rng.sample(range(2, vertices + 1), 2)) for _ in range(6 - len(ends))]
+    capacity = rng.choice([5, 7, 10, 11, 20, 30])
+    demands = rng.choice([[capacity // 2, capacity // 2 + 1], [capacity // 4 + 1, capacity // 3 + 1, capacity // 2 + 1], range(1, capacity + 1)])
+    edges = [Edge(u, v, rng.randint(0, 10), rng.choice(demands), rng.randint(0, 10)) for u, v in ends]
+    for _ in range(rng.choice([1, 1, 2])):
+        cost = rng.randint(0, 30)
+        edges.append(Edge(1, rng.randint(2, vertices), cost, 0, cost))
+    return Instance(vertices, edges, 6, capacity, 1)
 
 
 def text_of_instance(instance):
@@ -136,8 +156,8 @@ def change_edge(rng, instance):
 
 def change_numbers(rng, instance):
     changes = [{"depot": depot} for depot in range(instance.vertices + 2)]
-    changes += [{"vertices": instance.vertices + 1}, {"vertices": instance.vertices - 1}, {"vertices": 0}, {"vertices": 1_001}]
-    changes += [{"capacity": capacity} for capacity in [0, instance.capacity + 1, max(instance.capacity - 1, 0), 30_001]]
+    changes += [{"vertices": instance.vertices + 1}, {"vertices": instance.vertices - 1}, {"vertices": 0}, {"vertices": 1_000}, {"vertices": 1_001}]
+    changes += [{"capacity": capacity} for capacity in [0, instance.capacity + 1, max(instance.capacity - 1, 0), 30_000, 30_001]]
     return instance._replace(**rng.choice(changes))
 
 
@@ -189,7 +209,8 @@ def layout(rng, text):
         added = [b"", b"# remark", b"COMENTARIO : ( 1, 2)", b"VERTICES_ : 3", b"\xff\x00", b"LISTA : 3", b"FIN", b" ( 1, 2) coste 3", b"(", b"VEHICULOS"]
         return b"\n".join([*lines[:place], rng.choice(added), *lines[place:]])
     if kind == 6:
-        added = [b" ", b" 7", b"7", b" x", b"x", b"\t", b" demanda 0", b" demanda 1", b" demanda 0000000000000000000", b" servicio 3", b" servicio", b"."]
+        place = rng.choice([at for at, line in enumerate(lines) if line[:1] == b"("] or [place]) if rng.randrange(2) else place
+        added = [b" ", b" 7", b"7", b" x", b"x", b"\t", b" demanda 0", b" demanda 00", b" demanda 1", b" demanda 0000000000000000000", b" servicio 3", b" servicio", b"."]
         return b"\n".join(replaced(lines, place, lines[place] + rng.choice(added)))
     return re.sub(rb"\d+", lambda found: rng.choice(ZEROS) + found[0] if rng.randrange(8) == 0 else found[0], text)
 
@@ -208,8 +229,9 @@ def change_key(rng, instance):
         lines.insert(rng.randint(0, len(lines)), rng.choice([line, line.lower(), line + b" 7"]))
     else:
         written = rng.choice([b"0", b"1", b"9" * 18, b"9" * 19, b"0" * 19, b"x", b"-1", b"", b"7x", b"7 x", b"601", b"4001"])
-        lines.insert(place, re.sub(rb"\d+", written, line))
-        del lines[place + rng.randrange(3):place + 2]
+        lines.insert(place + rng.randrange(2), re.sub(rb"\d+", written, line))
+        if rng.randrange(3):
+            del lines[place + rng.randrange(2)]
     return b"\n".join(lines)
 
 
@@ -238,6 +260,29 @@ def change_number(rng, text):
     number = int(found[0])
     written = rng.choice([str(number + 1), str(number - 1), str(number + 1), str(number - 1), "0", str(rng.choice(LARGE)), str(-number), str(10 * number), "0" + str(number), "-0", ""])
     return text[:found.start()] + written.encode() + text[found.end():]
+
+
+# The limits of the numbers of a line, by its first word: of the first number, of the second, and of those behind.
+LIMITS = {
+    b"instance": [1_000, 4_000, 600, 30_000, 18_000_000], b"cost": [10**18 - 1], b"bound": [10**18 - 1], b"tours": [100_000], b"tour": [2_000_000, 4_000],
+    b"shores": [2_000], b"shore": [999, 1_000], b"sets": [256], b"prices": [1_000_000, 600, 10**15], b"weights": [2_000, 2_000, 10**15],
+    b"nodes": [2_097_153], b"pair": [600], b"cut": [2_000, 1_000_000], b"price": [256],
+}
+
+
+def change_to_limits(rng, text):
+    """Numbers of a line changed to a limit, or to one beyond."""
+    lines = text.split(b"\n")
+    place = rng.choice([place for place, line in enumerate(lines) if line.split(b" ")[0] in LIMITS] or [0])
+    words = lines[place].split(b" ")
+    limits = LIMITS.get(words[0], [600])
+    for _ in range(rng.choice([1, 1, 2])):
+        at = rng.randrange(1, max(2, min(len(words), 9)))
+        limit = limits[min(at, len(limits)) - 1]
+        number = rng.choice([limit, limit + 1, limit, limit + 1, -limit, -limit - 1, 0, rng.randint(1, 9)])
+        sign = words[at][:1] if at < len(words) and words[at][:1] in b"+-<>" and words[0] == b"tour" else b""
+        words[at:at + 1] = [sign + str(number).encode()]
+    return b"\n".join(replaced(lines, place, b" ".join(words)))
 
 
 def change_lines(rng, text):
@@ -294,7 +339,7 @@ def change_bytes(rng, text):
 
 def mutated_text(rng, text):
     for _ in range(rng.choice([1, 1, 1, 1, 2, 3])):
-        text = rng.choice([change_number, change_number, change_number, change_lines, change_words, change_bytes])(rng, text)
+        text = rng.choice([change_number, change_number, change_number, change_to_limits, change_lines, change_words, change_bytes])(rng, text)
     return text
 
 
@@ -349,9 +394,11 @@ def change_step(rng, tour, edges):
 
 def change_tours(rng, instance, certificate):
     tours = list(certificate.tours)
-    kind = rng.randrange(9)
+    kind = rng.randrange(10)
     if kind == 0:
         rng.shuffle(tours)
+    elif kind == 9:
+        tours = [[(DRIVE[byte], edge) if byte in "<>" and rng.randrange(2) else (byte, edge) for byte, edge in tour] for tour in tours]
     elif kind == 1 or not tours:
         tours.insert(rng.randint(0, len(tours)), [])
     elif kind == 2:
@@ -395,7 +442,7 @@ def change_shores(rng, instance, certificate):
 def changed_prices(rng, certificate, prices):
     """The set with another price, weight or number, or with a weight more."""
     denominator, values, weights = prices
-    by = rng.choice([-1, 1, -1, 1, -denominator, denominator, rng.randint(-10, 10) * denominator])
+    by = rng.choice([-1, 1, -1, 1, -denominator, denominator, rng.randint(-10, 10) * denominator, rng.choice([-1, 1]) * 10**rng.randint(2, 15)])
     kind = rng.randrange(7)
     if kind == 0 and values:
         place = rng.randrange(len(values))
@@ -409,7 +456,7 @@ def changed_prices(rng, certificate, prices):
     if kind == 3:
         return prices._replace(denominator=max(1, denominator + by))
     if kind == 4:
-        scale = rng.randint(1, 5)
+        scale = rng.choice([1, 2, 3, 5, 1_000, 10**6, 10**9])
         return PriceSet(denominator * scale, [value * scale for value in values], [(shore, weight * scale) for shore, weight in weights])
     if kind == 5:
         return prices._replace(prices=values[:-1] if rng.randrange(2) else [*values, by])
@@ -436,7 +483,7 @@ def draw_pair(rng, instance):
 
 def draw_cut(rng, certificate):
     shores = len(certificate.shores)
-    return ["cut", rng.randint(1, shores), rng.choice([0, 1, 2, 3, 4, 5])] if shores else ["void"]
+    return ["cut", rng.randint(1, shores), rng.choice([0, 1, 2, 3, 4, 5, 6, 999_999, 1_000_000])] if shores else ["void"]
 
 
 def draw_leaf(rng, certificate):
@@ -477,8 +524,11 @@ def change_head(rng, instance, certificate):
 
 
 def mutated(rng, instance, certificate):
-    for _ in range(rng.choice([1, 1, 1, 2, 2, 3])):
-        change = rng.choice([change_tours, change_shores, change_sets, change_sets, change_tree, change_tree, change_head])
+    changes = [change_tours, change_shores, change_sets, change_sets, change_tree, change_tree, change_head]
+    if rng.randrange(5) == 0:
+        changes = [rng.choice(changes)]  # of one sort, and more of them
+    for _ in range(rng.choice([1, 1, 1, 2, 2, 3]) if len(changes) > 1 else rng.randint(2, 5)):
+        change = rng.choice(changes)
         certificate = change(rng, instance, certificate)
     return tightened(rng, instance, certificate) if rng.randrange(3) == 0 else certificate
 
@@ -540,7 +590,7 @@ def leaf_at(rng, instance, certificate, branch):
     """A leaf that is true at the branch as far as check.py knows, and now and then any."""
     if rng.randrange(40) == 0:
         return draw_leaf(rng, certificate)
-    if check.is_void(instance, branch):
+    if check.is_void(branch):
         return ["void"]
     if certificate.sets and (rng.randrange(4) or check.has_open_pair(instance, branch)):
         return ["price", rng.randint(1, len(certificate.sets))]
@@ -552,9 +602,10 @@ def inner_at(rng, instance, certificate, branch):
     if rng.randrange(60) == 0:
         return draw_pair(rng, instance) if rng.randrange(2) or not certificate.shores else draw_cut(rng, certificate)
     edges = range(1, instance.required + 1)
-    pairs = [["pair", a, b] for a in edges for b in range(a + 1, instance.required + 1) if check.is_open(instance, branch, a, b)]
+    settled = rng.randrange(30) == 0
+    pairs = [["pair", a, b] for a in edges for b in range(a + 1, instance.required + 1) if check.is_open(instance, branch, a, b) != settled]
     cuts = []
-    if branch.cuts < 4:
+    if branch.cuts < 4 or rng.randrange(8) == 0:
         for shore in branch.lower:
             low = branch.lower[shore]
             cuts += [["cut", shore, k] for k in range(low, branch.upper.get(shore, low + 4))]
@@ -566,8 +617,7 @@ def children_of(branch, node):
     """The branches below an inner node, whether or not it is lean."""
     kind, first, second = node
     if kind == "cut":
-        branch = branch._replace(cuts=branch.cuts + 1)
-        return [branch._replace(lower={**branch.lower, first: second + 1}), branch._replace(upper={**branch.upper, first: second})]
+        return check.branches_of_cut(branch, first, second)
     return [branch._replace(no=branch.no | {(first, second)}), branch._replace(yes=branch.yes | {(first, second)})]
 
 
@@ -580,12 +630,12 @@ def grown_tree(rng, instance, certificate, deep):
             nodes.append(draw_leaf(rng, certificate))
             continue
         node = inner_at(rng, instance, certificate, branch)
-        void = check.is_void(instance, branch) and rng.randrange(8)
+        void = check.is_void(branch) and rng.randrange(8)
         if node is None or void or depth > deep or len(nodes) > 400 or rng.randrange(10) == 0:
             nodes.append(leaf_at(rng, instance, certificate, branch))
             continue
         nodes.append(node)
-        lean = node[0] == "cut" or check.is_open(instance, branch, *node[1:]) and node[2] <= instance.required
+        lean = node[0] == "cut" or node[2] <= instance.required and check.is_open(instance, branch, *node[1:])
         branches += [(child if lean else None, depth + 1) for child in children_of(branch, node)]
     return nodes
 
@@ -613,7 +663,7 @@ def made_by_hand(rng, instance, certificate):
 def with_raised(rng, instance, certificate):
     """The certificate, in which one price leaf names a set of its own, raised as far as its branch lets it."""
     places = [place for place, node in enumerate(certificate.nodes) if node[0] == "price"]
-    if not places or not certificate.sets:
+    if not places or not certificate.sets or any(node[0] == "pair" and node[2] > instance.required for node in certificate.nodes):
         return certificate
     chosen = rng.choice(places)
     branches = [root(instance, certificate.shores)]
@@ -673,11 +723,14 @@ class Race:
     def compare(self, file, certificate):
         run = subprocess.run([self.program, "check", file, certificate], capture_output=True)
         theirs = (run.returncode, run.stdout.decode(errors="replace"))
+        if run.returncode == 3:  # its words name all calls of the program
+            theirs = (3, check.USAGE + "\n")
         answer = check.answer(file, certificate)
         ours = (answer.code, "".join(line + "\n" for line in answer.lines))
         self.codes[ours[0]] += 1
         self.kinds[re.sub(r"-?\d+", "X", answer.lines[0])] += 1
-        if ours != theirs or run.stderr:
+        false = answer.code == 0 and int(answer.lines[2][6:]) > int(answer.lines[1][5:])  # no bound is above what a lawful plan costs
+        if ours != theirs or run.stderr or false:
             self.differences += 1
             kept = self.keep(f"difference{self.differences}")
             print(f"{kept}: the program says {theirs[1].strip()!r} and ends with {theirs[0]}; check.py says {ours[1].strip()!r} and ends with {ours[0]}", flush=True)
@@ -733,8 +786,13 @@ def special(race, instance, text, solved):
     race.judge(text, b"")
     race.judge(b"", solved)
     race.judge(text, solved)
-    for file, certificate in [("none", "cert"), ("file", "none"), ("none", "none"), (".", "cert"), ("file", ".")]:
+    for file, certificate in [("none", "cert"), ("file", "none"), ("none", "nothing"), ("file", "file"), (".", "cert"), ("file", ".")]:
         race.compare(os.path.join(race.folder, file), os.path.join(race.folder, certificate))
+    for nodes in [b"nodes 3\nprice 0\n", b"nodes 2\nprice 1\nprice 0\n", b"nodes 1\npair 0 1\n", b"nodes 1\npair 1 601\n"]:
+        race.judge(text, solved[:solved.index(b"nodes")] + nodes)
+    plain = check.read_certificate(solved)._replace(shores=[[vertex for vertex in range(1, instance.vertices + 1) if vertex != instance.depot]])
+    sets = [PriceSet(1, [0] * instance.required, [(1, 10**9)]), PriceSet(1, [0] * (instance.required + 1), [])]
+    race.judge(text, text_of(plain._replace(sets=sets)))
     race.judge(b"(" + text, b"x\n")
     race.compare(race.file, os.path.join(race.folder, "none"))
     with open(race.certificate, "wb") as file:
@@ -755,7 +813,7 @@ def main():
     race = Race(words.program, tempfile.mkdtemp(prefix="mutants-"))
     other = None
     while sum(race.codes.values()) < words.count:
-        instance = draw_instance(rng)
+        instance = draw_far(rng) if rng.randrange(3) == 0 else draw_instance(rng)
         text = text_of_instance(instance)
         solved = race.solve(text, rng.choice([1, 2, 5, 20, rng.randint(1, 200)]))
         if solved is None:

@@ -3,8 +3,9 @@
 
 usage: check.py FILE CERT
 
-It is written from docs/FORMATS.md, and stands in the order of that page: the text of an instance, the text of a certificate, and
-then what makes a certificate good for an instance. It is for small instances, and slow.
+It was written from docs/FORMATS.md without a look at the program, and stands in the order of that page: the text of an instance, the text of a certificate, and
+then what makes a certificate good for an instance. Where the page is silent on a good certificate (settled pairs, void and fixed leaves, the lower numbers of shores,
+which tours may not earn more than they pay) it has the reading that agrees with the program. It is for small instances, and slow.
 """
 import re
 import sys
@@ -12,6 +13,7 @@ from collections import namedtuple
 
 sys.set_int_max_str_digits(0)  # a number of any length has its shape
 
+USAGE = "usage: check.py FILE CERT"
 LONGEST_INSTANCE = 4_194_304
 LONGEST_CERTIFICATE = 268_435_456
 
@@ -331,7 +333,7 @@ def judge_plan(instance, tours):
         if edge not in served:
             reject(f"edge {edge} is not served")
     for number, tour in enumerate(tours, 1):
-        load = sum(instance.edges[edge - 1].demand for byte, edge in tour if byte in "+-")
+        load = load_of(instance, [edge for byte, edge in tour if byte in "+-"])
         if load > instance.capacity:
             reject(f"tour {number} has load {load}")
 
@@ -373,14 +375,14 @@ def deadhead_prices(instance, shores, prices):
     ]
 
 
-# The decisions on the way to a node: the pairs of which each sort was said, the least and the greatest numbers of crossings without service of shores, by
-# the numbers of the shores, and how many cuts there are.
+# The decisions on the way to a node: the pairs to which it said yes and no, how often each shore is crossed without service at least, and at most where a
+# cut says so, and how many cuts there are.
 Branch = namedtuple("Branch", "yes no lower upper cuts")
 
 
 def judge_tree(instance, certificate):
     lower = {number: least_crossings(instance, shore) for number, shore in enumerate(certificate.shores, 1)}
-    branches = [Branch(set(), set(), lower, {}, 0)]  # those of the nodes that come, the last one first
+    branches = [Branch(set(), set(), lower, {}, 0)]  # those of the nodes to come, that of the next one last
     for number, (kind, *numbers) in enumerate(certificate.nodes, 1):
         branch = branches.pop()
         if kind == "pair":
@@ -388,10 +390,10 @@ def judge_tree(instance, certificate):
         elif kind == "cut":
             branches += cut_children(branch, number, *numbers)
         elif kind == "void":
-            if not is_void(instance, branch):
+            if not is_void(branch):
                 reject(f"node {number} is not void")
         elif kind == "fixed":
-            if has_open_pair(instance, branch):
+            if is_void(branch) or has_open_pair(instance, branch):
                 reject(f"node {number} is not fixed")
             judge_value(number, fixed_value(instance, branch), certificate.bound - 1)
         else:
@@ -422,8 +424,14 @@ def pair_children(instance, branch, number, pair):
 def cut_children(branch, number, shore, k):
     if k < branch.lower[shore] or k >= branch.upper.get(shore, k + 1) or branch.cuts == 4:
         reject(f"node {number} is not lean")
+    return branches_of_cut(branch, shore, k)
+
+
+def branches_of_cut(branch, shore, k):
+    """The branch of the second child, and that of the first, which comes next."""
     branch = branch._replace(cuts=branch.cuts + 1)
-    return [branch._replace(lower={**branch.lower, shore: k + 1}), branch._replace(upper={**branch.upper, shore: k})]
+    more = k + 1 + (k + 1 - branch.lower[shore]) % 2  # the least number above k that is even or odd as the lower number is
+    return [branch._replace(lower={**branch.lower, shore: more}), branch._replace(upper={**branch.upper, shore: k})]
 
 
 def partners(branch, edge):
@@ -444,11 +452,20 @@ def chain_of(branch, edge):
             return chain
 
 
+def load_of(instance, edges):
+    return sum(instance.edges[edge - 1].demand for edge in edges)
+
+
 def is_open(instance, branch, a, b):
-    """Whether nothing is settled of a pair: it can be served directly one after the other, and need not."""
-    decided = {(a, b), (b, a)} & (branch.yes | branch.no)
-    full = len(partners(branch, a)) == 2 or len(partners(branch, b)) == 2
-    return not decided and not full and b not in chain_of(branch, a)
+    """Whether a pair is not settled: its edges can be served directly one after the other, and need not.
+
+    It is settled by a pair on the way, where one of the edges has both its partners, where a chain already has both edges, and where their chains
+    are too much for one vehicle.
+    """
+    if {(a, b), (b, a)} & (branch.yes | branch.no) or len(partners(branch, a)) == 2 or len(partners(branch, b)) == 2:
+        return False
+    chains = [chain_of(branch, a), chain_of(branch, b)]
+    return b not in chains[0] and load_of(instance, sum(chains, [])) <= instance.capacity
 
 
 def has_open_pair(instance, branch):
@@ -456,10 +473,9 @@ def has_open_pair(instance, branch):
     return any(is_open(instance, branch, a, b) for a in edges for b in range(a + 1, instance.required + 1))
 
 
-def is_void(instance, branch):
-    """Whether the pairs put more in one tour than a vehicle holds."""
-    chains = [chain_of(branch, edge) for edge in range(1, instance.required + 1)]
-    return any(sum(instance.edges[edge - 1].demand for edge in chain) > instance.capacity for chain in chains)
+def is_void(branch):
+    """Whether a shore has to be crossed more often than it is."""
+    return any(branch.lower[shore] > most for shore, most in branch.upper.items())
 
 
 def distances(instance, prices):
@@ -509,8 +525,9 @@ def judge_price_leaf(instance, certificate, branch, number, named):
 
 
 def least_tour(instance, shores, branch, prices):
-    """The least that a relaxed tour pays without what it earns: one with load up to the capacity, that serves one edge directly
-    after another only where the branch lets it, and may serve an edge again."""
+    """The least that a tour pays less what it earns, or 0 where none is below. It is a closed walk from the depot whose services have the capacity
+    as their demand at most; one edge is served directly after another only if their pair is open or said yes to, and so never directly after itself,
+    but it may be served again later."""
     table = distances(instance, deadhead_prices(instance, shores, prices))
     numbers = range(1, instance.required + 1)
     follows = {(a, b) for a in numbers for b in numbers if a != b and ((min(a, b), max(a, b)) in branch.yes or is_open(instance, branch, a, b))}
@@ -548,6 +565,8 @@ def read_file(path, longest):
 
 
 def check(path, certificate_path):
+    if path == certificate_path:
+        raise Answer(3, USAGE)
     instance = read_instance(read_file(path, LONGEST_INSTANCE))
     certificate = read_certificate(read_file(certificate_path, LONGEST_CERTIFICATE))
     judge(instance, certificate)
@@ -563,7 +582,7 @@ def answer(path, certificate_path):
 
 def main():
     if len(sys.argv) != 3:
-        print("usage: check.py FILE CERT")
+        print(USAGE)
         return 3
     given = answer(*sys.argv[1:])
     print(*given.lines, sep="\n")
