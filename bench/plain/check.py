@@ -1,0 +1,593 @@
+#!/usr/bin/env python3
+"""Checks a certificate as `carp check FILE CERT` does: it prints the same lines, and ends with the same code.
+
+usage: check.py FILE CERT
+
+It was written from docs/FORMATS.md without a look at the program, and stands in the order of that page: the text of an instance, the text of a certificate, and
+then what makes a certificate good for an instance. Where the page is silent on a good certificate (settled pairs, void and fixed leaves, the lower numbers of shores,
+which tours may not earn more than they pay) it has the reading that agrees with the program. It is for small instances, and slow.
+"""
+import re
+import sys
+from collections import namedtuple
+
+sys.set_int_max_str_digits(0)  # a number of any length has its shape
+
+USAGE = "usage: check.py FILE CERT"
+LONGEST_INSTANCE = 4_194_304
+LONGEST_CERTIFICATE = 268_435_456
+
+
+class Answer(Exception):
+    """What is printed, and the code."""
+
+    def __init__(self, code, *lines):
+        self.code, self.lines = code, lines
+
+
+# ---- The text of an instance ----
+
+Edge = namedtuple("Edge", "u v cost demand service")
+Instance = namedtuple("Instance", "vertices edges required capacity depot")  # edge e is edges[e - 1]; so many of them are required
+
+REQUIRED, OTHERS = "LISTA_ARISTAS_REQ", "LISTA_ARISTAS_NOREQ"
+NUMBERS = ["VERTICES", "ARISTAS_REQ", "ARISTAS_NOREQ", "CAPACIDAD", "DEPOSITO"]
+
+
+def spaced(pattern):
+    """The pattern, in which each blank stands for any number of blanks, and N for a number."""
+    blanks = rb"[\t\r\x1a ]*"
+    return re.compile(pattern.encode().replace(b" ", blanks).replace(b"N", b"([0-9]+)"), re.IGNORECASE | re.DOTALL)
+
+
+KEY = spaced(r" ([a-z0-9_]*)")
+AFTER_KEY = spaced(r" :? N(?:[\t\r\x1a\x20].*)?")
+EDGE_BEGIN = spaced(r" \(")
+EDGE_SHAPE = {
+    REQUIRED: spaced(r" \( N , N \) coste N demanda N (?:servicio N )?"),
+    OTHERS: spaced(r" \( N , N \) coste N (?:demanda (0+) )?"),
+}
+
+
+def bad_instance(words):
+    raise Answer(4, f"bad instance: {words}")
+
+
+def numbers_of(found, line):
+    """The numbers of a line that has its shape."""
+    if not found:
+        bad_instance(f"line {line} cannot be read")
+    digits = [group for group in found.groups() if group is not None]
+    if any(len(group) > 18 for group in digits):
+        bad_instance(f"line {line} has a number of more than 18 digits")
+    return [int(group) for group in digits]
+
+
+def edge_of(numbers, kind):
+    u, v, cost = numbers[:3]
+    if kind == OTHERS:
+        return Edge(u, v, cost, 0, cost)
+    demand, service = (numbers[3:] + [cost])[:2]
+    return Edge(u, v, cost, demand, service)
+
+
+def read_lines(data):
+    """The number after each key that stands, and the edges of both lists."""
+    values, lists, kind = {}, {REQUIRED: [], OTHERS: []}, None
+    for number, line in enumerate(data.split(b"\n"), 1):
+        found = KEY.match(line)
+        key = found[1].decode().upper()
+        if key in NUMBERS or key in lists:
+            value = None
+            if key in NUMBERS:
+                [value] = numbers_of(AFTER_KEY.fullmatch(line[found.end():]), number)
+            else:
+                kind = key
+            if key in values:
+                bad_instance(f"key {key} stands twice")
+            values[key] = value
+        elif EDGE_BEGIN.match(line):
+            shaped = kind and EDGE_SHAPE[kind].fullmatch(line)
+            lists[kind].append(edge_of(numbers_of(shaped, number), kind)) if shaped else numbers_of(None, number)
+    return values, lists
+
+
+def read_instance(data):
+    values, lists = read_lines(data)
+    for key in ["VERTICES", "ARISTAS_REQ", "CAPACIDAD", "DEPOSITO"]:
+        if key not in values:
+            bad_instance(f"key {key} is missing")
+    for key, kind in [("ARISTAS_REQ", REQUIRED), ("ARISTAS_NOREQ", OTHERS)]:
+        if values.get(key, len(lists[kind])) != len(lists[kind]):
+            bad_instance(f"{key} states {values[key]} and the list has {len(lists[kind])}")
+    edges = lists[REQUIRED] + lists[OTHERS]
+    instance = Instance(values["VERTICES"], edges, len(lists[REQUIRED]), values["CAPACIDAD"], values["DEPOSITO"])
+    judge_sizes(instance)
+    judge_streets(instance)
+    return instance
+
+
+def judge_sizes(instance):
+    vertices, edges, required = instance.vertices, len(instance.edges), instance.required
+    if vertices > 1_000:
+        bad_instance(f"{vertices} vertices are too many")
+    if edges > 4_000:
+        bad_instance(f"{edges} edges are too many")
+    if required > 600:
+        bad_instance(f"{required} required edges are too many")
+
+
+def judge_edges(instance, is_bad, words):
+    for number, edge in enumerate(instance.edges, 1):
+        if is_bad(number, edge):
+            bad_instance(words.format(number))
+
+
+def judge_streets(instance):
+    vertices, required, capacity = instance.vertices, instance.required, instance.capacity
+    judge_edges(instance, lambda _, edge: not (1 <= edge.u <= vertices and 1 <= edge.v <= vertices), "edge {} has an end out of range")
+    judge_edges(instance, lambda _, edge: edge.u == edge.v, "edge {} is a loop")
+    judge_edges(instance, lambda _, edge: edge.cost > 1_000_000, "edge {} has too large a cost")
+    if not 1 <= capacity <= 30_000:
+        bad_instance(f"capacity {capacity} is out of range")
+    judge_edges(instance, lambda number, edge: number <= required and edge.demand == 0, "required edge {} has demand 0")
+    judge_edges(instance, lambda _, edge: edge.demand > capacity, "edge {} has a demand above the capacity")
+    if not 1 <= instance.depot <= vertices:
+        bad_instance(f"depot {instance.depot} is out of range")
+    states = 2 * required * (capacity + 1)
+    if states > 24_000_000:
+        bad_instance(f"{states} states are too many")
+    reached = reached_from(instance)
+    judge_edges(instance, lambda number, edge: number <= required and edge.u not in reached, "edge {} cannot be reached")
+    judge_edges(instance, lambda _, edge: edge.service > 1_000_000, "edge {} has too large a service cost")
+
+
+def reached_from(instance):
+    """The vertices to which streets lead from the depot."""
+    reached, grown = set(), {instance.depot}
+    while grown != reached:
+        reached = grown
+        grown = reached.union(*({edge.u, edge.v} for edge in instance.edges if edge.u in reached or edge.v in reached))
+    return reached
+
+
+# ---- The text of a certificate ----
+
+Certificate = namedtuple("Certificate", "counts cost bound tours shores sets nodes")
+PriceSet = namedtuple("PriceSet", "denominator prices weights")  # weights are pairs of a shore and a weight
+
+
+class Reader:
+    """The lines of a certificate, one after another."""
+
+    def __init__(self, data):
+        *self.lines, self.rest = data.split(b"\n")
+        self.number = 0
+
+    def take(self, shape):
+        """The words of the next line. The shape is a pattern in which NAT, INT and STEP stand for what they are."""
+        self.number += 1
+        if self.number > len(self.lines):
+            raise Answer(5, f"bad certificate: ends before line {self.number} is complete")
+        shape = shape.replace("STEP", "[-+<>]NAT").replace("INT", "(NAT|-[1-9][0-9]*)").replace("NAT", "(0|[1-9][0-9]*)")
+        line = self.lines[self.number - 1]
+        self.agree(re.fullmatch(shape.encode(), line))
+        return line.decode().split(" ")
+
+    def agree(self, holds):
+        if not holds:
+            raise Answer(5, f"bad certificate: line {self.number} cannot be read")
+
+    def within(self, number, low, high):
+        if not low <= number <= high:
+            raise Answer(5, f"bad certificate: line {self.number} passes a limit")
+
+    def number_of(self, name, low, high):
+        """The number of a line that has a name and a number."""
+        number = int(self.take(f"{name} NAT")[1])
+        self.within(number, low, high)
+        return number
+
+    def finish(self):
+        if self.number < len(self.lines) or self.rest:
+            self.number += 1
+            self.agree(False)
+
+
+def read_certificate(data):
+    reader = Reader(data)
+    version = reader.take("carp-certificate (1|2)")[1]
+    counts = read_counts(reader) if version == "2" else None
+    cost = reader.number_of("cost", 0, 10**18 - 1)
+    bound = reader.number_of("bound", 0, 10**18 - 1)
+    tours = read_tours(reader)
+    shores = read_shores(reader)
+    sets = [read_set(reader, len(shores)) for _ in range(reader.number_of("sets", 0, 256))]
+    nodes = read_nodes(reader, len(shores), len(sets))
+    reader.take("end")
+    reader.finish()
+    return Certificate(counts, cost, bound, tours, shores, sets, nodes)
+
+
+def read_counts(reader):
+    counts = [int(word) for word in reader.take("instance NAT NAT NAT NAT NAT")[1:]]
+    ranges = [(1, 1_000), (0, 4_000), (0, 600), (1, 30_000), (0, 18_000_000)]
+    for count, (low, high) in zip(counts, ranges):
+        reader.within(count, low, high)
+    return counts
+
+
+def read_tours(reader):
+    """For each tour its steps, which are pairs of a byte and an edge."""
+    tours, stated = [], 0
+    for _ in range(reader.number_of("tours", 0, 100_000)):
+        words = reader.take("tour NAT( STEP)*")
+        steps = [(word[0], int(word[1:])) for word in words[2:]]
+        stated += int(words[1])
+        reader.within(stated, 0, 2_000_000)
+        for _, edge in steps:
+            reader.within(edge, 1, 4_000)
+        reader.agree(len(steps) == int(words[1]))
+        tours.append(steps)
+    return tours
+
+
+def rising(numbers):
+    return all(a < b for a, b in zip(numbers, numbers[1:]))
+
+
+def read_shores(reader):
+    shores = []
+    for _ in range(reader.number_of("shores", 0, 2_000)):
+        count, *vertices = [int(word) for word in reader.take("shore NAT( NAT)*")[1:]]
+        reader.within(count, 1, 999)
+        for vertex in vertices:
+            reader.within(vertex, 1, 1_000)
+        reader.agree(len(vertices) == count and rising(vertices) and vertices not in shores)
+        shores.append(vertices)
+    return shores
+
+
+def read_set(reader, shores):
+    denominator, count, *prices = [int(word) for word in reader.take("prices NAT NAT( INT)*")[1:]]
+    reader.within(denominator, 1, 1_000_000)
+    reader.within(count, 0, 600)
+    for price in prices:
+        reader.within(price, -10**15, 10**15)
+    reader.agree(len(prices) == count)
+
+    count, *numbers = [int(word) for word in reader.take("weights NAT( NAT INT)*")[1:]]
+    weighted, weights = numbers[0::2], numbers[1::2]
+    reader.within(count, 0, shores)
+    for shore, weight in zip(weighted, weights):
+        reader.within(shore, 1, shores)
+        reader.within(weight, -10**15, 10**15)
+    reader.agree(len(weights) == count and rising(weighted) and 0 not in weights)
+    return PriceSet(denominator, prices, list(zip(weighted, weights)))
+
+
+def read_nodes(reader, shores, sets):
+    """The nodes, each a list of its kind and its numbers."""
+    count = reader.number_of("nodes", 1, 2_097_153)
+    nodes, missing = [], 1  # so many nodes are missing until the tree is whole
+    ranges = {"pair": [(1, 600), (1, 600)], "cut": [(1, shores), (0, 1_000_000)], "price": [(1, sets)]}
+    for place in range(1, count + 1):
+        kind, *numbers = reader.take("pair NAT NAT|cut NAT NAT|price NAT|void|fixed")
+        numbers = [int(word) for word in numbers]
+        for number, (low, high) in zip(numbers, ranges.get(kind, [])):
+            reader.within(number, low, high)
+        reader.agree(kind != "pair" or numbers[0] < numbers[1])
+        missing += 1 if kind in ("pair", "cut") else -1
+        reader.agree((missing == 0) == (place == count))
+        nodes.append([kind, *numbers])
+    return nodes
+
+
+# ---- A good certificate ----
+
+
+def reject(words):
+    raise Answer(2, f"rejected: {words}")
+
+
+def judge(instance, certificate):
+    judge_counts(instance, certificate.counts)
+    judge_plan(instance, certificate.tours)
+    judge_cost(instance, certificate)
+    judge_shores(instance, certificate.shores)
+    judge_sets(instance, certificate)
+    judge_tree(instance, certificate)
+
+
+def judge_counts(instance, counts):
+    demand = sum(edge.demand for edge in instance.edges)
+    true = [instance.vertices, len(instance.edges), instance.required, instance.capacity, demand]
+    for place, (count, number) in enumerate(zip(counts or true, true), 1):
+        if count != number:
+            reject(f"count {place} is {count} and the instance has {number}")
+
+
+def ends_of(instance, step):
+    """Where a step begins and where it ends."""
+    edge = instance.edges[step[1] - 1]
+    return (edge.u, edge.v) if step[0] in "+>" else (edge.v, edge.u)
+
+
+def judge_plan(instance, tours):
+    for number, tour in enumerate(tours, 1):
+        for place, step in enumerate(tour, 1):
+            there = step[1] <= len(instance.edges)
+            if not there or (place > 1 and ends_of(instance, tour[place - 2])[1] != ends_of(instance, step)[0]):
+                reject(f"tour {number} step {place} is broken")
+    for number, tour in enumerate(tours, 1):
+        if tour and {ends_of(instance, tour[0])[0], ends_of(instance, tour[-1])[1]} != {instance.depot}:
+            reject(f"tour {number} does not start and end at the depot")
+    served = [edge for tour in tours for byte, edge in tour if byte in "+-"]
+    for edge in sorted(served):
+        if edge > instance.required:
+            reject(f"edge {edge} is served and not required")
+    for edge in sorted(served):
+        if served.count(edge) > 1:
+            reject(f"edge {edge} is served twice")
+    for edge in range(1, instance.required + 1):
+        if edge not in served:
+            reject(f"edge {edge} is not served")
+    for number, tour in enumerate(tours, 1):
+        load = load_of(instance, [edge for byte, edge in tour if byte in "+-"])
+        if load > instance.capacity:
+            reject(f"tour {number} has load {load}")
+
+
+def judge_cost(instance, certificate):
+    cost = 0
+    for tour in certificate.tours:
+        for byte, edge in tour:
+            cost += instance.edges[edge - 1].service if byte in "+-" else instance.edges[edge - 1].cost
+    if certificate.cost != cost:
+        reject(f"cost {certificate.cost} is stated and {cost} is true")
+
+
+def judge_shores(instance, shores):
+    for number, shore in enumerate(shores, 1):
+        if instance.depot in shore or shore[-1] > instance.vertices:
+            reject(f"shore {number} does not fit the instance")
+
+
+def judge_sets(instance, certificate):
+    for number, prices in enumerate(certificate.sets, 1):
+        if len(prices.prices) != instance.required:
+            reject(f"prices {number} do not fit the instance")
+    for number, prices in enumerate(certificate.sets, 1):
+        for edge, price in enumerate(deadhead_prices(instance, certificate.shores, prices), 1):
+            if price < 0:
+                reject(f"set {number} prices edge {edge} at {price}")
+
+
+def crosses(edge, shore):
+    return (edge.u in shore) != (edge.v in shore)
+
+
+def deadhead_prices(instance, shores, prices):
+    """What a crossing without service costs, for each edge: its cost without the weights of the shores that it crosses."""
+    return [
+        prices.denominator * edge.cost - sum(weight for shore, weight in prices.weights if crosses(edge, shores[shore - 1]))
+        for edge in instance.edges
+    ]
+
+
+# The decisions on the way to a node: the pairs to which it said yes and no, how often each shore is crossed without service at least, and at most where a
+# cut says so, and how many cuts there are.
+Branch = namedtuple("Branch", "yes no lower upper cuts")
+
+
+def judge_tree(instance, certificate):
+    lower = {number: least_crossings(instance, shore) for number, shore in enumerate(certificate.shores, 1)}
+    branches = [Branch(set(), set(), lower, {}, 0)]  # those of the nodes to come, that of the next one last
+    for number, (kind, *numbers) in enumerate(certificate.nodes, 1):
+        branch = branches.pop()
+        if kind == "pair":
+            branches += pair_children(instance, branch, number, tuple(numbers))
+        elif kind == "cut":
+            branches += cut_children(branch, number, *numbers)
+        elif kind == "void":
+            if not is_void(branch):
+                reject(f"node {number} is not void")
+        elif kind == "fixed":
+            if is_void(branch) or has_open_pair(instance, branch):
+                reject(f"node {number} is not fixed")
+            judge_value(number, fixed_value(instance, branch), certificate.bound - 1)
+        else:
+            judge_price_leaf(instance, certificate, branch, number, numbers[0])
+
+
+def judge_value(number, value, low):
+    if value <= low:
+        reject(f"node {number} has value {value}, not above {low}")
+
+
+def least_crossings(instance, shore):
+    """How often a shore is crossed without service at least: its vehicles cross it twice each, and an even number of times in all."""
+    demand = sum(edge.demand for edge in instance.edges if edge.u in shore or edge.v in shore)
+    vehicles = -(-demand // instance.capacity)
+    services = sum(crosses(edge, shore) for edge in instance.edges[: instance.required])
+    return max(2 * vehicles - services, services % 2)
+
+
+def pair_children(instance, branch, number, pair):
+    if pair[1] > instance.required:
+        reject(f"node {number} does not fit the instance")
+    if not is_open(instance, branch, *pair):
+        reject(f"node {number} is not lean")
+    return [branch._replace(no=branch.no | {pair}), branch._replace(yes=branch.yes | {pair})]
+
+
+def cut_children(branch, number, shore, k):
+    if k < branch.lower[shore] or k >= branch.upper.get(shore, k + 1) or branch.cuts == 4:
+        reject(f"node {number} is not lean")
+    return branches_of_cut(branch, shore, k)
+
+
+def branches_of_cut(branch, shore, k):
+    """The branch of the second child, and that of the first, which comes next."""
+    branch = branch._replace(cuts=branch.cuts + 1)
+    more = k + 1 + (k + 1 - branch.lower[shore]) % 2  # the least number above k that is even or odd as the lower number is
+    return [branch._replace(lower={**branch.lower, shore: more}), branch._replace(upper={**branch.upper, shore: k})]
+
+
+def partners(branch, edge):
+    """The edges that are served directly before or after an edge, as far as the pairs say."""
+    return {a + b - edge for a, b in branch.yes if edge in (a, b)}
+
+
+def chain_of(branch, edge):
+    """The edges of one tour with an edge, as far as the pairs say, in their order from one end of the chain."""
+    chain = [edge]
+    while True:
+        more = partners(branch, chain[-1]) - set(chain)
+        if more:
+            chain.append(min(more))
+        elif partners(branch, chain[0]) - set(chain):
+            chain.reverse()
+        else:
+            return chain
+
+
+def load_of(instance, edges):
+    return sum(instance.edges[edge - 1].demand for edge in edges)
+
+
+def is_open(instance, branch, a, b):
+    """Whether a pair is not settled: its edges can be served directly one after the other, and need not.
+
+    It is settled by a pair on the way, where one of the edges has both its partners, where a chain already has both edges, and where their chains
+    are too much for one vehicle.
+    """
+    if {(a, b), (b, a)} & (branch.yes | branch.no) or len(partners(branch, a)) == 2 or len(partners(branch, b)) == 2:
+        return False
+    chains = [chain_of(branch, a), chain_of(branch, b)]
+    return b not in chains[0] and load_of(instance, sum(chains, [])) <= instance.capacity
+
+
+def has_open_pair(instance, branch):
+    edges = range(1, instance.required + 1)
+    return any(is_open(instance, branch, a, b) for a in edges for b in range(a + 1, instance.required + 1))
+
+
+def is_void(branch):
+    """Whether a shore has to be crossed more often than it is."""
+    return any(branch.lower[shore] > most for shore, most in branch.upper.items())
+
+
+def distances(instance, prices):
+    """The least price of deadheads from each vertex to each, and a huge one where no streets lead. Vertices without streets are left out."""
+    everywhere = {instance.depot}.union(*({edge.u, edge.v} for edge in instance.edges))
+    table = {(u, v): 0 if u == v else 10**30 for u in everywhere for v in everywhere}
+    for edge, price in zip(instance.edges, prices):
+        table[edge.u, edge.v] = table[edge.v, edge.u] = min(price, table[edge.u, edge.v])
+    for by in everywhere:
+        for u in everywhere:
+            for v in everywhere:
+                table[u, v] = min(table[u, v], table[u, by] + table[by, v])
+    return table
+
+
+def ways(edge):
+    return [(edge.u, edge.v), (edge.v, edge.u)]
+
+
+def fixed_value(instance, branch):
+    """What the chains cost at least, each as a tour of its own."""
+    table = distances(instance, [edge.cost for edge in instance.edges])
+    value = 0
+    for first in range(1, instance.required + 1):
+        chain = chain_of(branch, first)
+        if first != min(chain):
+            continue
+        at = {instance.depot: 0}  # what it costs at least to be there with what is served
+        for number in chain:
+            edge = instance.edges[number - 1]
+            at = {end: min(cost + table[place, begin] for place, cost in at.items()) + edge.service for begin, end in ways(edge)}
+        value += min(cost + table[place, instance.depot] for place, cost in at.items())
+    return value
+
+
+def judge_price_leaf(instance, certificate, branch, number, named):
+    prices = certificate.sets[named - 1]
+    for shore, weight in prices.weights:
+        if weight < 0 and shore not in branch.upper:
+            reject(f"set {named} at node {number} has no upper number for shore {shore}")
+    least = least_tour(instance, certificate.shores, branch, prices)
+    if least < 0:
+        reject(f"set {named} at node {number} has a tour at {least}")
+    value = sum(prices.prices)
+    value += sum(weight * (branch.lower if weight > 0 else branch.upper)[shore] for shore, weight in prices.weights)
+    judge_value(number, value, prices.denominator * (certificate.bound - 1))
+
+
+def least_tour(instance, shores, branch, prices):
+    """The least that a tour pays less what it earns, or 0 where none is below. It is a closed walk from the depot whose services have the capacity
+    as their demand at most; one edge is served directly after another only if their pair is open or said yes to, and so never directly after itself,
+    but it may be served again later."""
+    table = distances(instance, deadhead_prices(instance, shores, prices))
+    numbers = range(1, instance.required + 1)
+    follows = {(a, b) for a in numbers for b in numbers if a != b and ((min(a, b), max(a, b)) in branch.yes or is_open(instance, branch, a, b))}
+    # For each load, the least price of a way from the depot that ends with the service of an edge at one of its ends.
+    at = [{} for _ in range(instance.capacity + 1)]
+    least = 0
+    for load in range(instance.capacity + 1):
+        for number in numbers:
+            edge = instance.edges[number - 1]
+            before = load - edge.demand
+            if before < 0:
+                continue
+            starts = {(None, instance.depot): 0} if before == 0 else at[before]
+            for begin, end in ways(edge):
+                reached = [price + table[place, begin] for (last, place), price in starts.items() if last is None or (last, number) in follows]
+                if reached:
+                    price = min(reached) + prices.denominator * edge.service - prices.prices[number - 1]
+                    at[load][number, end] = price
+                    least = min(least, price + table[end, instance.depot])
+    return least
+
+
+# ---- The program ----
+
+
+def read_file(path, longest):
+    try:
+        with open(path, "rb") as file:
+            data = file.read(longest + 1)
+    except OSError:
+        raise Answer(6, "read fault") from None
+    if len(data) > longest:
+        raise Answer(9, f"too long: more than {longest} bytes")
+    return data
+
+
+def check(path, certificate_path):
+    if path == certificate_path:
+        raise Answer(3, USAGE)
+    instance = read_instance(read_file(path, LONGEST_INSTANCE))
+    certificate = read_certificate(read_file(certificate_path, LONGEST_CERTIFICATE))
+    judge(instance, certificate)
+    return Answer(0, "accepted", f"cost {certificate.cost}", f"bound {certificate.bound}")
+
+
+def answer(path, certificate_path):
+    try:
+        return check(path, certificate_path)
+    except Answer as given:
+        return given
+
+
+def main():
+    if len(sys.argv) != 3:
+        print(USAGE)
+        return 3
+    given = answer(*sys.argv[1:])
+    print(*given.lines, sep="\n")
+    return given.code
+
+
+if __name__ == "__main__":
+    sys.exit(main())
