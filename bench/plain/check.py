@@ -3,7 +3,7 @@
 
 usage: check.py FILE CERT
 
-It was written from docs/FORMATS.md without a look at the program: reading.py reads the two texts, and here stands what makes a certificate good for an instance.
+It was written from docs/FORMATS.md without a look at the code: reading.py reads the two texts, and here stands what makes a certificate good for an instance.
 What that page left open then about the words on nodes was settled by what the program answers, and stands there now. It is for small instances, and slow.
 """
 import sys
