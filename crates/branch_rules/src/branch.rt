@@ -82,7 +82,8 @@ impl Branch {
     }
 
     /// The lower number of a shore: the least number of the parity of the required edges over the shore that is at least the
-    /// shore's need, and at least the `k + 1` of each of its `High` decisions.
+    /// shore's need, and at least the `k + 1` of each of its `High` decisions. Each lawful plan that meets the decisions keeps it
+    /// ([`numbers_are_kept`](crate::numbers_are_kept)).
     ///
     /// It takes no memory, and time in proportion to the numbers of required edges and of decisions.
     pub fn lower(&self, inst: &Instance, pool: &ShorePool, shore: u32) -> u64
@@ -95,7 +96,8 @@ impl Branch {
         least + (least % 2 + required_crossings(inst, set) % 2) % 2
     }
 
-    /// The upper number of a shore: the least `k` of its `Low` decisions, and `None` where there is none.
+    /// The upper number of a shore: the least `k` of its `Low` decisions, and `None` where there is none. Each lawful plan that meets the
+    /// decisions keeps it ([`numbers_are_kept`](crate::numbers_are_kept)).
     ///
     /// It takes no memory, and time in proportion to the number of decisions.
     pub fn upper(&self, shore: u32) -> Option<u64>

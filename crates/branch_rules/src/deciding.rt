@@ -33,7 +33,8 @@ impl Branch {
     /// above the capacity. Each such pair are no neighbours in any lawful plan that meets the branch
     /// ([`excluded_pairs_are_apart`](crate::excluded_pairs_are_apart)).
     ///
-    /// With m required edges and d decisions it takes time in proportion to m * m + d.
+    /// With m required edges and d decisions it takes time in proportion to m * m + d, or m * (m + d) where the branch is void, and
+    /// memory in proportion to m * m.
     pub fn allowed(&self, alloc: Global, inst: &Instance) -> Result<Allowed, Memory>
         requires { ArePairsIn inst.now self.now }
         ensures { IfOk result (PermitsUnexcluded inst.now self.now) }
@@ -44,7 +45,7 @@ impl Branch {
 
     /// Whether a pair of required edges is excluded: as [`allowed`](Branch::allowed) says of all pairs.
     ///
-    /// With m required edges and d decisions it takes time in proportion to m * m + d at most.
+    /// It takes time as `allowed` does, and memory in proportion to the required edges.
     pub fn excluded(&self, alloc: Global, inst: &Instance, a: u32, b: u32) -> Result<bool, Memory>
         requires pairs { ArePairsIn inst.now self.now }
         requires a { IsRequired inst.now a }
@@ -57,7 +58,7 @@ impl Branch {
 
     /// Whether a pair of required edges is yes or excluded.
     ///
-    /// With m required edges and d decisions it takes time in proportion to m * m + d at most.
+    /// It takes time as `allowed` does, and memory in proportion to the required edges.
     pub fn determined(&self, alloc: Global, inst: &Instance, a: u32, b: u32) -> Result<bool, Memory>
         requires pairs { ArePairsIn inst.now self.now }
         requires a { IsRequired inst.now a }
@@ -100,7 +101,7 @@ impl Branch {
     /// above the capacity, or the upper number of a shore is below its lower number. No lawful plan meets a void branch
     /// ([`void_is_met_by_none`](crate::void_is_met_by_none)).
     ///
-    /// With m required edges and d decisions, c of them on shores, it takes time in proportion to m * m + d + c * (m + d) at
+    /// It takes time as `allowed` does, and with m required edges and d decisions, c of them on shores, in proportion to c * (m + d) at
     /// most.
     pub fn void(&self, alloc: Global, inst: &Instance, pool: &ShorePool) -> Result<bool, Memory>
         requires pairs { ArePairsIn inst.now self.now }

@@ -7,7 +7,7 @@ use deadhead_paths::{least_prices_are_there, walks_are_task_tours};
 use decision_chains::{distinct_edges_sum_to_no_more, excluded_is_symmetric, yes_pairs_join};
 use plan_model::required_edges_are_served_once;
 
-/// No excluded pair are neighbours in a lawful plan that meets the branch. The order of an excluded pair is free.
+/// No excluded pair are neighbours in a lawful plan that meets the branch. An excluded pair is excluded in either order.
 pub fn excluded_pairs_are_apart()
     ensures apart { ExcludedAreApart }
     ensures symmetric { ExcludedIsSymmetric }
@@ -58,7 +58,8 @@ pub fn prices_bound()
     walks_are_task_tours();
 }
 
-/// A tree that shows a bound shows it for every lawful plan.
+/// A tree that shows a bound shows it for every lawful plan, where the instance is valid, no shore has the depot, and each price set has a
+/// price for each required edge.
 pub fn tree_bounds()
     ensures { TreeBounds }
 {
@@ -70,7 +71,8 @@ pub fn tree_bounds()
     walks_are_task_tours();
 }
 
-/// A lean tree has few turns.
+/// A lean tree of at most four cuts on a path, whose pairs are of required edges, has fewer than 2^(m (m - 1) / 2 + 5) turns with m
+/// required edges, whatever the cost.
 pub fn lean_trees_are_small()
     ensures { LeanIsSmall }
 {

@@ -14,12 +14,13 @@ use cut_pool::ShorePool;
 use std::alloc::Global;
 use std::marker::Model;
 
-/// The deadhead price of an edge is negative: the weights of the shores that the edge crosses are more than its cost.
+/// The deadhead price of an edge is negative: the weights of the shores that the edge crosses are more than the denominator times its
+/// cost.
 #[derive(Clone, Copy, Debug, PartialEq, Eq)]
 pub struct TooHeavy {
     /// The least such edge, from 1.
     pub edge: u32,
-    /// Its deadhead price.
+    /// Its deadhead price, below 0, in parts of the denominator.
     pub price: i128,
 }
 
@@ -48,7 +49,7 @@ impl Model for PriceSet {
 
 impl PriceSet {
     /// The set of these prices, by the numbers of the required edges, and of these weights, which are not 0 and on shores of
-    /// rising numbers.
+    /// rising numbers. The one error is want of memory.
     pub fn new(
         alloc: Global,
         unit: u64,

@@ -17,9 +17,9 @@ use Rattle.grown_trees.specs.Growth.{AreSound, Fraction, IsSpelledNode, turns_in
 use Rattle.grown_trees.specs.Laws.{IsSoundTree, SoundIsTree}
 use Rattle.grown_trees.specs.Stands.{Stand, stands}
 use Rattle.grown_trees.specs.declared.growing.GrowingNode.{GrowingNode}
+use Rattle.short_plans.specs.Laws.{ShortPlansCostLittle}
 use Rattle.branch_tree.specs.Founds.{IsFound}
 use Rattle.branch_tree.specs.Searches.{IsHeld, State, support_in}
-use Rattle.branch_tree.proofs.PlanCosts.{cost_is_small}
 
 -- The greatest bound that all nodes show is no less than the base.
 
@@ -60,11 +60,11 @@ node_count entries found are room turns few is within =
 
 -- What was found.
 
-module _ (law : SoundIsTree) (p : Problem) (s : State) (held : IsHeld p s) (found : List Node) (are : found ≡ map (λ (entry : GrowingNode). entry.node) s.nodes) (few : length found ≤ 2097153) (bound : ℕ)
+module _ (law : SoundIsTree) (costs : ShortPlansCostLittle) (p : Problem) (s : State) (held : IsHeld p s) (found : List Node) (are : found ≡ map (λ (entry : GrowingNode). entry.node) s.nodes) (few : length found ≤ 2097153) (bound : ℕ)
     (at_most : bound ≤ s.cost) (each : All (λ (entry : GrowingNode). bound ≤ entry.shows) s.nodes)
     (greatest : (other : ℕ) → other ≤ s.cost → All (λ (entry : GrowingNode). other ≤ entry.shows) s.nodes → other ≤ bound) where
   small : s.cost < 10 ^ 18
-  small = omega (arith, held.cost_is, cost_is_small p held.valid s.plan held.short)
+  small = omega (arith, held.cost_is, costs p s.plan held.valid held.short.lawful held.short.few_steps)
 
   is_tree : IsSoundTree (support_in p s) held.tree s.nodes
   is_tree = law (support_in p s) held.base held.tree s.nodes held.sound

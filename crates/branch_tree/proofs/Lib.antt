@@ -1,6 +1,5 @@
 mod Numbers
 mod Decisions
-mod PlanCosts
 mod Services
 mod Settling
 mod Counting

@@ -123,7 +123,7 @@ module _ (p : Problem) (pool more : List (List ℕ)) (branch : List Decision) (h
 
   names_more : (s : State) (place number : ℕ) → pool ≡ s.pool → NamesSet p s place branch number → NamesSet p (with_pool s (pool ++ more)) place branch number
   names_more s place number same names = record {
-    at = record { inside = names.at.inside; unclosed = names.at.unclosed; way = names.at.way };
+    at = record { least = names.at.least; way = names.at.way };
     not_void = λ void. names.not_void (subst (λ (xs : List (List ℕ)). IsVoid p xs branch) same (void_from void));
     not_fixed = λ fixed. names.not_fixed (record {
       open_yet = λ void. fixed.open_yet (void_to (subst (λ (xs : List (List ℕ)). IsVoid p xs branch) (sym same) void));

@@ -18,17 +18,18 @@ use Rattle.grown_trees.specs.Growth.{AreSound, Growth, turns_in}
 use Rattle.grown_trees.specs.Stands.{stands}
 use Rattle.grown_trees.specs.declared.growing.GrowingNode.{GrowingNode}
 use Rattle.branch_tree.specs.Beginnings.{IsFloor, IsRoot, fraction_of}
-use Rattle.branch_tree.specs.Searches.{IsHeld, IsHeldSet, IsShortPlan, State, support_in}
+use Rattle.short_plans.specs.Laws.{ShortPlansCostLittle}
+use Rattle.short_plans.specs.Shorts.{IsShortPlan}
+use Rattle.branch_tree.specs.Searches.{IsHeld, IsHeldSet, State, support_in}
 use Rattle.grown_trees.specs.Values.{IsMostShown}
 use Rattle.branch_tree.specs.declared.beginning.Floor.{Floor}
 use Rattle.branch_tree.proofs.Numbers.{at_most_more}
-use Rattle.branch_tree.proofs.PlanCosts.{cost_is_small}
 
 pub no_depot : (p : Problem) (pool : List (List ℕ)) → All (Belongs p) pool → NoDepot p pool
 no_depot p [] all = tt
 no_depot p (shore ∷ pool) all = ((all 0 shore (omega arith)).no_depot, no_depot p pool (λ k d less. all (suc k) d (omega (arith, less))))
 
-module _ (p : Problem) (floor : Floor) (is : IsFloor p floor) (plan : List (List Step)) (short : IsShortPlan p plan) (shows : ℕ)
+module _ (costs : ShortPlansCostLittle) (p : Problem) (floor : Floor) (is : IsFloor p floor) (plan : List (List Step)) (short : IsShortPlan p plan) (shows : ℕ)
     (shown : IsMostShown floor.set.unit (plain_value p floor.pool floor.set) shows) where
   abbrev leaf : GrowingNode
   leaf = record { node = Price 1; shows = shows }
@@ -40,7 +41,7 @@ module _ (p : Problem) (floor : Floor) (is : IsFloor p floor) (plan : List (List
   enough = elim shown.covers [
     | inl covered ↦ covered
     | inr above ↦
-        at_most_more floor.set.unit (plain_value p floor.pool floor.set) (plan_cost p plan) shows (omega (arith, above, cost_is_small p is.valid plan short))
+        at_most_more floor.set.unit (plain_value p floor.pool floor.set) (plan_cost p plan) shows (omega (arith, above, costs p plan is.valid short.lawful short.few_steps))
         (is.floors.below plan short.lawful)
   ]
 
@@ -83,12 +84,12 @@ module _ (p : Problem) (floor : Floor) (is : IsFloor p floor) (plan : List (List
   }
 
 -- the parts of a search that has just begun
-pub begun_held : (p : Problem) (floor : Floor) → IsFloor p floor → (plan : List (List Step)) → IsShortPlan p plan → (turns : ℕ) (tree : Growth) → IsRoot p turns floor tree →
+pub begun_held : ShortPlansCostLittle → (p : Problem) (floor : Floor) → IsFloor p floor → (plan : List (List Step)) → IsShortPlan p plan → (turns : ℕ) (tree : Growth) → IsRoot p turns floor tree →
     (sets : List Prices) → sets ≡ floor.set ∷ [] → (cost : ℕ) → cost ≡ plan_cost p plan → (done : ℕ) → done ≡ turns_in cost tree.nodes →
     IsHeld p (record { pool = floor.pool; sets = sets; nodes = tree.nodes; plan = plan; cost = cost; done = done })
-begun_held p floor is plan short turns tree root sets sets_are cost cost_is done done_is =
+begun_held costs p floor is plan short turns tree root sets sets_are cost cost_is done done_is =
     let nodes : tree.nodes ≡ record { node = Price 1; shows = root.shows } ∷ [] = ap (λ (t : Growth). t.nodes) root.leaf in
-    let s : State = at_root p floor is plan short root.shows root.shown in
+    let s : State = at_root costs p floor is plan short root.shows root.shown in
     let same : s ≡ record { pool = floor.pool; sets = sets; nodes = tree.nodes; plan = plan; cost = cost; done = done } =
     λ i. record { pool = floor.pool; sets = sym sets_are i; nodes = sym nodes i; plan = plan; cost = sym cost_is i; done = sym (done_is ∙ ap (λ (n : ℕ). turns_in n tree.nodes) cost_is ∙ ap (turns_in (plan_cost p plan)) nodes) i } in
-    subst (IsHeld p) same (root_held p floor is plan short root.shows root.shown)
+    subst (IsHeld p) same (root_held costs p floor is plan short root.shows root.shown)

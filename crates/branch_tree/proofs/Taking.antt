@@ -18,17 +18,17 @@ use Rattle.grown_trees.specs.Stands.{stands, with_sets}
 use Rattle.grown_trees.specs.declared.growing.GrowingNode.{GrowingNode}
 use Rattle.branch_tree.specs.Known.{Known}
 use Rattle.branch_tree.specs.Leaves.{IsAtLeaf}
-use Rattle.branch_tree.specs.Searches.{IsHeld, IsHeldSet, IsShortPlan, State, support_in}
+use Rattle.short_plans.specs.Shorts.{IsShortPlan}
+use Rattle.branch_tree.specs.Searches.{IsHeld, IsHeldSet, State, support_in}
 use Rattle.branch_tree.specs.Steps.{IsTaken}
 use Rattle.branch_tree.proofs.Counting.{nodes_then, turns_rise}
-use Rattle.branch_tree.proofs.PlanCosts.{cost_is_small}
 
 abbrev pub no_entry : GrowingNode
 no_entry = record { node = nodes.Void; shows = 0 }
 
 module _ (known : Known) (p : Problem) (s : State) (held : IsHeld p s) where
   pub small_cost : s.cost ≤ 2000000000000
-  small_cost = omega (arith, held.cost_is, cost_is_small p held.valid s.plan held.short)
+  small_cost = omega (arith, held.cost_is, known.costs p s.plan held.valid held.short.lawful held.short.few_steps)
 
   is_tree : IsSoundTree (support_in p s) held.tree s.nodes
   is_tree = known.tree (support_in p s) held.base held.tree s.nodes held.sound
@@ -38,7 +38,7 @@ module _ (known : Known) (p : Problem) (s : State) (held : IsHeld p s) where
     old = get_or s.nodes place no_entry
 
     pub old_is : (other : GrowingNode) → get_or s.nodes place other ≡ old
-    old_is other = get_or_default s.nodes place other no_entry at.inside
+    old_is other = get_or_default s.nodes place other no_entry at.least.inside
 
     way : branch ≡ branch_to [] held.tree place
     way = at.way held.tree is_tree.nodes
@@ -47,16 +47,16 @@ module _ (known : Known) (p : Problem) (s : State) (held : IsHeld p s) where
     pub sound : IsSoundNode (support_in p s) held.base (record { branch = branch; node = old.node }) old
     sound =
         subst (λ (b : List Decision). IsSoundNode (support_in p s) held.base (record { branch = b; node = (get_or s.nodes place no_entry).node }) (get_or s.nodes place no_entry)) (sym way)
-        (known.place (support_in p s) held.base held.tree s.nodes place no_entry held.sound at.inside)
+        (known.place (support_in p s) held.base held.tree s.nodes place no_entry held.sound at.least.inside)
 
     pub below : old.shows < s.cost
-    below = at.unclosed no_entry
+    below = at.least.not_shown no_entry
 
     leaf_at : IsLeafAt held.tree place
-    leaf_at = known.leaf (support_in p s) held.base held.tree s.nodes place no_entry held.sound at.inside (omega (arith, at.unclosed no_entry, small_cost))
+    leaf_at = known.leaf (support_in p s) held.base held.tree s.nodes place no_entry held.sound at.least.inside (omega (arith, at.least.not_shown no_entry, small_cost))
 
     node_is : node_at (preorder held.tree) place ≡ old.node
-    node_is = ap (λ (ns : List Node). node_at ns place) is_tree.nodes ∙ get_or-map (λ (entry : GrowingNode). entry.node) s.nodes place no_entry nodes.Void at.inside
+    node_is = ap (λ (ns : List Node). node_at ns place) is_tree.nodes ∙ get_or-map (λ (entry : GrowingNode). entry.node) s.nodes place no_entry nodes.Void at.least.inside
 
     pub is_leaf : IsLeaf old.node
     is_leaf = subst IsLeaf node_is leaf_at.leaf
@@ -64,10 +64,9 @@ module _ (known : Known) (p : Problem) (s : State) (held : IsHeld p s) where
     pub taken : (after : State) (news : List GrowingNode) → after.nodes ≡ take place s.nodes ++ (news ++ drop (place + 1) s.nodes) → IsTaken s after branch old news
     taken after news nodes_are = record {
       place = place;
-      inside = at.inside;
+      least = at.least;
       was = sym (old_is old);
       leaf = is_leaf;
-      unclosed = below;
       tree = held.tree;
       of_nodes = is_tree.nodes;
       way = way;
@@ -94,13 +93,13 @@ module _ (known : Known) (p : Problem) (s : State) (held : IsHeld p s) where
         pub sound : AreSound (with_sets (support_in p s) more) held.base (stands branch sub) news
 
       rises : MayFollow → s.done + 1 ≤ turns_in cost then_nodes
-      rises m = omega (arith, turns_rise s.cost s.nodes place no_entry at.inside cost news m.no_dearer below, held.done_is, m.turn)
+      rises m = omega (arith, turns_rise s.cost s.nodes place no_entry at.least.inside cost news m.no_dearer below, held.done_is, m.turn)
 
       -- so the search goes on
       pub follows : MayFollow → IsHeld p then_is
       follows m =
           let support = support_in p s in
-          let rise = turns_rise s.cost s.nodes place no_entry at.inside cost news m.no_dearer below in
+          let rise = turns_rise s.cost s.nodes place no_entry at.least.inside cost news m.no_dearer below in
           record {
             valid = held.valid;
             base = held.base;
@@ -116,7 +115,7 @@ module _ (known : Known) (p : Problem) (s : State) (held : IsHeld p s) where
             short = m.short;
             cost_is = m.cost_is;
             done_is = refl;
-            few_nodes = omega (arith, nodes_then s.cost s.nodes place no_entry at.inside news, m.few_news, m.turn, rise, held.done_is, held.few_nodes);
+            few_nodes = omega (arith, nodes_then s.cost s.nodes place no_entry at.least.inside news, m.few_news, m.turn, rise, held.done_is, held.few_nodes);
           }
 
       pub more_done : MayFollow → s.done < turns_in cost then_nodes

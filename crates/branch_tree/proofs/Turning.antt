@@ -1,5 +1,5 @@
 -- What becomes of a search in one step, over its plain data.
-use Rattle.std.proofs.Common.{◌≡◌, ℕ, ◌+◌, ◌<◌, ◌≤◌, List, [], ◌∷◌, ◌++◌, take, drop, length, refl, sym, subst, arith, length-append, inl, inr, pos, ◌-ℤ◌, ◌*ℤ◌, ◌<ℤ◌}
+use Rattle.std.proofs.Common.{◌≡◌, ℕ, ◌+◌, ◌<◌, ◌≤◌, List, [], ◌∷◌, ◌++◌, take, drop, length, refl, sym, subst, arith, length-append, ◌⊎◌, inr, pos, ◌-ℤ◌, ◌*ℤ◌, ◌<ℤ◌}
 use Rattle.std.specs.List.{All}
 use Rattle.std.proofs.lemmas.List.{append-nil}
 use Rattle.std.proofs.lemmas.List.Elements.{All-nil, All-cons}
@@ -21,9 +21,10 @@ use Rattle.grown_trees.specs.Stands.{stands, with_sets}
 use Rattle.grown_trees.specs.declared.growing.GrowingNode.{GrowingNode}
 use Rattle.branch_tree.specs.Known.{Known}
 use Rattle.branch_tree.specs.Leaves.{IsAtLeaf, IsSplitBy, MayStand, NamesSet, set_in, split_nodes, with_news, with_pool, with_set}
-use Rattle.branch_tree.specs.Searches.{IsHeld, IsHeldSet, IsShortPlan, State, support_in}
+use Rattle.short_plans.specs.Shorts.{IsShortPlan}
+use Rattle.branch_tree.specs.Searches.{IsHeld, IsHeldSet, State, support_in}
 use Rattle.branch_tree.specs.Splits.{split_tree}
-use Rattle.branch_tree.specs.Steps.{HasNewSet, IsStep}
+use Rattle.branch_tree.specs.Steps.{HasNewSet, IsClosedBy, IsStep}
 use Rattle.grown_trees.specs.Values.{IsMostShown}
 use Rattle.branch_tree.specs.declared.children.Children.{Children}
 use Rattle.branch_tree.specs.declared.search.Turn.TheVariants.{Closed, Split}
@@ -54,7 +55,8 @@ module _ (known : Known) (p : Problem) (s : State) (held : IsHeld p s) (place : 
       subst (λ (sets : List Prices). AreSound (record { problem = p; pool = s.pool; sets = sets }) held.base (stands branch sub) news) (sym (append-nil s.sets)) is
 
   module _ (sub : Tree) (leaf : GrowingNode) (plan : List (List Step)) (cost : ℕ) (sound : AreSound (support_in p s) held.base (stands branch sub) (leaf ∷ [])) (is_leaf : IsLeaf leaf.node)
-      (no_dearer : cost ≤ s.cost) (short : IsShortPlan p plan) (cost_is : cost ≡ plan_cost p plan) (closed : cost ≤ leaf.shows) where
+      (no_dearer : cost ≤ s.cost) (short : IsShortPlan p plan) (cost_is : cost ≡ plan_cost p plan) (closed : cost ≤ leaf.shows)
+      (by : IsClosedBy p s (with_news (record s { plan = plan; cost = cost }) place (leaf ∷ [])) branch leaf leaf.node) where
     abbrev closed_state : List Prices → State
     closed_state sets =
         let entries = take place s.nodes ++ ((leaf ∷ []) ++ drop (place + 1) s.nodes) in
@@ -84,7 +86,7 @@ module _ (known : Known) (p : Problem) (s : State) (held : IsHeld p s) (place : 
           taken = taken known p s held place branch at (closed_state s.sets) (leaf ∷ []) refl;
           is_leaf = is_leaf;
           closed = closed;
-          sets = inl refl;
+          by = by;
           no_dearer = no_dearer;
         };
         grown = same_pool s.pool;
@@ -95,13 +97,14 @@ module _ (known : Known) (p : Problem) (s : State) (held : IsHeld p s) (place : 
   pub closes_void : IsVoid p s.pool branch → Goes p s (with_news s place (record { node = nodes.Void; shows = 18446744073709551615 } ∷ [])) Closed
   closes_void is =
       closes void (record { node = nodes.Void; shows = 18446744073709551615 }) s.plan s.cost (void_sound known p s held place branch at is) tt (omega arith) held.short held.cost_is
-      (omega (arith, small_cost known p s held))
+      (omega (arith, small_cost known p s held)) (is, refl, refl)
 
   pub closes_fixed : (plan best : List (List Step)) (value cost : ℕ) → IsFixed p s.pool branch → IsLawful p plan → value ≡ plan_cost p plan → HasFixedValue p branch (plan_cost p plan) →
-      cost ≤ s.cost → cost ≤ value → IsShortPlan p best → cost ≡ plan_cost p best →
+      cost ≤ s.cost → cost ≤ value → IsShortPlan p best → cost ≡ plan_cost p best → (best ≡ s.plan) ⊎ ((cost ≡ value) × (cost < s.cost)) →
       Goes p s (with_news (record s { plan = best; cost = cost }) place (record { node = nodes.Fixed; shows = value } ∷ [])) Closed
-  closes_fixed plan best value cost is lawful value_is has no_dearer closed short cost_is =
+  closes_fixed plan best value cost is lawful value_is has no_dearer closed short cost_is kept =
       closes fixed (record { node = nodes.Fixed; shows = value }) best cost (fixed_sound known p s held place branch at plan value is lawful value_is has) tt no_dearer short cost_is closed
+      (is, refl, kept)
 
 -- a leaf that names a set, in a search whose pool gained shores
 module _ (known : Known) (p : Problem) (s : State) (held : IsHeld p s) (place : ℕ) (branch : List Decision) (number : ℕ) (pool : List (List ℕ)) (grown : IsGrown s.pool pool)
@@ -150,7 +153,13 @@ module _ (known : Known) (p : Problem) (s : State) (held : IsHeld p s) (place : 
             taken = taken known p s held place branch names.at (with_news (with_set (with_pool s pool) set) place (leaf ∷ [])) (leaf ∷ []) refl;
             is_leaf = tt;
             closed = closed;
-            sets = inr (new_set (with_news (with_set (with_pool s pool) set) place (leaf ∷ [])) refl refl);
+            by = (
+              then_names.not_void,
+              then_names.not_fixed,
+              omega (arith, length-append s.sets (set ∷ [])),
+              new_set (with_news (with_set (with_pool s pool) set) place (leaf ∷ [])) refl refl,
+              refl,
+            );
             no_dearer = omega arith;
           };
           grown = grown;

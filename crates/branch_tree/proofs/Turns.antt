@@ -1,5 +1,5 @@
 -- A search after a step, with what it stands on.
-use Rattle.std.proofs.Common.{◌≡◌, ℕ, ◌+◌, ◌*◌, ◌<◌, ◌≤◌, Bool, true, false, List, [], ◌∷◌, length, get_or, refl, sym, subst, ap, ◌∙◌, arith, Result, Ok, Err, IfOk, All, pos, ◌≤ℤ◌}
+use Rattle.std.proofs.Common.{◌≡◌, ℕ, ◌+◌, ◌*◌, ◌<◌, ◌≤◌, Bool, true, false, List, [], ◌∷◌, length, get_or, refl, sym, subst, ap, ◌∙◌, arith, inl, inr, Result, Ok, Err, IfOk, All, pos, ◌≤ℤ◌}
 use Rattle.std.specs.Prelude.{IsErr, OnErr, if◌then◌else◌, nat_lt}
 use Rattle.std.proofs.lemmas.Bool.Decides.{nat_tests}
 use Rattle.std.proofs.lemmas.List.{get_or_default}
@@ -24,13 +24,13 @@ use Rattle.grown_trees.specs.Stands.{NodeShows}
 use Rattle.grown_trees.specs.declared.growing.GrowingNode.{GrowingNode}
 use Rattle.branch_tree.specs.Known.{Known}
 use Rattle.branch_tree.specs.Leaves.{HasClosed, HasSplit, IsAtLeaf, IsFramed, IsRaisedFrom, IsRepriced, IsTurn, MayStand, NamesSet, set_in, split_nodes, with_cheaper, with_news, with_pool, with_set}
-use Rattle.branch_tree.specs.Searches.{IsHeld, IsSearch, IsShortPlan, State, state_of, support_in}
+use Rattle.short_plans.specs.Shorts.{IsShortPlan}
+use Rattle.branch_tree.specs.Searches.{IsHeld, IsSearch, State, state_of, support_in}
 use Rattle.branch_tree.specs.Steps.{IsAsBefore, IsStep}
 use Rattle.branch_tree.specs.declared.search.Search.{Search}
 use Rattle.branch_tree.specs.declared.search.Turn.{Turn}
 use Rattle.branch_tree.specs.declared.search.Turn.TheVariants.{Closed, Split}
 use Rattle.grown_trees.specs.Values.{IsMostShown}
-use Rattle.branch_tree.proofs.PlanCosts.{cost_is_small}
 use Rattle.branch_tree.proofs.Pools.{may_stand, names_then, no_lower_now, pool_grows}
 use Rattle.branch_tree.proofs.Standing.{leaf_shores, named_shores, raised_value_some}
 use Rattle.branch_tree.proofs.Taking.{is_leaf, old, old_is, sound}
@@ -136,7 +136,7 @@ module _ (known : Known) (p : Problem) (s : State) (held : IsHeld p s) (place : 
       at = at;
       not_void = not_void;
       not_fixed = not_fixed;
-      named = λ other. ap (λ (x : GrowingNode). x.node) (get_or_default s.nodes place other entry at.inside ∙ sym read) ∙ is;
+      named = λ other. ap (λ (x : GrowingNode). x.node) (get_or_default s.nodes place other entry at.least.inside ∙ sym read) ∙ is;
     }
 
 -- a fixed leaf, whose plan may be the best one from then on
@@ -146,15 +146,17 @@ module _ (known : Known) (p : Problem) (s : State) (held : IsHeld p s) (place : 
   short = record { lawful = lawful; few_tours = few_tours; few_steps = few_steps }
 
   pub small_plan : plan_cost p plan ≤ 2000000000000
-  small_plan = cost_is_small p held.valid plan short
+  small_plan = known.costs p plan held.valid lawful few_steps
 
   pub fixed_goes : (value : ℕ) → value ≡ plan_cost p plan → Goes p s (with_news (with_cheaper s plan value) place (record { node = nodes.Fixed; shows = value } ∷ [])) Closed
   fixed_goes value value_is = by (nat_lt value s.cost) refl where
     by : (b : Bool) → nat_lt value s.cost ≡ b → Goes p s (with_news (if b then record s { plan = plan; cost = value } else s) place (record { node = nodes.Fixed; shows = value } ∷ [])) Closed
     by true test =
         closes_fixed known p s held place branch at plan plan value value is lawful value_is has (grind (arith, nat_tests)) (omega arith) short value_is
+        (inr (refl, grind (arith, nat_tests)))
     by false test =
         closes_fixed known p s held place branch at plan s.plan value s.cost is lawful value_is has (omega arith) (grind (arith, nat_tests)) held.short held.cost_is
+        (inl refl)
 
 -- a set was raised for a leaf
 module _ (known : Known) (p : Problem) (before middle : Search) (place : ℕ) (branch : List Decision) (number : ℕ) (search : IsSearch p before) (names : NamesSet p (state_of before) place branch number)

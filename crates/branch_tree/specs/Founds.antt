@@ -4,6 +4,7 @@ use Rattle.std.specs.List.{All}
 use Rattle.carp_base.specs.Problem.{Problem, IsValid}
 use Rattle.plan_model.specs.Plans.{plan_cost}
 use Rattle.plan_model.specs.declared.step.Step.{Step}
+use Rattle.short_plans.specs.Shorts.{IsShortPlan}
 use Rattle.cut_pool.specs.Shores.{Belongs}
 use Rattle.branch_rules.specs.Limits.{IsNodeIn}
 use Rattle.branch_rules.specs.Prices.{Prices}
@@ -12,7 +13,7 @@ use Rattle.branch_rules.specs.declared.node.Node.{Node}
 use Rattle.grown_trees.specs.Growth.{Fraction, IsSpelledNode}
 use Rattle.grown_trees.specs.Stands.{PricesFit}
 use Rattle.branch_tree.specs.declared.finishing.Found.{Found}
-use Rattle.branch_tree.specs.Searches.{IsHeldSet, IsShortPlan}
+use Rattle.branch_tree.specs.Searches.{IsHeldSet}
 use Rattle.branch_tree.specs.Values.{ReachesFloors}
 
 -- what was found, as plain data

@@ -1,7 +1,8 @@
--- What is known of grown trees, of branches and of price sets, for the proofs of private functions.
+-- What is known of grown trees, of branches, of price sets and of plans, for the proofs of private functions.
 use Rattle.chain_plans.specs.Laws.{FixedValueIsUnique}
 use Rattle.dual_master.specs.Growth.{GrowthKeepsSets}
 use Rattle.grown_trees.specs.Laws.{DecisionsKeepSets, GrownIsSound, MoreSetsKeepSound, MoreShoresKeepSound, SoundAtPlace, SoundIsTree, UnshownIsLeaf}
+use Rattle.short_plans.specs.Laws.{ShortPlansCostLittle}
 
 pub record Known : Type 0 where
   pub grown : GrownIsSound
@@ -13,3 +14,4 @@ pub record Known : Type 0 where
   pub kept : DecisionsKeepSets
   pub growth : GrowthKeepsSets
   pub fixed_once : FixedValueIsUnique
+  pub costs : ShortPlansCostLittle

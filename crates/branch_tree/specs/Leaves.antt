@@ -1,4 +1,4 @@
--- The leaf that a step takes, and what is put in its place.
+-- The leaf that a step takes, and what is put in its place. No public contract speaks of this.
 use Rattle.std.specs.Prelude.{◌≡◌, ℕ, zero, suc, ◌+◌, ◌-◌, ◌<◌, ◌≤◌, List, [], ◌∷◌, ◌++◌, take, drop, map, length, slice_index_or, if◌then◌else◌, nat_lt, Result, IfOk, OnErr}
 use Rattle.std.specs.List.{All}
 use Rattle.carp_base.specs.declared.fail.Memory.{Memory}
@@ -16,7 +16,7 @@ use Rattle.branch_rules.specs.declared.node.Node.TheVariants as nodes
 use Rattle.route_pricing.specs.Tables.{IsRoom}
 use Rattle.tight_prices.specs.Tight.{IsTight}
 use Rattle.dual_master.specs.Raising.{IsNoLower}
-use Rattle.grown_trees.specs.Growth.{IsSpelledNode, turns_in}
+use Rattle.grown_trees.specs.Growth.{IsLeastOpen, IsSpelledNode, turns_in}
 use Rattle.grown_trees.specs.Places.{IsFineNode, branch_to}
 use Rattle.grown_trees.specs.declared.growing.GrowingNode.{GrowingNode}
 use Rattle.branch_tree.specs.declared.children.Children.{Children}
@@ -30,10 +30,9 @@ use Rattle.branch_tree.specs.Steps.{IsAsBefore, IsStep}
 use Rattle.branch_tree.specs.Splits.{IsInner, first_of, second_of}
 use Rattle.grown_trees.specs.Values.{IsMostShown}
 
--- at the place stands a leaf that does not show the best plan's cost by itself, and these are the decisions on the way to it
+-- at the place stands the first leaf that shows least, which is not the best plan's cost, and these are the decisions on the way to it
 pub record IsAtLeaf (s : State) (place : ℕ) (branch : List Decision) : Type 0 where
-  pub inside : place < length s.nodes
-  pub unclosed : (other : GrowingNode) → (slice_index_or s.nodes place other).shows < s.cost
+  pub least : IsLeastOpen s.cost s.nodes place
   pub way : (tree : Tree) → preorder tree ≡ map (λ entry. entry.node) s.nodes → branch ≡ branch_to [] tree place
 
 -- what a branch is

@@ -6,5 +6,4 @@ pub mod Leaves
 pub mod Steps
 pub mod Beginnings
 pub mod Founds
-pub mod Laws
 pub mod Examples

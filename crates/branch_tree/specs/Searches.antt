@@ -3,7 +3,8 @@ use Rattle.std.specs.Prelude.{◌≡◌, ℕ, ◌+◌, ◌*◌, ◌≤◌, List,
 use Rattle.std.specs.List.{All}
 use Rattle.carp_base.specs.Problem.{Problem, IsValid}
 use Rattle.plan_model.specs.declared.step.Step.{Step}
-use Rattle.plan_model.specs.Plans.{IsLawful, plan_cost, steps_of}
+use Rattle.plan_model.specs.Plans.{plan_cost}
+use Rattle.short_plans.specs.Shorts.{IsShortPlan}
 use Rattle.deadhead_paths.specs.Prices.{costs_of}
 use Rattle.cut_pool.specs.Shores.{Belongs}
 use Rattle.route_pricing.specs.Tables.{IsRoom}
@@ -18,12 +19,6 @@ use Rattle.grown_trees.specs.Stands.{stands}
 use Rattle.grown_trees.specs.declared.growing.GrowingNode.{GrowingNode}
 use Rattle.branch_tree.specs.declared.search.Search.{Search}
 use Rattle.branch_tree.specs.Values.{ReachesFloors}
-
--- a lawful plan of no more tours than there are required edges, and of at most 2,000,000 steps
-pub record IsShortPlan (p : Problem) (plan : List (List Step)) : Type 0 where
-  pub lawful : IsLawful p plan
-  pub few_tours : length plan ≤ p.required
-  pub few_steps : length (steps_of plan) ≤ 2000000
 
 -- what a search holds, as plain data: its shores, its price sets, the nodes of its tree, each with the greatest bound that it shows, and
 -- the best plan with its cost and the tree's turns for this cost

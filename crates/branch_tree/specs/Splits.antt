@@ -1,4 +1,5 @@
--- The decisions that an inner node gives its children, and a leaf that gave way to an inner node with two price leaves.
+-- The decisions that an inner node gives its children, and a leaf that gave way to an inner node with two price leaves. No public contract
+-- speaks of this.
 use Rattle.std.specs.Prelude.{◌≡◌, ℕ, ◌<◌, List, length}
 use Rattle.carp_base.specs.Problem.{Problem, IsRequired}
 use Rattle.decision_chains.specs.declared.decision.Decision.{Decision}
@@ -57,7 +58,7 @@ AreSettledBelow p branch n = (a b : ℕ) → IsRequired p a → IsRequired p b �
 abbrev pub IsSettledBelow : Problem → List Decision → ℕ → ℕ → Type 0
 IsSettledBelow p branch a n = (b : ℕ) → IsRequired p b → a < b → b < n → IsDetermined p branch a b
 
--- a positive weight of a set is on this shore
+-- some weight of a set is on this shore
 pub record IsWeighed (set : Prices) (shore : ℕ) : Type 0 where
   pub place : ℕ
   pub inside : place < length set.weights

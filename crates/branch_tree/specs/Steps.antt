@@ -6,9 +6,11 @@ use Rattle.decision_chains.specs.declared.decision.Decision.{Decision}
 use Rattle.branch_rules.specs.Decisions.{IsFixed, IsVoid}
 use Rattle.branch_rules.specs.Prices.{Prices}
 use Rattle.branch_rules.specs.Trees.{Tree, preorder, PriceShows}
+use Rattle.branch_rules.specs.declared.node.Node.{Node}
 use Rattle.branch_rules.specs.declared.node.Node.TheVariants as nodes
 use Rattle.shore_prices.specs.Proposals.{IsGrown}
 use Rattle.tight_prices.specs.Tight.{IsTight}
+use Rattle.grown_trees.specs.Growth.{IsLeastOpen}
 use Rattle.grown_trees.specs.Places.{IsLeaf, branch_to}
 use Rattle.grown_trees.specs.declared.growing.GrowingNode.{GrowingNode}
 use Rattle.branch_tree.specs.declared.search.Turn.{Turn}
@@ -28,13 +30,12 @@ pub record IsAsBefore (before after : State) : Type 0 where
   pub cost : after.cost ≡ before.cost
   pub done : after.done ≡ before.done
 
--- a leaf that was not closed gave way to other nodes; its branch is the decisions on the way to it
+-- the first leaf that showed least, and not the best plan's cost, gave way to other nodes; its branch is the decisions on the way to it
 pub record IsTaken (before after : State) (branch : List Decision) (old : GrowingNode) (news : List GrowingNode) : Type 0 where
   pub place : ℕ
-  pub inside : place < length before.nodes
+  pub least : IsLeastOpen before.cost before.nodes place
   pub was : old ≡ slice_index_or before.nodes place old
   pub leaf : IsLeaf old.node
-  pub unclosed : old.shows < before.cost
   pub tree : Tree
   pub of_nodes : preorder tree ≡ map (λ entry. entry.node) before.nodes
   pub way : branch ≡ branch_to [] tree place
@@ -46,7 +47,18 @@ pub record HasNewSet (p : Problem) (before after : State) (branch : List Decisio
   pub added : after.sets ≡ before.sets ++ set ∷ []
   pub tight : IsTight p after.pool (length before.pool) branch set
 
--- a leaf was closed: another leaf in its place shows the best plan's cost; its price set, if it is a new one, is tight
+-- What closes a leaf, by its new node: a void or a fixed branch, with the price sets as they were; or one that is neither, and a new set,
+-- which the leaf names. The best plan is another one only where a fixed leaf shows its cost, which is less than before.
+abbrev pub IsClosedBy : Problem → (before after : State) → List Decision → GrowingNode → Node → Type 0
+IsClosedBy p before after branch leaf (nodes.Pair a b) = ⊥
+IsClosedBy p before after branch leaf (nodes.Cut shore k) = ⊥
+IsClosedBy p before after branch leaf (nodes.Price set) =
+    ¬ (IsVoid p after.pool branch) × ¬ (IsFixed p after.pool branch) × (set ≡ length after.sets) × HasNewSet p before after branch × (after.plan ≡ before.plan)
+IsClosedBy p before after branch leaf nodes.Void = IsVoid p after.pool branch × (after.sets ≡ before.sets) × (after.plan ≡ before.plan)
+IsClosedBy p before after branch leaf nodes.Fixed =
+    IsFixed p after.pool branch × (after.sets ≡ before.sets) × ((after.plan ≡ before.plan) ⊎ ((after.cost ≡ leaf.shows) × (after.cost < before.cost)))
+
+-- a leaf was closed: another leaf in its place shows the best plan's cost
 pub record IsClosing (p : Problem) (before after : State) : Type 0 where
   pub branch : List Decision
   pub old : GrowingNode
@@ -54,7 +66,7 @@ pub record IsClosing (p : Problem) (before after : State) : Type 0 where
   pub taken : IsTaken before after branch old (leaf ∷ [])
   pub is_leaf : IsLeaf leaf.node
   pub closed : after.cost ≤ leaf.shows
-  pub sets : (after.sets ≡ before.sets) ⊎ HasNewSet p before after branch
+  pub by : IsClosedBy p before after branch leaf leaf.node
   pub no_dearer : after.cost ≤ before.cost
 
 -- A leaf was split, which was neither void nor fixed; both children carry one price set. While fewer than 256 are held it is a new one,

@@ -1,11 +1,11 @@
 // How a search begins.
 ghost use Rattle.std.specs.Prelude.{◌≡◌, ◌*◌, ◌+◌, ◌≤◌, ◌∷◌, [], IfOk};
 ghost use Rattle.plan_model.specs.Plans.{plan_cost};
+ghost use Rattle.short_plans.specs.Shorts.{IsShortPlan};
 ghost use Rattle.branch_tree.specs.Beginnings.{AreTools, IsFloor, IsRoot};
-ghost use Rattle.branch_tree.specs.Searches.{IsBegun, IsSearch, IsShortPlan, state_of};
+ghost use Rattle.branch_tree.specs.Searches.{IsBegun, IsSearch, state_of};
 
 use crate::changing::price_leaf;
-use crate::laws::short_plans_cost_little;
 use crate::search::Search;
 use crate::values::shown_under;
 use branch_rules::{Branch, PriceSet, prices_bound};
@@ -17,6 +17,7 @@ use grown_trees::GrowingTree;
 use plan_model::Plan;
 use road_network::Network;
 use route_pricing::Table;
+use short_plans::short_plans_cost_little;
 use std::alloc::Global;
 use task_tours::{cost_distances, lawful_cost};
 
@@ -39,8 +40,8 @@ impl Search {
     /// A search for an instance from a plan on, for a budget of turns from 1 to 1,048,576.
     ///
     /// The plan is lawful and has at most a tour for each required edge and 2,000,000 steps. The tree is one leaf with the best set of
-    /// the floors (`dual_master::floors`), and the pool is as `floors` leaves it. Memory for all nodes that the budget can make is taken
-    /// here, 24 bytes for each of up to `2 * turns + 1`, so that no step lacks it.
+    /// the floors (`dual_master::floors`), and the pool is as `floors` leaves it. Memory for all nodes that the budget can make, up to
+    /// `2 * turns + 1`, is taken here, so that no step lacks it.
     ///
     /// The one error is want of memory. It takes the time of least paths between all pairs of vertices and of the floors.
     pub fn begin(alloc: Global, inst: &Instance, turns: u64, best: Plan) -> Result<Search, Memory>
@@ -51,6 +52,7 @@ impl Search {
         ensures turns { IfOk result (λ search. search.turns ≡ turns) }
         ensures begun { IfOk result (λ search. IsBegun inst.now best (state_of search)) }
     {
+        short_plans_cost_little();
         let cost = short_cost(alloc, inst, &best)?;
         let mut tools = tools_of(alloc, inst)?;
         let floor = floor_of(alloc, inst, &mut tools)?;

@@ -10,6 +10,7 @@ use carp_base::{Instance, Memory};
 use cut_pool::ShorePool;
 use grown_trees::sound_trees_are_lean;
 use plan_model::Plan;
+use short_plans::short_plans_cost_little;
 use std::alloc::Global;
 
 /// What a search has found.
@@ -17,9 +18,9 @@ use std::alloc::Global;
 pub struct Found {
     /// The best plan.
     pub plan: Plan,
-    /// The shores of the cuts and of the price sets.
+    /// The shores that were found; cuts and price sets name some of them.
     pub shores: ShorePool,
-    /// The price sets that leaves name, from 1.
+    /// The price sets; leaves name some of them, by numbers from 1.
     pub sets: Vec<PriceSet>,
     /// The nodes of the tree in preorder.
     pub tree: Tree,
@@ -44,6 +45,7 @@ impl Search {
         // The instance tells only what the search is for.
         let _ = inst;
         sound_trees_are_lean();
+        short_plans_cost_little();
         let bound = self.tree.shown(self.cost);
         let tree = self.tree.tree(alloc)?;
         Ok(Found {

@@ -20,5 +20,4 @@ mod tests;
 mod values;
 
 pub use finishing::Found;
-pub use laws::short_plans_cost_little;
 pub use search::{Search, Turn};

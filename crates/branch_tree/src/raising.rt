@@ -22,7 +22,8 @@ use road_network::Network;
 use route_pricing::Table;
 use std::alloc::Global;
 
-// The rounds of search for shores and the steps of the ascent: for a tree of one node, and for a larger one.
+// The rounds of search for shores and the steps of the ascent: for a tree of one node, and for a larger one. Most of the gap lies in the
+// linear program of the root, so effort belongs there.
 const ROOT_ROUNDS: u32 = 400;
 
 const CHILD_ROUNDS: u32 = 8;

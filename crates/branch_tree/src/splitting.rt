@@ -161,8 +161,8 @@ impl Search {
     }
 }
 
-// A node to split a branch by that is neither void nor fixed, where a bound greater by `gap` would close the leaf, and what a set that fits there shows under the decisions of both children.
-// The branch is as it was afterwards.
+// A node to split a branch by that is neither void nor fixed, where a bound greater by `gap` would close the leaf, and what a set that
+// fits there shows under the decisions of both children. The branch is as it was afterwards.
 fn choose_halves(
     alloc: Global,
     inst: &Instance,

@@ -19,15 +19,14 @@ impl Search {
         self.done
     }
 
-    /// Takes the leaf that shows least, if it does not show the best plan's cost. Where no lawful plan meets its decisions, or they
-    /// leave each chain to be driven as it stands, it is closed as void or fixed; the plan of a fixed leaf is the best one from then on
-    /// if it is cheaper. Else, while fewer than 256 price sets are held, a tight set is sought for it (`dual_master::raise`). If that
-    /// shows the cost, it closes the leaf, and otherwise both leaves of a split by a pair or a shore carry it. Where 256 are held, the
-    /// leaves of the split carry the set of the leaf.
+    /// Takes the first leaf that shows least, if it does not show the best plan's cost. Where its branch is void or fixed, it is closed as
+    /// that; the plan of a fixed leaf is the best one from then on if it is cheaper. Else, while fewer than 256 price sets are held, a
+    /// tight set is sought for it (`dual_master::raise`). If that shows the cost, it closes the leaf, and otherwise both leaves of a split
+    /// by a pair or a shore carry it. Where 256 are held, the leaves of the split carry the set of the leaf.
     ///
     /// It asks for a search whose turns are below its budget. The one error is want of memory: then the tree, the price sets and the best
-    /// plan are as before, and shores may have been added. It takes the time of `raise` and, with n nodes and m required edges, in
-    /// proportion to n + m * m.
+    /// plan are as before, and shores may have been added. It takes the time of `raise` and, with n nodes, m required edges and d decisions
+    /// on the way to the leaf, in proportion to n + m * (m * m + d).
     pub fn step(&mut self, inst: &Instance) -> Result<Turn, Memory>
         requires search { IsSearch inst.now self.old }
         requires left { self.old.done < self.old.turns }

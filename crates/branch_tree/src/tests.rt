@@ -1,6 +1,7 @@
 // Searches on small instances: one vertex, and a star of five streets behind a long way.
 ghost use Rattle.std.specs.Prelude.{◌≡◌, ◌≤◌, IfOk};
-ghost use Rattle.branch_tree.specs.Searches.{IsSearch, IsShortPlan};
+ghost use Rattle.short_plans.specs.Shorts.{IsShortPlan};
+ghost use Rattle.branch_tree.specs.Searches.{IsSearch};
 
 use crate::{Search, Turn};
 use carp_base::{Instance, Memory, RawEdge};

@@ -85,9 +85,9 @@ fn needy_labels(
 ///
 /// `x` has a number for each edge, in the order of the edges, each at most 10^12: its deadheads in parts of `unit`, which is 1
 /// to 1,000,000. A vertex at which no edge has so much is a component by itself, an edge between two vertices of a component
-/// does not cross it, and parallel edges each count. Each lawful plan has more deadheads over such a set than `x` (Belenguer
-/// and Benavent 1998, parity and capacity cuts). The one error is want of memory. It takes time and memory in proportion to the
-/// vertices and edges, and to the greatest vertices of the shores.
+/// does not cross it, and parallel edges each count. Each lawful plan has more deadheads over such a set than `x`, by the law
+/// [`cut_pool::need_is_met`] (Belenguer and Benavent 1998, parity and capacity cuts). The one error is want of memory. It takes
+/// time and memory in proportion to the vertices and edges, and to the greatest vertices of the shores.
 pub fn find_components(
     alloc: Global,
     inst: &Instance,
@@ -104,6 +104,7 @@ pub fn find_components(
     kept_labels_are_components();
     let labels = label_components(alloc, inst, net, x, unit)?;
     let marks = needy_labels(alloc, inst, &labels, x, unit)?;
+    // What a read of the instance says is needed: that it is valid.
     let _ = inst.vertices();
     list_marked(alloc, inst, &labels, &marks)
 }

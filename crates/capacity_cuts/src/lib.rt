@@ -1,9 +1,10 @@
-//! Sets of vertices that a plan must cross more often than some deadheads do (Belenguer and Benavent 1998).
+//! Sets of vertices that a plan must cross more often than some deadheads do, and the sets of the vertices beyond each distance
+//! from the depot (Belenguer and Benavent 1998).
 //!
 //! The violation of a set S without the depot is `2 t(S) / Q - r(S) - x(S) / unit`: t(S) is the demand that touches it, r(S)
 //! the number of required edges over it, x(S) the parts of deadheads over it, and Q the capacity. [`find_fractional`] gives a
-//! set of greatest violation by one greatest flow, [`find_components`] the violated components of the edges with at least a
-//! unit, where the vehicles are rounded up, and [`shells`] the sets of the vertices beyond each distance from the depot.
+//! set of greatest violation by one greatest flow, [`find_components`] the components of the edges with at least a unit whose
+//! need ([`cut_pool::need`]) is above the deadheads over them, and [`shells`] the sets of the vertices beyond each distance.
 #![tactic(auto)]
 
 #[cfg(test)]

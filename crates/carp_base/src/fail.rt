@@ -3,7 +3,7 @@ ghost use Rattle.std.specs.Prelude.{◌≡◌};
 
 use std::alloc::{AllocError, AllocFailed};
 
-/// Want of memory. It is never merged with another answer.
+/// Want of memory. Only a keep of the real files merges it with another answer.
 #[derive(Clone, Copy, Debug, PartialEq, Eq)]
 pub struct Memory;
 

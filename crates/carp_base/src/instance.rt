@@ -37,7 +37,8 @@ impl Instance {
     /// the service cost are not read: they are 0.
     ///
     /// Where faults apply, it is refused for the first of them, in the order of [`InstanceFault`] and then by the edge
-    /// number. `Fail::Memory` says only that memory was not to be had.
+    /// number. `Fail::Memory` says only that memory was not to be had. It takes time and memory at most in proportion to the
+    /// vertices and edges.
     pub fn build(
         alloc: Global,
         vertices: u64,
@@ -135,7 +136,8 @@ impl Instance {
         self.edges.len() as u32
     }
 
-    /// The total demand: the sum of the demands of the required edges.
+    /// The total demand: the sum of the demands of the required edges, at most 12,000,000 (by the limit on states), in the unit of the capacity. It takes time in proportion to
+    /// the required edges.
     pub fn total_demand(&self) -> u64
         ensures { result ≡ total_demand self.now }
     {
@@ -146,7 +148,8 @@ impl Instance {
         sum
     }
 
-    /// What it costs to serve each required edge once: the sum of the service costs of the required edges.
+    /// What it costs to serve each required edge once: the sum of the service costs of the required edges, at most 600,000,000, in the instance's unit of cost. It takes time in
+    /// proportion to the required edges.
     pub fn required_cost(&self) -> u64
         ensures { result ≡ required_cost self.now }
     {

@@ -10,7 +10,7 @@ use Rattle.command_words.specs.Commands.{Command, Solve, Check, Sheet, Make, Dri
 use Rattle.command_files.specs.Reads.{IsTried, IsRefusal}
 use Rattle.command_files.specs.declared.status.Status.{Status}
 use Rattle.command_files.specs.declared.status.Status.TheVariants.{Proven, Gap, Accepted, Done, BadUsage, ReadFault}
-use Rattle.command_jobs.specs.Inputs.{IsRefused, CanBeDone}
+use Rattle.command_jobs.specs.Inputs.{IsRefused, CanBeDone, IsUnread}
 use Rattle.command_jobs.specs.Jobs.{IsFor, IsJobOf, IsSoundJob, WasRead}
 use Rattle.command_jobs.specs.declared.job.Job.{Job}
 use Rattle.command_jobs.specs.declared.job.Job.TheVariants as jobs
@@ -20,7 +20,7 @@ use Rattle.command_works.specs.Drills.{IsDrilled}
 use Rattle.command_works.specs.Fleets.{IsFleetFound}
 use Rattle.cert_format.specs.Certs.{certificate_in}
 use Rattle.cert_format.specs.Good.{IsProof}
-use Rattle.carp_base.specs.Problem.{Problem}
+use Rattle.carp_base.specs.Problem.{Problem, IsValid}
 use Rattle.cert_transfer.specs.Transfer.{IsCarriedOver}
 use Rattle.edit_files.specs.Edited.{IsEdited, IsEditedFrom}
 use Rattle.edit_files.specs.declared.edited.Edited.{Edited}
@@ -63,7 +63,7 @@ module _ (held : Bool) (found : Finding) (status : Status) (work : Work) where
 
   accepted : (file cert : List ℕ) (job : Job) → IsFor (Check file cert) job → (IsTrue held → WasRead (Check file cert) found.contents job)
       → IsMade job found.offered status work → IsPerformed held (Check file cert) found status work
-  accepted file cert (jobs.Check checked) is read made = record {
+  accepted file cert (jobs.Check cost bound) is read made = record {
     status_is = made.0;
     names = ap (λ (w : Work). map (λ k. k.name) w.kept) made.1;
     done = λ told. let r = read told in record {
@@ -71,7 +71,7 @@ module _ (held : Bool) (found : Finding) (status : Status) (work : Work) where
       certificate = r.certificate;
       certified = r.certified;
       keeps = ap (λ (w : Work). w.kept) made.1;
-      writes = ap (λ (w : Work). w.text) made.1 ∙ rw (r.cost, r.bound) refl;
+      writes = ap (λ (w : Work). w.text) made.1 ∙ rw (r.cost_is, r.bound_is) refl;
     };
   }
   accepted file cert _ fails read made = absurd fails
@@ -174,6 +174,7 @@ module _ (held : Bool) (found : Finding) (status : Status) (work : Work) where
           certificate = certificate_in read.cert;
           changes = read.edits.items;
           files = held_apart file cert edits found.contents read sound (was told);
+          valid = subst (λ (p : Problem). IsValid p) sound.after by.valid;
           carried = by.certificate;
           over = subst (λ (p : Problem). IsCarriedOver p (certificate_in read.cert) by.certificate) sound.after by.over;
           proof = subst (λ (p : Problem). IsProof p by.certificate) sound.after by.proof;
@@ -208,7 +209,7 @@ asks_alike (Solve file cert turns seed) job is = by job is where
   by _ fails = absurd fails
 asks_alike (Check file cert) job is = by job is where
   by : (job : Job) → IsFor (Check file cert) job → AsksAlike (Check file cert) job
-  by (jobs.Check checked) is = (refl, refl)
+  by (jobs.Check cost bound) is = (refl, refl)
   by _ fails = absurd fails
 asks_alike (Sheet file cert) job is = by job is where
   by : (job : Job) → IsFor (Sheet file cert) job → AsksAlike (Sheet file cert) job
@@ -297,8 +298,8 @@ failed s = Err (Refused s)
 -- a command was refused
 pub refusal_prepared : {held : Bool} {c : Command} {found : Finding} {gb gn : ℕ} (status answered : Status) (work : Work)
     → IsTried {X = Job} held (reads c) found.looks_before found.looks_now gb gn (IsRefused c found.contents) (CanBeDone c found.contents) (Err (Refused status))
-    → answered ≡ status → work ≡ refusal_work status → IsPrepared held (Some c) found gb gn answered work
-refusal_prepared {held} {c} {found} {gb} {gn} status answered work tried same_status same_work =
+    → (IsTrue held → status ≡ ReadFault → IsUnread c found.contents found.looks_before found.looks_now) → answered ≡ status → work ≡ refusal_work status → IsPrepared held (Some c) found gb gn answered work
+refusal_prepared {held} {c} {found} {gb} {gn} status answered work tried unread same_status same_work =
     subst (λ s. IsPrepared held (Some c) found gb gn s work) (sym same_status) (subst (λ w. IsPrepared held (Some c) found gb gn status w) (sym same_work) prepared) where
       refusal : IsRefusal status
       refusal = tried.refusal status refl
@@ -309,7 +310,7 @@ refusal_prepared {held} {c} {found} {gb} {gn} status answered work tried same_st
       prepared : IsPrepared held (Some c) found gb gn status (refusal_work status)
       prepared = record {
         right = λ told. elim (tried.refused told status refl) [
-          | inl fault ↦ inl (fault, tried.read (ap failed fault), refl)
+          | inl fault ↦ inl (fault, unread told fault, refl)
           | inr bad ↦ inr (inl (bad, refl))
         ];
         refusal = λ no. refl;
@@ -330,6 +331,10 @@ refusal_prepared {held} {c} {found} {gb} {gn} status answered work tried same_st
 pub by_status : {held : Bool} {sources : List Source} {lb ln : List ℕ → ℕ} {gb gn : ℕ} {Bad : Status → Type 0} {Good : Type 0} (fail : Fail Status) (status : Status) → fail ≡ Refused status
     → IsTried {X = Job} held sources lb ln gb gn Bad Good (Err fail) → IsTried {X = Job} held sources lb ln gb gn Bad Good (Err (Refused status))
 by_status {held} {sources} {lb} {ln} {gb} {gn} {Bad} {Good} fail status is tried = subst (λ (f : Fail Status). IsTried {X = Job} held sources lb ln gb gn Bad Good (Err f)) is tried
+
+-- what is so of a file that could not be read
+pub by_fault : {P : Type 0} (fail : Fail Status) (status : Status) → fail ≡ Refused status → (◌≡◌ {A = Result Job (Fail Status)} (Err fail) (Err (Refused ReadFault)) → P) → status ≡ ReadFault → P
+by_fault fail status is unread fault = unread (ap (λ (f : Fail Status). Err f) (is ∙ ap (λ (s : Status). Refused s) fault))
 
 -- helpers are not asked by a command that is refused
 pub refused_asks_none : {P : Type 0} (c : Command) (status answered : Status) → IsRefusal status → answered ≡ status → IsHelped (Some c) answered → P

@@ -2,9 +2,8 @@
 use Rattle.std.specs.Prelude.{◌≡◌, ℕ, List, [], ◌∷◌, Option, None, Some, ◌⊎◌}
 use Rattle.dat_text.specs.DatText.{dat_of}
 use Rattle.town_maker.specs.Towns.{town_of}
-use Rattle.command_words.specs.Commands.{Command, Solve, Check, Sheet, Make, Drill, Upgrade, Postman, Fleet, Edit, reads}
-use Rattle.command_files.specs.Files.{RoseAtSome}
-use Rattle.command_jobs.specs.Inputs.{IsRefused}
+use Rattle.command_words.specs.Commands.{Command, Solve, Check, Sheet, Make, Drill, Upgrade, Postman, Fleet, Edit}
+use Rattle.command_jobs.specs.Inputs.{IsRefused, IsUnread}
 use Rattle.command_works.specs.Drills.{IsDrilled}
 use Rattle.command_works.specs.Texts.{made_text}
 use Rattle.command_works.specs.Works.{Work}
@@ -49,10 +48,10 @@ IsDone (Edit file cert edits edited carried) found status work = IsCarriedAlong 
 abbrev pub refusal_work : Status → Work
 refusal_work status = record { kept = []; text = refusal_text status }
 
--- a command answers so: a file could not be read, a file is refused, or the command is done
+-- a command answers so: a file could not be read and those before it are good, a file is refused, or the command is done
 abbrev pub IsRight : Command → Finding → Status → Work → Type 0
 IsRight c found status work =
-    ((status ≡ ReadFault) × RoseAtSome (reads c) found.looks_before found.looks_now × (work ≡ refusal_work status))
+    ((status ≡ ReadFault) × IsUnread c found.contents found.looks_before found.looks_now × (work ≡ refusal_work status))
     ⊎ ((IsRefused c found.contents status × (work ≡ refusal_work status)) ⊎ (IsDoneStatus c status × IsDone c found status work))
 
 -- and words that are no command are refused

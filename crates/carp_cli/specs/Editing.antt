@@ -1,6 +1,6 @@
 -- What `edit` does with an instance, a certificate that is good for it, and edits.
 use Rattle.std.specs.Prelude.{◌≡◌, ℕ, ◌-◌, List, [], ◌∷◌, length, Option}
-use Rattle.carp_base.specs.Problem.{Problem}
+use Rattle.carp_base.specs.Problem.{Problem, IsValid}
 use Rattle.dat_text.specs.DatText.{dat_of}
 use Rattle.dat_text.specs.Text.{IsTextOf}
 use Rattle.cert_lines.specs.Certificates.{Certificate}
@@ -22,7 +22,7 @@ pub record AreEdited (file cert edits : List ℕ) (contents : List ℕ → Optio
   pub edits_read : Holds (edits_at edits) contents (λ bytes. IsEditsText instance bytes changes)
   pub good : IsGood instance certificate
 
--- Then one name is to hold the text of the edited instance, and then another the text of a certificate: the old one, carried over, which is good for the
+-- Then one name is to hold the text of the edited instance, which is valid, and then another the text of a certificate: the old one, carried over, which is good for the
 -- edited instance, so that no lawful plan of that one costs less than its bound, and whose bound is no lower than the old one. How many edges there are and how many were closed, its cost, its bound and the gap
 -- between them are to be written.
 pub record IsCarriedAlong (file cert edits new_file new_cert : List ℕ) (contents : List ℕ → Option (List ℕ)) (work : Work) : Type 0 where
@@ -30,6 +30,7 @@ pub record IsCarriedAlong (file cert edits new_file new_cert : List ℕ) (conten
   pub certificate : Certificate
   pub changes : List Edit
   pub files : AreEdited file cert edits contents instance certificate changes
+  pub valid : IsValid (edited instance changes)
   pub carried : Certificate
   pub over : IsCarriedOver (edited instance changes) certificate carried
   pub proof : IsProof (edited instance changes) carried

@@ -1,4 +1,4 @@
--- What `solve` and `drill` do: the headline.
+-- What `solve` does: the headline.
 use Rattle.std.specs.Prelude.{ℕ, List}
 use Rattle.carp_base.specs.Problem.{Problem}
 use Rattle.dat_text.specs.Text.{IsTextOf}

@@ -16,11 +16,11 @@ const NAMES_TRIED: u32 = 1000;
 const LEFT_BEHIND: u64 = 3600;
 
 /// The files of the system by their paths, as a shelf. It does not tell what they hold, and counts each failure of the
-/// system.
+/// system. One count of failed looks stands for every name.
 ///
 /// A file is replaced whole: the new bytes are written beside it, synced and renamed, so that a failure leaves the old
-/// file as it was. What a keep that was killed left beside the file is removed by a keep an hour later. A file that is write-protected is left alone. Where the path stands for something other than a
-/// regular file, as a link or a device, it is written in place.
+/// file as it was. What killed keeps left beside the file under numbers below its own is removed by a keep an hour later. A file that is write-protected is left alone: its keep fails. Where the path stands
+/// for something other than a regular file, as a symbolic link or a device, it is written in place. Another hard name of the file keeps the old bytes.
 #[derive(Drop)]
 pub struct DirShelf<R: Files> {
     rt: R,
@@ -159,7 +159,7 @@ fn clear_one<R: Files>(rt: &R, beside: &str, now: SystemTime) -> io::Result<()> 
     }
 }
 
-// Fills a new file, under the permissions of the file that it is to replace.
+// Fills a new file, and gives it the permissions of the file that it is to replace.
 fn fill<F: Write + OpenFile + Drop>(
     mut file: F,
     bytes: &[u8],

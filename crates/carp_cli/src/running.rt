@@ -37,14 +37,14 @@ use std::alloc::Global;
 ///   the instance, and ends `Done`.
 /// - `postman FILE` writes a least closed walk over all required edges of the instance of FILE, for one vehicle without a limit
 ///   ([`postman::postman`]), and ends `Done`; where they do not hang together with the depot it ends `NotJoined`.
-/// - `fleet FILE [--turns N]` counts the fewest vehicles that carry all demands ([`fleet_pack::pack`]), and writes a tour for each and a tree that proves how many it takes at
-///   least. It ends `Proven` where that is the count, and else `Gap`. The turns are 64 where they are not given.
-/// - `edit FILE CERT EDITS NEWFILE NEWCERT` reads an instance, a certificate that is good for it and edits ([`cert_transfer::read_edits`]), all three files before it looks at what
-///   they hold; keeps the edited instance at NEWFILE and then the certificate, carried over to it ([`cert_transfer::carry`]), at NEWCERT; and ends `Done`. Edits that can't be read
-///   or may not be are `BadEdit`, and so are those that make an instance with a fault.
+/// - `fleet FILE [--turns N]` finds a number of vehicles that carry all demands ([`fleet_pack::pack`]), and writes a tour for each and a tree that proves how many it takes at
+///   least. It ends `Proven` where that is the number, and else `Gap`. The turns are 64 where they are not given.
+/// - `edit FILE CERT EDITS NEWFILE NEWCERT` reads an instance, a certificate that is good for it and edits ([`instance_edits::read_edits`]), all three files before it looks at what
+///   they hold; keeps the edited instance at NEWFILE and then the certificate, carried over to it ([`cert_transfer::carry`]), at NEWCERT; and ends `Done`. Edits that can't be read,
+///   that name an edge which they may not change, or that make an instance with a fault are `BadEdit`.
 ///
 /// All other words are bad usage; [`command_words::read_words`] says which are plain. All texts are built before anything is kept or
-/// written.
+/// written, and held at once. It takes the time of reading ([`command_jobs::gather`]) and of making ([`command_works::make`]), and of keeping and writing in proportion to the bytes.
 ///
 /// The contract is said once for all commands, by the tables of `command_words` and of `specs/Answers.antt`: [`Status`] says when
 /// each answer comes, and `Leaves` what stands after it. What it says of the contents of names and of what was written holds where the

@@ -20,7 +20,7 @@ use Rattle.branch_rules.specs.declared.node.Node.TheVariants as nodes
 use Rattle.branch_rules.specs.declared.weight.Weight.{Weight}
 use Rattle.grown_trees.specs.Growth.{IsSpelledNode}
 use Rattle.branch_tree.specs.Founds.{Findings, IsFound, support_found}
-use Rattle.branch_tree.specs.Laws.{ShortPlansCostLittle}
+use Rattle.short_plans.specs.Laws.{ShortPlansCostLittle}
 use Rattle.branch_tree.specs.Searches.{IsHeldSet}
 use Rattle.cert_lines.specs.Laws.{FineIsSpellable, ShoreIsFine}
 use Rattle.cert_lines.specs.Spelling.{IsFine, IsFineNode, IsFineSet, IsFineShore}
@@ -46,7 +46,9 @@ no_depot p (shore ∷ pool) all = ((All-head (Belongs p) shore pool all).no_depo
 
 module _ (laws : Laws) (p : Problem) (f : Findings) (turns : ℕ) (found : IsFound p f turns) where
   pub small : plan_cost p f.plan < 10 ^ 18
-  small = laws.costs p f.plan found.valid found.short
+  small =
+      let little = laws.costs p f.plan found.valid found.short.lawful found.short.few_steps in
+      omega (arith, little)
 
   -- It can be spelled.
 

@@ -1,4 +1,2 @@
 pub mod Sound
 pub mod Certified
-pub mod Writing
-pub mod Fit

@@ -1,3 +1,2 @@
-pub mod Helpers
 pub mod Solutions
 pub mod Certifying

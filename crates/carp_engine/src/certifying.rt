@@ -9,10 +9,11 @@ ghost use Rattle.carp_engine.specs.Certifying.{IsCertified};
 
 use crate::Solved;
 use branch_rules::PriceSet;
-use branch_tree::{Found, short_plans_cost_little};
+use branch_tree::Found;
 use carp_base::{Instance, Memory};
 use cert_format::{Cert, counts_of};
 use cut_pool::ShorePool;
+use short_plans::short_plans_cost_little;
 use std::alloc::Global;
 use task_tours::lawful_cost;
 

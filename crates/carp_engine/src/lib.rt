@@ -1,18 +1,15 @@
 //! Finds plans with the aid of helpers, and a bound on all plans.
 //!
-//! [`solve`] starts with one tour for each required edge, and [`consult`]s helpers, each of which is any [`plan_model::Proposer`], in
-//! rounds. No helper need be trusted: each offer is judged. [`dismiss`] drops those that offered an unlawful plan.
+//! [`solve`] starts with one tour for each required edge, asks helpers in rounds, each of which is any [`plan_model::Proposer`]
+//! (`helper_rounds`), and then searches a tree of decisions by turns (`branch_tree`). No helper need be trusted: each offer is judged.
+//! [`consult`] asks one helper, and [`dismiss`] drops those that offered an unlawful plan.
 #![tactic(auto)]
 
 mod certifying;
-mod consulting;
-mod dismissing;
-mod rounds;
 mod searching;
 mod solving;
 #[cfg(test)]
 mod tests;
 
-pub use consulting::{Heard, consult};
-pub use dismissing::dismiss;
+pub use helper_rounds::{Heard, consult, dismiss};
 pub use solving::{Solved, solve};

@@ -1,6 +1,7 @@
 // Searches for a tree that shows the cost of a plan, within a budget of turns.
 ghost use Rattle.std.specs.Prelude.{◌≡◌, ◌⊎◌, ◌≤◌, IfOk, OnOk};
-ghost use Rattle.branch_tree.specs.Searches.{IsSearch, IsShortPlan, state_of};
+ghost use Rattle.short_plans.specs.Shorts.{IsShortPlan};
+ghost use Rattle.branch_tree.specs.Searches.{IsSearch, state_of};
 ghost use Rattle.branch_tree.specs.Steps.{AreClosed};
 ghost use Rattle.cert_format.specs.Certs.{certificate_in};
 ghost use Rattle.carp_engine.specs.Certifying.{IsSearched};

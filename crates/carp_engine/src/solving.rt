@@ -1,19 +1,19 @@
 // Finds a plan of an instance, and a bound on all its plans.
 ghost use Rattle.std.specs.Prelude.{◌≡◌, ◌⊎◌, ◌+◌, ◌-◌, ◌*◌, ◌/◌, ◌%◌, ◌^◌, ◌≤◌, All, EachIndex, IfOk, OnOk, map, slice_index};
 ghost use Rattle.carp_base.specs.Problem.{IsValid, required_edges};
-ghost use Rattle.carp_engine.specs.Helpers.{IsAtMost};
+ghost use Rattle.helper_rounds.specs.Helpers.{IsAtMost};
 ghost use Rattle.cert_format.specs.Certs.{certificate_in};
 ghost use Rattle.carp_engine.specs.Solutions.{IsSound};
 
-use crate::rounds::ask_all;
 use crate::searching::search;
 use branch_rules::{lean_trees_are_small, tree_bounds};
-use branch_tree::short_plans_cost_little;
 use carp_base::{Instance, Memory};
 use cert_format::{Cert, counts_are_in_range, plans_are_on_edges};
 use cert_lines::{fine_is_spellable, shores_are_fine};
 use deadhead_paths::{single_tours, tidy};
+use helper_rounds::ask_all;
 use plan_model::Proposer;
+use short_plans::short_plans_cost_little;
 use std::alloc::Global;
 use task_tours::cost_distances;
 
@@ -29,15 +29,16 @@ pub struct Solved {
 /// The best plan that the helpers find from one tour for each required edge on, and a bound of all plans that is at least each of the
 /// floors Shell, Ratio and Join (`dual_master::floors`).
 ///
-/// Each helper is seeded with `seed` plus its place in the list, from 0, wrapping. Then the helpers are asked in order, in up to
-/// four rounds; a round in which no offer is better is the last, and after an unlawful offer a helper is not asked again.
-/// The list keeps all its helpers in their order. Without memory the answer is `Memory`.
+/// Each helper is seeded with `seed` plus its place in the list, from 0, wrapping. Then the helpers are asked in up to four rounds
+/// (`helper_rounds::ask_all`); after an unlawful offer a helper is not asked again. The list keeps all its helpers in their order.
+/// Without memory the answer is `Memory`.
 ///
 /// Then a tree of decisions is searched by turns (`branch_tree`), until it shows the cost of the best plan or its turns, its inner nodes and
 /// its leaves that show the cost by themselves, reach the budget, which is 1 to 1,048,576. So the bound is below the cost only where the
-/// budget is spent; a budget of `2^(m (m - 1) / 2 + 5)` with m required edges is never spent.
+/// budget is spent; a budget of `2^(m (m - 1) / 2 + 5)` with m required edges, which a budget can be with at most 6, is never spent.
 ///
-/// Beside what the helpers take, it takes time in proportion to n (n + m) log n with n vertices and m edges, and that of the turns.
+/// Beside what the helpers take, it takes time in proportion to n (n + m) log n with n vertices and m edges, that of the floors
+/// (`dual_master::floors`), and that of the turns.
 pub fn solve<P: Proposer>(
     alloc: Global,
     inst: &Instance,
@@ -50,6 +51,7 @@ pub fn solve<P: Proposer>(
     ensures same { map P.id helpers.new.items ≡ map P.id helpers.old.items }
     ensures seeds { OnOk result (EachIndex helpers.new.items (λ k. slice_index (map P.seed helpers.new.items) k ≡ (seed + k) % 2 ^ 64)) }
     ensures asked { OnOk result (All (λ helper. 1 ≤ P.asked helper) helpers.new.items) }
+    ensures few_rounds { OnOk result (All (λ helper. P.asked helper ≤ 4) helpers.new.items) }
     ensures fouls { OnOk result (All (λ helper. (P.tally helper).fouls ≤ 1) helpers.new.items) }
     ensures least { IfOk result (λ solved. All (λ helper. IsAtMost solved.cert.cost (P.tally helper).least) helpers.new.items) }
     ensures sound { IfOk result (λ solved. IsSound inst.now (certificate_in solved.cert) solved.turns) }

@@ -1,128 +1,12 @@
-// What helpers do to a list, to each other and to the best plan.
-ghost use Rattle.std.specs.Prelude.{◌≡◌, ◌<◌, ◌≤◌, List, Ok, Some};
-ghost use Rattle.carp_base.specs.Problem.{Problem};
-ghost use Rattle.plan_model.specs.declared.step.Step.{Step};
-ghost use Rattle.plan_model.specs.Offers.{AfterOffer};
-ghost use Rattle.plan_model.specs.Verdicts.{IsVerdict};
+// What is found without helpers.
+ghost use Rattle.std.specs.Prelude.{◌≤◌};
 
-use crate::{Heard, consult, dismiss, solve};
+use crate::{Solved, solve};
 use branch_rules::Node;
-use carp_base::{Instance, Memory, RawEdge};
-use deadhead_paths::single_tours;
-use plan_model::{JudgeRoom, Plan, Proposer, Step, Verdict, Walk, judge, verdicts_are_exact};
+use carp_base::{Instance, RawEdge};
+use plan_model::Proposer;
 use std::alloc::Global;
 use std::test::Fail;
-use task_tours::{Standing, cost_distances, lawful_cost};
-
-// What a helper of these tests offers.
-#[derive(Clone, Copy)]
-enum Part {
-    // One walk that serves edge 1 forward and then backward, which is lawful nowhere.
-    TwiceOverOne,
-    // One tour over edges 1, 2 and 3, round a triangle.
-    RoundTour,
-    // The best plan so far.
-    Copy,
-    // Nothing.
-    Nothing,
-    // It has no memory.
-    NoMemory,
-}
-
-#[derive(Drop)]
-struct Actor {
-    standing: Standing,
-    part: Part,
-}
-
-impl Actor {
-    fn new(id: u64, part: Part) -> Actor {
-        Actor {
-            standing: Standing::new(id),
-            part,
-        }
-    }
-
-    // Counts the offer of a plan with this verdict.
-    fn count(&mut self, verdict: Verdict)
-        requires { self.old.standing.fouls < 1000 }
-        ensures id { self.new.standing.id ≡ self.old.standing.id }
-        ensures seed { self.new.standing.seed ≡ self.old.standing.seed }
-        ensures asked { self.new.standing.asked ≡ self.old.standing.asked }
-        ensures offer { (p : Problem) (plan : List (List Step)) → IsVerdict p plan verdict → AfterOffer p (Ok (Some plan)) (⟦<Actor as Proposer>⟧.tally self.old) (⟦<Actor as Proposer>⟧.tally self.new) }
-    {
-        // A verdict other than `Lawful` is of no lawful plan.
-        verdicts_are_exact();
-        match verdict {
-            Verdict::Lawful { cost } => self.standing.offer(cost),
-            _ => {
-                self.standing.fouls += 1;
-                self.standing.last = None;
-            }
-        }
-    }
-}
-
-impl Proposer for Actor {
-    ghost use Rattle.plan_model.specs.Offers.{Tally};
-    ghost use Rattle.task_tours.specs.Standings.{tally_of};
-
-    ghost id = { λ h. h.standing.id };
-
-    ghost seed = { λ h. h.standing.seed };
-
-    ghost asked = { λ h. h.standing.asked };
-
-    ghost tally = { λ h. tally_of h.standing };
-
-    fn id(&self) -> u64 {
-        self.standing.id
-    }
-
-    fn fouls(&self) -> u64 {
-        self.standing.fouls
-    }
-
-    fn reseed(&mut self, word: u64) {
-        self.standing.reseed(word);
-    }
-
-    fn propose(
-        &mut self,
-        alloc: Global,
-        inst: &Instance,
-        best: &Plan,
-    ) -> Result<Option<Plan>, Memory> {
-        self.standing.ask();
-        let plan = match self.part {
-            Part::TwiceOverOne => plan_of(alloc, &[(1, true), (1, false)])?,
-            Part::RoundTour => plan_of(alloc, &[(1, true), (2, true), (3, false)])?,
-            Part::Copy => best.copy(alloc)?,
-            Part::Nothing => return Ok(None),
-            Part::NoMemory => return Err(Memory),
-        };
-        let mut room = JudgeRoom::new(alloc, inst)?;
-        self.count(judge(inst, &plan, &mut room));
-        Ok(Some(plan))
-    }
-}
-
-// The plan of one walk that serves these edges in these directions.
-fn plan_of(alloc: Global, services: &[(u32, bool)]) -> Result<Plan, Memory> {
-    let mut walk = Walk::new(alloc);
-    for &(edge, forward) in services {
-        if walk.len() < 10 {
-            walk.push(Step {
-                edge,
-                forward,
-                served: true,
-            })?;
-        }
-    }
-    let mut plan = Plan::new(alloc);
-    plan.push(walk)?;
-    Ok(plan)
-}
 
 fn street(u: u64, v: u64, cost: u64, demand: u64) -> RawEdge {
     RawEdge {
@@ -147,127 +31,36 @@ fn full_streets(alloc: Global) -> Result<Instance, Fail> {
     Ok(Instance::build(alloc, 3, 1, 2, &required, &[])?)
 }
 
-// What a helper's answer is beside single tours, the cost of the best plan after it, and the helper's fouls.
-fn heard_of(
-    alloc: Global,
-    inst: &Instance,
-    part: Part,
-) -> Result<(Result<Heard, Memory>, u128, u64), Fail> {
-    let dist = cost_distances(alloc, inst)?;
-    let mut best = single_tours(alloc, inst, &dist)?;
-    let mut helper = Actor {
-        standing: Standing::new(5),
-        part,
-    };
-    let heard = consult(alloc, inst, &dist, &mut best, &mut helper);
-    Ok((
-        heard,
-        lawful_cost(alloc, inst, &best)?,
-        helper.standing.fouls,
-    ))
+// What is found by so many turns, without helpers.
+fn solved_by(alloc: Global, inst: &Instance, turns: u64) -> Result<Solved, Fail>
+    requires some_turns { 1 ≤ turns }
+    requires turns_in_range { turns ≤ 1048576 }
+{
+    let mut helpers: Vec<Box<dyn Proposer>> = Vec::new(alloc);
+    Ok(solve(alloc, inst, turns, 1, &mut helpers)?)
 }
 
 #[test]
-fn hears_what_an_offer_is(rt: HostRuntime) -> Result<(), Fail> {
+fn single_tours_stand_without_helpers(rt: HostRuntime) -> Result<(), Fail> {
     let alloc = rt.alloc();
-    let inst = triangle(alloc)?;
+    let solved = solved_by(alloc, &triangle(alloc)?, 1)?;
     assert_eq!(rt;
-        heard_of(alloc, &inst, Part::RoundTour)?,
-        (Ok(Heard::Better), 16, 0)
-    );
-    assert_eq!(rt;
-        heard_of(alloc, &inst, Part::Copy)?,
-        (Ok(Heard::Same), 34, 0)
-    );
-    assert_eq!(rt;
-        heard_of(alloc, &inst, Part::Nothing)?,
-        (Ok(Heard::Same), 34, 0)
-    );
-    assert_eq!(rt;
-        heard_of(alloc, &inst, Part::TwiceOverOne)?,
-        (Ok(Heard::Foul), 34, 1)
-    );
-    assert_eq!(rt;
-        heard_of(alloc, &inst, Part::NoMemory)?,
-        (Err(Memory), 34, 0)
+        (solved.cert.cost, solved.cert.bound, solved.cert.plan.len()),
+        (34, 16, 3)
     );
     Ok(())
 }
 
 #[test]
-fn an_unlawful_walk_is_a_foul(rt: HostRuntime) -> Result<(), Fail> {
+fn one_price_set_proves_full_streets(rt: HostRuntime) -> Result<(), Fail> {
     let alloc = rt.alloc();
-    let inst = full_streets(alloc)?;
-    let mut helpers: Vec<Actor> = Vec::new(alloc);
-    helpers.push(Actor::new(11, Part::TwiceOverOne))?;
-    helpers.push(Actor::new(12, Part::Copy))?;
-    let solved = solve(alloc, &inst, 64, u64::MAX, &mut helpers)?;
+    let solved = solved_by(alloc, &full_streets(alloc)?, 64)?;
     assert_eq!(rt;
         (solved.cert.cost, solved.cert.bound, solved.turns),
         (20, 20, 1)
     );
     assert_eq!(rt; (solved.cert.sets.len(), solved.cert.tree.len()), (1, 1));
     assert_eq!(rt; solved.cert.tree.node(0), Node::Price { set: 1 });
-    assert_eq!(rt; helpers.len(), 2);
-    let (first, second) = (&helpers[0].standing, &helpers[1].standing);
-    assert_eq!(rt;
-        (first.id, first.seed, first.asked, first.fouls),
-        (11, u64::MAX, 1, 1)
-    );
-    assert_eq!(rt;
-        (second.id, second.seed, second.asked, second.fouls),
-        (12, 0, 1, 0)
-    );
-    assert_eq!(rt; second.least, Some(20));
-    dismiss(&mut helpers);
-    assert_eq!(rt; helpers.len(), 1);
-    assert_eq!(rt; helpers[0].standing.id, 12);
-    Ok(())
-}
-
-// The first round has a better plan and the second none, so that there is no third. A foul helper is asked once.
-#[test]
-fn rounds_end_with_the_first_that_is_no_better(rt: HostRuntime) -> Result<(), Fail> {
-    let alloc = rt.alloc();
-    let inst = triangle(alloc)?;
-    let mut helpers: Vec<Actor> = Vec::new(alloc);
-    helpers.push(Actor::new(1, Part::TwiceOverOne))?;
-    helpers.push(Actor::new(2, Part::RoundTour))?;
-    helpers.push(Actor::new(3, Part::Nothing))?;
-    let solved = solve(alloc, &inst, 64, 1, &mut helpers)?;
-    assert_eq!(rt;
-        (solved.cert.cost, solved.cert.bound, solved.turns),
-        (16, 16, 1)
-    );
-    assert_eq!(rt; helpers.len(), 3);
-    let asked = [
-        helpers[0].standing.asked,
-        helpers[1].standing.asked,
-        helpers[2].standing.asked,
-    ];
-    assert_eq!(rt; asked, [1, 2, 2]);
-    // What was counted before is forgotten when a list is solved again.
-    let again = solve(alloc, &inst, 64, 7, &mut helpers)?;
-    assert_eq!(rt; again.cert.cost, 16);
-    assert_eq!(rt; helpers.len(), 3);
-    assert_eq!(rt;
-        (helpers[0].standing.asked, helpers[0].standing.fouls),
-        (1, 1)
-    );
-    assert_eq!(rt; helpers[2].standing.seed, 9);
-    Ok(())
-}
-
-#[test]
-fn single_tours_stand_without_helpers(rt: HostRuntime) -> Result<(), Fail> {
-    let alloc = rt.alloc();
-    let inst = triangle(alloc)?;
-    let mut helpers: Vec<Actor> = Vec::new(alloc);
-    let solved = solve(alloc, &inst, 1, 1, &mut helpers)?;
-    assert_eq!(rt;
-        (solved.cert.cost, solved.cert.bound, solved.cert.plan.len()),
-        (34, 16, 3)
-    );
     Ok(())
 }
 
@@ -289,8 +82,7 @@ fn star_by(alloc: Global, turns: u64) -> Result<(u64, u64), Fail>
     requires turns_in_range { turns ≤ 1048576 }
 {
     let inst = star(alloc)?;
-    let mut helpers: Vec<Actor> = Vec::new(alloc);
-    let solved = solve(alloc, &inst, turns, 1, &mut helpers)?;
+    let solved = solved_by(alloc, &inst, turns)?;
     Ok((solved.cert.cost, solved.cert.bound))
 }
 
@@ -301,21 +93,5 @@ fn turns_close_the_gap(rt: HostRuntime) -> Result<(), Fail> {
     let alloc = rt.alloc();
     assert_eq!(rt; star_by(alloc, 1)?, (1010, 510));
     assert_eq!(rt; star_by(alloc, 32_768)?, (610, 610));
-    Ok(())
-}
-
-#[test]
-fn helpers_stand_behind_boxes(rt: HostRuntime) -> Result<(), Fail> {
-    let alloc = rt.alloc();
-    let inst = triangle(alloc)?;
-    let mut helpers: Vec<Box<dyn Proposer>> = Vec::new(alloc);
-    helpers.push(Box::new(alloc, Actor::new(1, Part::TwiceOverOne))?)?;
-    helpers.push(Box::new(alloc, Actor::new(2, Part::RoundTour))?)?;
-    let solved = solve(alloc, &inst, 64, 1, &mut helpers)?;
-    assert_eq!(rt; (helpers.len(), solved.cert.cost), (2, 16));
-    assert_eq!(rt; (helpers[0].fouls(), helpers[1].fouls()), (1, 0));
-    dismiss(&mut helpers);
-    assert_eq!(rt; helpers.len(), 1);
-    assert_eq!(rt; helpers[0].id(), 2);
     Ok(())
 }

@@ -22,7 +22,7 @@ pub enum ReadFault {
 const PIECE: usize = 65_536;
 
 /// Reads all bytes of a name, where these are at most `limit`. It looks for pieces of 64 KiB at most until a look finds
-/// the end, and answers `Fault` at the first look that fails. Whatever it answers, no count of the shelf falls.
+/// the end, and answers `Fault` at the first look that fails. Whatever it answers, no count of the shelf falls. It takes time and memory in proportion to the bytes.
 ///
 /// Where the shelf tells its contents, these are all bytes of the name, `TooLong` comes exactly where there are more than
 /// `limit` and no look failed, and the shelf holds what it held.
@@ -68,7 +68,7 @@ pub fn read_whole<H: Shelf>(
 }
 
 /// Writes all bytes, or answers the first failure of the sink. Where the sink tells what was written, that is all bytes, or
-/// after a failure a front of them.
+/// after a failure a front of them. It takes time in proportion to the bytes, and no memory.
 pub fn put_all<O: Sink>(out: &mut O, bytes: &[u8]) -> Result<(), SinkFault>
     ensures written { IsTrue O.tells → OnOk result (O.written out.new ≡ O.written out.old ++ bytes.now) }
     ensures front { IsTrue O.tells → OnErr result (WroteFront bytes.now (O.written out.old) (O.written out.new)) }

@@ -10,8 +10,8 @@ pub struct ShelfFault;
 /// A store of named files.
 ///
 /// Contracts see what each name holds, where the type tells it (`None`: the name is not held), and three kinds of
-/// counts, which never fall and stand still at 2^64 - 1: the failed looks of each name, the failed keeps, and the
-/// bytes given so far.
+/// counts, which never fall: the failed looks of each name, the failed keeps, and the bytes given so far. Contracts read a
+/// count of 2^64 - 1 or more as one that rose.
 pub trait Shelf {
     // Whether contents are told, the same for every value of the type.
     ghost tells: { Bool };

@@ -9,7 +9,7 @@ pub struct SinkFault;
 /// An output.
 ///
 /// Contracts see the bytes that were written so far, where the type tells them, and the count of faults, which never
-/// falls and stands still at 2^64 - 1.
+/// falls. They read a count of 2^64 - 1 or more as one that rose.
 pub trait Sink {
     // Whether the written bytes are told, the same for every value of the type.
     ghost tells: { Bool };

@@ -36,7 +36,7 @@ pub record IsLeastTour (s : Support) (branch : List Decision) (set : Prices) (va
 abbrev pub ToursPay : Support → List Decision → Prices → Type 0
 ToursPay s branch set = PaysAtLeast s.problem (λ a b. ¬ (Excluded s.problem branch a b)) (task_adds s.problem set) (price_of (crossing_prices s.problem s.pool set))
 
--- the denominator times the bound less 1
+-- the denominator times one less than the bound
 abbrev pub limit_of : ℕ → ℕ → ℤ
 limit_of unit bound = pos unit *ℤ (pos bound -ℤ pos 1)
 

@@ -1,5 +1,5 @@
 // The nodes of a tree, one after another.
-ghost use Rattle.std.specs.Prelude.{◌≡◌, ◌+◌, ◌-◌, ◌^◌, ◌<◌, ◌≤◌, ◌++◌, ◌∷◌, [], List, IfOk, OnOk, None, false};
+ghost use Rattle.std.specs.Prelude.{◌≡◌, ◌↔◌, ◌+◌, ◌-◌, ◌^◌, ◌<◌, ◌≤◌, ◌++◌, ◌∷◌, [], List, IfOk, IsTrue, OnOk, None, false};
 ghost use Rattle.decision_chains.specs.Pairs.{ArePairsIn, IsPairWithin};
 ghost use Rattle.branch_rules.specs.Limits.{AreShoresIn, IsShoreOf};
 ghost use Rattle.branch_rules.specs.declared.node.Node.{Node};
@@ -8,7 +8,6 @@ ghost use Rattle.cert_checker.specs.Claims.{IsBacked, IsNodeRead, support_in};
 ghost use Rattle.cert_checker.specs.Leaves.{AreLeaves, NodeSays};
 ghost use Rattle.cert_checker.specs.Walks.{HasWalked, IsChecker};
 ghost use Rattle.tree_paths.specs.Paths.{IsOpen};
-ghost use Rattle.std.specs.Prelude.{IsTrue, ◌↔◌};
 
 use crate::claim::Claim;
 use crate::leaves::Leaves;

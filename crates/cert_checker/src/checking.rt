@@ -22,8 +22,8 @@ use std::alloc::Global;
 /// and costs what is stated, and no lawful plan costs less than the bound.
 ///
 /// A node takes the time of what it is tested by (see [`Branch`](branch_rules::Branch)); a price leaf besides that of one filling
-/// of the table, unless the leaf before it has the same set and the same excluded pairs, and that of the distances between all
-/// vertices, unless the leaf before it has the same set. What is held does not grow with the number of nodes.
+/// of the table, unless the price leaf before it has the same set and the same excluded pairs, and that of the distances between all
+/// vertices, unless the price leaf before it has the same set. What is held does not grow with the number of nodes.
 pub fn check(alloc: Global, inst: &Instance, cert: &Cert) -> Result<Answer, Memory>
     requires { IsSpellable (certificate_in cert.now) }
     ensures answer { IfOk result (IsAnswer inst.now (certificate_in cert.now)) }

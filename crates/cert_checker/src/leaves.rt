@@ -37,7 +37,7 @@ pub(crate) struct Filling {
     allowed: Allowed,
 }
 
-/// What is kept from leaf to leaf: consecutive leaves of one set share its prices, and those at which the same pairs are
+/// What is kept from leaf to leaf: consecutive price leaves of one set share its prices, and those at which the same pairs are
 /// excluded share the table as well.
 #[derive(Drop)]
 pub(crate) struct Leaves {
@@ -345,7 +345,7 @@ fn if_negative(number: Option<i128>) -> Option<i128>
     }
 }
 
-// The denominator times the bound less 1.
+// The denominator times one less than the bound.
 fn limit(unit: u64, bound: u64) -> i128
     requires { unit ≤ 1000000 }
     ensures { result ≡ limit_of unit bound }

@@ -12,7 +12,8 @@ pub enum Part {
     Node(u64),
 }
 
-/// The first reason why a certificate is not good. Shores, sets and nodes are counted from 1, nodes in preorder.
+/// The first reason why a certificate is not good. Shores, sets and nodes are counted from 1, nodes in preorder. The numbers of a price
+/// set are in parts of its denominator.
 #[derive(Clone, Copy, Debug, PartialEq, Eq)]
 pub enum Reason {
     /// The plan is not lawful.
@@ -21,7 +22,8 @@ pub enum Reason {
     CostDiffers { stated: u64, found: u128 },
     /// A part that does not fit the instance.
     Misfit(Part),
-    /// The weights of a set take more off the price of crossing an edge than it costs.
+    /// The weights of a set take more off the price of crossing an edge than it costs: the price, which is the cost times the denominator
+    /// less the weights, is below 0.
     WeightTooLarge { set: u64, edge: u32, price: i128 },
     /// A node splits a pair that is determined there, or makes a cut that its shore's numbers or the path leave no room for.
     NotLean { node: u64 },
@@ -31,11 +33,13 @@ pub enum Reason {
     NotFixed { node: u64 },
     /// The set of a leaf has a negative weight on a shore without an upper number there.
     MissingUpper { set: u64, node: u64, shore: u32 },
-    /// With the prices of a leaf a relaxed tour costs less than it earns; this is the least value of such a tour there.
+    /// With the prices of a leaf a relaxed tour costs less than it earns; this is the least value of such a tour there, below 0.
     TourTooCheap { set: u64, node: u64, value: i128 },
-    /// The value of a leaf is not above the limit, which is the denominator times the bound less 1.
+    /// The value of a leaf is not above the limit, which is the denominator times one less than the bound, and of a fixed leaf one less
+    /// than the bound.
     LeafLow { node: u64, value: i128, limit: i128 },
-    /// A number of the instance, of the five by place from 1, is not the one that is stated.
+    /// A number of the instance is not the one that is stated. The places: 1 vertices, 2 edges, 3 required edges, 4 capacity, 5 total
+    /// demand.
     CountsDiffer { place: u64, stated: u64, found: u64 },
 }
 

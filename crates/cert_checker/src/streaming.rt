@@ -49,10 +49,12 @@ const PIECE: usize = 65_536;
 /// Whether the certificate that a name holds is good for an instance, or the first reason why it is not; the answer is that of
 /// [`check`](crate::check) for the certificate of these bytes.
 ///
-/// It looks for pieces of 64 KiB at most until a look finds the end, as [`read_whole`](carp_outside::read_whole) does. What it
-/// holds does not grow with the number of nodes: one piece, what stands before the nodes, one branch, and which child of each node
-/// on the path is being read. A reason waits until the text has ended, since a text with a fault is bad and not rejected. Behind a bad
-/// line it takes the bytes up to the end and keeps nothing of them, so `Read` and `TooLong` come where they come for the whole file.
+/// `limit` is in bytes, below 2^40. It looks for pieces of 64 KiB at most until a look finds the end, as
+/// [`read_whole`](carp_outside::read_whole) does. What it holds does not grow with the number of nodes: one piece, what stands before
+/// the nodes, one branch, and which child of each node on the path is being read. A reason waits until the text has ended, since a text
+/// with a fault is bad and not rejected. Behind a bad line it takes the bytes up to the end and keeps nothing of them, so `Read` and
+/// `TooLong` come where they come for the whole file. Where memory is not to be had it answers `Memory`, whatever the file holds. It takes
+/// the time of `check`, and expected time in proportion to the bytes.
 pub fn check_stream<H: Shelf>(
     alloc: Global,
     inst: &Instance,

@@ -34,9 +34,9 @@ head_of (Bad fault) reader bytes said one apart bad holds says = elim says [
 ]
 head_of OutOfMemory reader bytes said one apart bad holds says = absurd holds
 
-pub head_told : (told : Option (Bor CertHead)) (head : CertHead) (said : LatestFirst) → MatchOption told (head.nodes ≡ 0) (λ x. x.now ≡ head) → IsHeadOf said head → MatchOption told (stated_nodes said ≡ 0) (λ x. IsHeadOf said x.now)
+pub head_told : (told : Option (Bor CertHead)) (head : CertHead) (said : LatestFirst) → MatchOption told (head.nodes ≡ 0) (λ x. (1 ≤ head.nodes) × (x.now ≡ head)) → IsHeadOf said head → MatchOption told (stated_nodes said ≡ 0) (λ x. (1 ≤ stated_nodes said) × IsHeadOf said x.now)
 head_told None head said is h = sym h.nodes ∙ is
-head_told (Some x) head said is h = subst (IsHeadOf said) (sym is) h
+head_told (Some x) head said is h = (subst (λ (n : ℕ). 1 ≤ n) h.nodes is.0, subst (IsHeadOf said) (sym is.1) h)
 
 pub on_ok_then : {A E P Q : Type 0} (r : Result A E) → OnOk r P → (P → Q) → OnOk r Q
 on_ok_then {A} {E} {P} {Q} (Ok x) holds then = then holds

@@ -9,18 +9,10 @@ use Rattle.cert_lines.specs.declared.next.Next.TheVariants.{Nothing}
 use Rattle.cert_lines.specs.Order.{LatestFirst, next_of}
 use Rattle.cert_lines.specs.Texts.{ReadsAs, BreaksAt, IsFaultOf, items_of}
 use Rattle.cert_format.specs.declared.cert_reader.CertReader.{CertReader}
-use Rattle.cert_format.specs.declared.reader.Standing.{Standing}
-use Rattle.cert_format.specs.declared.reader.Standing.TheVariants.{Going, Bad, OutOfMemory}
 
 -- the good lines of the bytes, up to the first bad one, say this
 abbrev pub SaysSoFar : List ℕ → LatestFirst → Type 0
 SaysSoFar bytes said = ((rest : List ℕ) × ReadsAs bytes said rest) ⊎ ((fault : CertFault) × BreaksAt bytes said fault)
-
--- after these bytes the reader stands so: no line is bad, or the first bad one has this fault
-abbrev pub StandsAt : List ℕ → Standing → Type 0
-StandsAt bytes Going = (said : LatestFirst) × (rest : List ℕ) × ReadsAs bytes said rest
-StandsAt bytes (Bad fault) = (said : LatestFirst) × BreaksAt bytes said fault
-StandsAt bytes OutOfMemory = ⊥
 
 -- a line or no line was completed by the last byte: nothing follows its LF
 abbrev pub EndsWithLine : List ℕ → LatestFirst → Type 0

@@ -4,12 +4,12 @@ use cert_lines::Counts;
 use cut_pool::ShorePool;
 use plan_model::Plan;
 
-/// A plan and a lower bound, with what shows that no lawful plan costs less.
+/// A plan and a lower bound, with what is to show it. A `Cert` need not be good, nor such that it can be spelled.
 #[derive(Drop)]
 pub struct Cert {
-    /// The cost of the plan.
+    /// The cost of the plan, as it is stated.
     pub cost: u64,
-    /// The lower bound.
+    /// The lower bound, as it is stated.
     pub bound: u64,
     /// The tours.
     pub plan: Plan,
@@ -26,9 +26,9 @@ pub struct Cert {
 /// A certificate without its nodes: what stands before the first of them.
 #[derive(Drop)]
 pub struct CertHead {
-    /// The cost of the plan.
+    /// The cost of the plan, as it is stated.
     pub cost: u64,
-    /// The lower bound.
+    /// The lower bound, as it is stated.
     pub bound: u64,
     /// The tours.
     pub plan: Plan,
@@ -36,7 +36,7 @@ pub struct CertHead {
     pub shores: ShorePool,
     /// The price sets.
     pub sets: Vec<PriceSet>,
-    /// How many nodes follow, 1 to 2,097,153.
+    /// How many nodes follow, as it is stated; 1 to 2,097,153 where a reader gives it.
     pub nodes: u64,
     /// The numbers of the instance, where the text has them.
     pub counts: Option<Counts>,

@@ -81,7 +81,7 @@ impl Draft {
 
     /// What stands before the first node, where the number of nodes is known.
     pub(crate) fn head(&self) -> Option<&CertHead>
-        ensures { MatchOption result (self.now.head.nodes ≡ 0) (λ head. head.now ≡ self.now.head) }
+        ensures { MatchOption result (self.now.head.nodes ≡ 0) (λ head. (1 ≤ self.now.head.nodes) × (head.now ≡ self.now.head)) }
     {
         if self.head.nodes == 0 {
             return None;
@@ -388,6 +388,7 @@ fn are_prices(services: &[i64]) -> bool
     all_prices(services)
 }
 
+// The same, as the function of the definition.
 fn all_prices(services: &[i64]) -> bool
     ensures { result ≡ list_all price_ok services.now }
 {
@@ -401,6 +402,7 @@ fn are_weights(weights: &[Weight]) -> bool
     all_weights(weights)
 }
 
+// The same, as the function of the definition.
 fn all_weights(weights: &[Weight]) -> bool
     ensures { result ≡ list_all weight_fine weights.now }
 {

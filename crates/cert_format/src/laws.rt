@@ -25,7 +25,7 @@ pub fn counts_keep_good()
     spellable_is_fine();
 }
 
-/// The steps of a lawful plan of a valid instance are on edges of it, whose numbers are in the range of a certificate's text.
+/// The edges of the steps of a lawful plan of a valid instance have numbers from 1 to 4,000, as a certificate's text asks for.
 pub fn plans_are_on_edges()
     ensures { PlansAreOnEdges }
 {}

@@ -54,7 +54,8 @@ impl CertReader {
     /// many it took and the item.
     ///
     /// Its error is the fault of the first bad line, as soon as this line is complete and from then on, or want of memory,
-    /// after which it answers nothing else.
+    /// after which it answers nothing else. All calls together take expected time in proportion to the
+    /// bytes.
     pub fn feed(&mut self, piece: &[u8]) -> Result<(usize, Item), Fail<CertFault>>
         requires { piece.now ≢ [] }
         ensures within { IfOk result (λ (taken, item). (1 ≤ taken) × (taken ≤ length piece.now)) }
@@ -77,7 +78,7 @@ impl CertReader {
     /// What stands before the first node, as soon as the number of nodes was read; nothing after want of memory.
     pub fn head(&self) -> Option<&CertHead>
         ensures there { (bytes : List ℕ) (said : LatestFirst) → HasTaken self.now bytes → SaysSoFar bytes said
-            → MatchOption result (stated_nodes said ≡ 0) (λ head. IsHeadOf said head.now) }
+            → MatchOption result (stated_nodes said ≡ 0) (λ head. (1 ≤ stated_nodes said) × IsHeadOf said head.now) }
         ensures failed { self.now.standing ≡ OutOfMemory → result ≡ None }
     {
         match self.standing {

@@ -15,6 +15,9 @@ use cert_lines::{CertFault, Item, readings_are_unique};
 use std::alloc::Global;
 
 /// The certificate of a text, or the first fault of bytes that are none.
+///
+/// Where memory is not to be had it answers `Memory`. It takes expected time in proportion to the bytes, and memory in proportion to the
+/// bytes and to the number of nodes that they state.
 pub fn read_cert(alloc: Global, bytes: &[u8]) -> Result<Cert, Fail<CertFault>>
     ensures read { IfOk result (λ cert. IsTextOf bytes.now (certificate_in cert)) }
     ensures refused { (fault : Fault) → IsErrOf result (Refused fault) → IsFaultOf bytes.now fault }

@@ -43,7 +43,7 @@ LineIsUnique = (line other : Line) → line_text line ≡ line_text other → li
 abbrev pub LineIsCut : Type 0
 LineIsCut = (line : Line) → slice_split (λ b. b == 32) (line_text line) ≡ words_of line
 
--- no line has an LF
+-- all bytes of a line are from 32 to 122, so that none is an LF
 abbrev pub LineHasNoEnd : Type 0
 LineHasNoEnd = (line : Line) → AllByRecursion (λ b. (32 ≤ b) × (b ≤ 122)) (line_text line)
 
@@ -85,7 +85,7 @@ ReadIsSpellable = (bytes : List ℕ) (c : Certificate) → IsTextOf bytes c → 
 abbrev pub ReadIsSpelled : Type 0
 ReadIsSpelled = (bytes : List ℕ) (c : Certificate) → IsTextOf bytes c → bytes ≡ text_of c
 
--- a certificate with its numbers in range, different shores and a tree in preorder can be spelled
+-- a certificate with its numbers in range, its shores, weights and pairs in order, different shores and a tree in preorder can be spelled
 abbrev pub FineIsSpellable : Type 0
 FineIsSpellable = (c : Certificate) → IsFine c → IsSpellable c
 

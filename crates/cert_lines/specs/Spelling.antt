@@ -54,7 +54,7 @@ abbrev pub AreGood : LatestFirst → List Line → Type 0
 AreGood said [] = Unit {0}
 AreGood said (line ∷ lines) = IsTrue (follows (next_of said) line) × IsInRange said line × Agrees said line × AreGood (line ∷ said) lines
 
--- a certificate that can be spelled: its nodes are one whole tree in preorder, and its numbers are in their ranges
+-- a certificate that can be spelled: its lines follow each other, their numbers are in range, and what they say agrees
 abbrev pub IsSpellable : Certificate → Type 0
 IsSpellable c = AreGood [] (lines_of c)
 
@@ -77,7 +77,8 @@ IsFineNode borders units (Price set) = IsWithin 1 units set
 IsFineNode borders units Void = Unit {0}
 IsFineNode borders units Fixed = Unit {0}
 
--- the numbers of a certificate are in their ranges, its shores are different, and its nodes are those of a tree in preorder
+-- the numbers of a certificate are in their ranges, its shores rise and are different, the weights of its price sets rise and are not 0,
+-- its pairs have the lesser edge first, and its nodes are those of a tree in preorder
 pub record IsFine (c : Certificate) : Type 0 where
   pub counts_in : IfSome c.counts AreCountsInRange
   pub cost_in : c.cost < 10 ^ 18

@@ -1,16 +1,18 @@
 // The size of an instance, as a certificate states it.
 
-/// The numbers of the instance for which a certificate was made. A certificate beside another file is refused by them.
+/// The numbers of the instance for which a certificate was made. A certificate beside a file with other numbers is refused by them.
+///
+/// The ranges are those of a text and of a valid instance.
 #[derive(Clone, Copy, Debug, PartialEq, Eq)]
 pub struct Counts {
     /// The number of vertices, 1 to 1,000.
     pub vertices: u64,
-    /// The number of edges, at most 4,000.
+    /// The number of edges, 0 to 4,000.
     pub edges: u64,
-    /// The number of required edges, at most 600.
+    /// The number of required edges, 0 to 600.
     pub required: u64,
     /// The capacity of a vehicle, 1 to 30,000.
     pub capacity: u64,
-    /// The total demand, at most 18,000,000.
+    /// The total demand, 0 to 18,000,000.
     pub demand: u64,
 }

@@ -102,6 +102,7 @@ fn what_stands_next()
 fn ranges_of_counts_of_lines()
     ensures cost { IsInRange [] (cost 999999999999999999) }
     ensures cost_past { ¬ (IsInRange [] (cost 1000000000000000000)) }
+    ensures bound { IsInRange [] (bound 999999999999999999) }
     ensures bound_past { ¬ (IsInRange [] (bound 1000000000000000000)) }
     ensures tours { IsInRange [] (tours 100000) }
     ensures tours_past { ¬ (IsInRange [] (tours 100001)) }
@@ -112,6 +113,18 @@ fn ranges_of_counts_of_lines()
     ensures nodes { IsInRange [] (nodes 2097153) }
     ensures nodes_past { ¬ (IsInRange [] (nodes 2097154)) }
     ensures no_nodes { ¬ (IsInRange [] (nodes 0)) }
+{}
+
+fn ranges_of_numbers_of_an_instance()
+    ensures greatest { IsInRange [] (counts (record { vertices = 1000; edges = 4000; required = 600; capacity = 30000; demand = 18000000 })) }
+    ensures least { IsInRange [] (counts (record { vertices = 1; edges = 0; required = 0; capacity = 1; demand = 0 })) }
+    ensures no_vertices { ¬ (IsInRange [] (counts (record { vertices = 0; edges = 0; required = 0; capacity = 1; demand = 0 }))) }
+    ensures vertices_past { ¬ (IsInRange [] (counts (record { vertices = 1001; edges = 0; required = 0; capacity = 1; demand = 0 }))) }
+    ensures edges_past { ¬ (IsInRange [] (counts (record { vertices = 1; edges = 4001; required = 0; capacity = 1; demand = 0 }))) }
+    ensures required_past { ¬ (IsInRange [] (counts (record { vertices = 1; edges = 0; required = 601; capacity = 1; demand = 0 }))) }
+    ensures no_capacity { ¬ (IsInRange [] (counts (record { vertices = 1; edges = 0; required = 0; capacity = 0; demand = 0 }))) }
+    ensures capacity_past { ¬ (IsInRange [] (counts (record { vertices = 1; edges = 0; required = 0; capacity = 30001; demand = 0 }))) }
+    ensures demand_past { ¬ (IsInRange [] (counts (record { vertices = 1; edges = 0; required = 0; capacity = 1; demand = 18000001 }))) }
 {}
 
 fn ranges_of_tours()
@@ -149,8 +162,11 @@ fn ranges_of_nodes()
     ensures cut { IsInRange (shore 0 [] ∷ []) (node (Cut 1 1000000)) }
     ensures cut_past { ¬ (IsInRange (shore 0 [] ∷ []) (node (Cut 1 1000001))) }
     ensures no_shore { ¬ (IsInRange [] (node (Cut 1 0))) }
+    ensures shore_zero { ¬ (IsInRange (shore 0 [] ∷ []) (node (Cut 0 1))) }
     ensures set { IsInRange (weights 0 [] ∷ []) (node (Price 1)) }
     ensures no_set { ¬ (IsInRange [] (node (Price 1))) }
+    ensures set_zero { ¬ (IsInRange (weights 0 [] ∷ []) (node (Price 0))) }
+    ensures set_past { ¬ (IsInRange (weights 0 [] ∷ []) (node (Price 2))) }
 {}
 
 fn what_agrees()
@@ -179,6 +195,14 @@ fn a_whole_certificate()
     ensures fine { IsFine triangle }
     ensures spellable { IsSpellable triangle }
     ensures text { IsTextOf triangle_text triangle }
+{}
+
+fn certificates_that_cannot_be_spelled()
+    ensures cost_past { ¬ (IsFine (record triangle { cost = 10 ^ 18 })) }
+    ensures falling_shore { ¬ (IsFine (record triangle { shores = (3 ∷ 2 ∷ []) ∷ [] })) }
+    ensures past_unspellable { ¬ (IsSpellable (record triangle { bound = 10 ^ 18 })) }
+    ensures falling_unspellable { ¬ (IsSpellable (record triangle { shores = (3 ∷ 2 ∷ []) ∷ [] })) }
+    ensures two_trees_unspellable { ¬ (IsSpellable (record triangle { nodes = Price 1 ∷ Price 1 ∷ [] })) }
 {}
 
 #[tactic(auto, unfolding(crate::specs::Numerals::numeral))]

@@ -1,7 +1,7 @@
 // What a reader in pieces gives.
 use branch_rules::Node;
 
-/// What the bytes of one call complete.
+/// What the bytes of one call of a reader in pieces complete (`CertReader::feed` of `cert_format`).
 #[derive(Clone, Copy, Debug, PartialEq, Eq)]
 pub enum Item {
     /// Nothing.

@@ -39,7 +39,7 @@ pub fn numerals_grow()
     ensures signed { SignedNumeralIsUnique }
 {}
 
-/// No two lines have the same bytes, and no line has an LF.
+/// No two lines have the same bytes, and all bytes of a line are from 32 to 122, so that none is an LF.
 pub fn lines_are_unique()
     ensures unique { LineIsUnique }
     ensures whole { LineHasNoEnd }
@@ -50,7 +50,7 @@ pub fn lines_are_cut()
     ensures { LineIsCut }
 {}
 
-/// The lines of bytes are good, or there is a first bad one, and not both; what they say is one, and so is the fault.
+/// Where the lines of bytes are good, none of them is bad; what good lines say is one, and so is the first bad line with its fault.
 pub fn readings_are_unique()
     ensures reading { ReadingIsUnique }
     ensures apart { ReadIsNotBad }
@@ -75,12 +75,13 @@ pub fn read_is_spelled()
     ensures spelled { ReadIsSpelled }
 {}
 
-/// A certificate whose numbers are in range, whose shores are different and whose nodes are a tree in preorder can be spelled.
+/// A certificate can be spelled whose numbers are in range, whose shores rise and are different, whose weights rise and are not 0, whose
+/// pairs have the lesser edge first, and whose nodes are a tree in preorder.
 pub fn fine_is_spellable()
     ensures { FineIsSpellable }
 {}
 
-/// A certificate that can be spelled has its numbers in range, different shores, and the nodes of one tree in preorder.
+/// The other way: a certificate that can be spelled has its numbers in range, different shores, and the nodes of one tree in preorder.
 pub fn spellable_is_fine()
     ensures { SpellableIsFine }
 {}

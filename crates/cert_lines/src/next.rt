@@ -17,17 +17,17 @@ pub enum Next {
     Tour { left: u64 },
     /// How many shores follow.
     Shores,
-    /// A shore; so many are still to come.
+    /// A shore; so many are still to come, this one too.
     Shore { left: u64 },
     /// How many price sets follow.
     Sets,
-    /// The prices of a set; so many sets are still to come.
+    /// The prices of a set; so many sets are still to come, this one too.
     Prices { left: u64 },
-    /// The weights of the set whose prices stand on the line before.
+    /// The weights of the set whose prices stand on the line before; so many sets are still to come, this one too.
     Weights { left: u64 },
     /// How many nodes follow.
     Nodes,
-    /// A node; so many nodes, and so many whole subtrees, are still to come.
+    /// A node; so many nodes, and so many whole subtrees, are still to come, this one and its subtree too.
     Node { left: u64, open: u64 },
     /// The line `end`.
     End,

@@ -1,4 +1,3 @@
 mod Preorders
 mod Parts
 mod Copying
-mod PlanCosts

@@ -22,8 +22,11 @@ use tree_transfer::{carry_tree, greatest_bound};
 /// children. The bound is the greatest, up to the cost, that the tree shows, and no lower than before. Each tour keeps its services in their order and
 /// direction, is cut where the next service would pass the capacity, and is joined again by least paths; so the cost may rise.
 ///
-/// Its error says only that memory was not to be had. It takes the time of a check of the nodes of the tree without the price sets, of least paths
-/// between all vertices, and of the steps of both plans.
+/// `before` and `edits` tell only what the certificate was good for and what was edited; they are not read. Its error says only that memory was not
+/// to be had.
+///
+/// With n nodes, m required edges, d decisions on a path, k weights in a set, v vertices and e edges it takes time in proportion to
+/// n (m * m + d + (m + d) k) and v (v + e) log v, and to the steps of both plans; memory for the new certificate and a table of v * v.
 pub fn carry(
     alloc: Global,
     before: &Instance,

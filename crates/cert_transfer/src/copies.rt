@@ -8,7 +8,7 @@ use carp_base::{Fail, Memory};
 use cut_pool::{Shore, ShorePool};
 use std::alloc::Global;
 
-/// The same shores, in the same order.
+// The same shores, in the same order.
 pub(crate) fn copy_pool(alloc: Global, pool: &ShorePool) -> Result<ShorePool, Memory>
     ensures { IfOk result (λ copy. copy ≡ pool.now) }
 {
@@ -41,7 +41,7 @@ fn copy_shore(alloc: Global, shore: &Shore) -> Result<Shore, Memory>
     Shore::from_list(alloc, &vertices)
 }
 
-/// The same price sets, in the same order.
+// The same price sets, in the same order.
 pub(crate) fn copy_sets(alloc: Global, sets: &[PriceSet]) -> Result<Vec<PriceSet>, Memory>
     ensures { IfOk result (λ copy. copy.items ≡ sets.now) }
 {

@@ -96,10 +96,15 @@ longer_than : (front rest : List ℕ) → rest ≢ [] → length front < length 
 longer_than front [] some = absurd (some refl)
 longer_than front (x ∷ rest) some = omega (arith, length-append front (x ∷ rest))
 
+-- a long is_one does not begin with `0`
+long_first : (front : List ℕ) → IsNumeral front → 19 ≤ length front → get_or front 0 0 ≢ 48
+long_first [] is_one long = absurd is_one
+long_first (c ∷ cs) is_one long = λ e. (let none : cs ≡ [] = is_one.1 e in omega (arith, long, ap length none))
+
 -- a is_one of which not all is kept spells a number past the limit
-pub natural_long : {front text : List ℕ} {more digits : Bool} → IsCut 19 front more digits text → more ≡ true → IsNumeral front → digits ≡ true → get_or front 0 0 ≢ 48 → IsNatural text limit
-natural_long {front} {text} {more} {digits} cut goes begins all other =
-    let whole : IsNumeralCut front more digits = record { is_one = begins; digits = all; more = λ e. absurd (other e) } in
+pub natural_long : {front text : List ℕ} {more digits : Bool} → IsCut 19 front more digits text → more ≡ true → IsNumeral front → digits ≡ true → IsNatural text limit
+natural_long {front} {text} {more} {digits} cut goes begins all =
+    let whole : IsNumeralCut front more digits = record { is_one = begins; digits = all; more = λ e. absurd (long_first front begins (cut.long goes) e) } in
     let is_one : IsNumeral text = cut_numeral cut whole in
     let spelled : text ≡ numeral (digits_value 10 text) = numeral_spells text is_one in
     let long : length front < length text = subst (λ (x : List ℕ). length front < length x) (sym cut.parts) (longer_than front cut.rest (cut.longer goes)) in

@@ -1,7 +1,7 @@
 //! A word of a certificate's text, what stands between two blanks, that comes in pieces.
 //!
 //! [`Word`] holds a word of any length in a few bytes. At its end it says whether it is a keyword, a number or a step; a number past
-//! every limit is told by a number at the end of the range.
+//! 10^18, and an edge of a step past 1,000,000, is told as that.
 #![tactic(auto)]
 
 #[cfg(test)]

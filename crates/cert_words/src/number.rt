@@ -23,9 +23,6 @@ pub(crate) fn natural_in(front: &[u8], more: bool, digits: bool) -> Option<u64>
     if !more {
         return Some(value_of(front));
     }
-    if front[0] == b'0' {
-        return None;
-    }
     Some(LIMIT)
 }
 

@@ -58,7 +58,7 @@ impl Word {
         self.kept.as_slice().is_empty()
     }
 
-    /// Whether it is just these bytes, fewer than 20.
+    /// Whether it is just the bytes of a keyword, which has fewer than 20.
     pub fn is(&self, keyword: &[u8]) -> bool
         requires { length keyword.now < 20 }
         ensures { (text : List ℕ) → HoldsWord self.now text → (IsTrue result ↔ (text ≡ keyword.now)) }
@@ -66,7 +66,8 @@ impl Word {
         !self.more && self.kept.as_slice() == keyword
     }
 
-    /// The number that it spells, `0` or digits of which the first is not `0`; a number past 10^18 is told as 10^18.
+    /// The number that it spells, `0` or digits of which the first is not `0`, and `None` where it spells none; a number past 10^18 is told
+    /// as 10^18.
     pub fn natural(&self) -> Option<u64>
         ensures small { IfSome result (λ told. told ≤ limit) }
         ensures told { (text : List ℕ) → HoldsWord self.now text → MatchOption result (IsNoNatural text) (IsNatural text) }
@@ -74,8 +75,8 @@ impl Word {
         natural_in(self.kept.as_slice(), self.more, self.digits)
     }
 
-    /// The whole number that it spells, a number or `-` and a number other than `0`; a number past 10^18 either way is told as
-    /// 10^18 on its side of 0.
+    /// The whole number that it spells, a number or `-` and a number other than `0`, and `None` where it spells none; a number past 10^18
+    /// either way is told as 10^18 on its side of 0.
     pub fn whole(&self) -> Option<i64>
         ensures { (text : List ℕ) → HoldsWord self.now text → MatchOption result (IsNoWhole text) (IsWhole text) }
     {
@@ -91,7 +92,8 @@ impl Word {
         Some(-(size as i64))
     }
 
-    /// The step that it spells, a mark and the number of an edge; an edge past 1,000,000 is told as 1,000,000.
+    /// The step that it spells, a mark and the number of an edge, and `None` where it spells none; an edge past 1,000,000 is told as
+    /// 1,000,000.
     pub fn step(&self) -> Option<Step>
         ensures { (text : List ℕ) → HoldsWord self.now text → MatchOption result (IsNoStep text) (IsStep text) }
     {

@@ -4,7 +4,7 @@ ghost use Rattle.chain_plans.specs.Laws.{FixedValueIsUnique, FixedValuesCompare}
 use decision_chains::yes_pairs_join;
 
 /// The fixed value of a branch does not depend on the edges by which its chains are named: a branch has at most one, and where each
-/// chain costs no more than in another instance, neither does their sum.
+/// chain costs no more than in another instance with as many required edges and the same yes pairs, neither does their sum.
 pub fn fixed_values_compare()
     ensures compare { FixedValuesCompare }
     ensures unique { FixedValueIsUnique }

@@ -20,6 +20,7 @@ use Rattle.dat_text.specs.Text as instances
 use Rattle.dat_text.specs.declared.fault.DatFault.{DatFault}
 use Rattle.command_files.specs.Files.{Holds, IsBadCertificate, IsBadInstance, IsGoodText, IsInstance}
 use Rattle.command_words.specs.Commands.{Source}
+use Rattle.command_files.specs.declared.reading.Stated.{Stated}
 use Rattle.command_files.specs.Reads.{IsAcceptedText, IsFileRead, IsOfBytes, IsParsed, accepted_of}
 use Rattle.command_files.specs.declared.status.Status.{Status}
 use Rattle.command_files.specs.declared.status.Status.TheVariants.{BadCertificate, BadInstance, Rejected}
@@ -93,7 +94,7 @@ file_faulty {X} {source = source} {contents = contents} apart unique fault is =
 
 -- the certificate of a file was checked
 pub file_checked : {held : Bool} {source : Source} {contents : List ℕ → Option (List ℕ)} {lb ln : List ℕ → ℕ} {gb gn : ℕ} {p : Problem} → AreApart → (checked : Checked)
-    (r : Result Checked (Fail Status)) → r ≡ accepted_of checked checked.answer → (IsTrue held → Holds source contents (λ bytes. IsChecked p bytes checked)) → IsCheckedSome p checked
+    (r : Result Stated (Fail Status)) → r ≡ accepted_of checked checked.answer → (IsTrue held → Holds source contents (λ bytes. IsChecked p bytes checked)) → IsCheckedSome p checked
     → IsFileRead held source contents lb ln gb gn (IsAcceptedText p) (IsBadCertificate p) (IsGoodText p) r
 file_checked {held} {source} {contents} {lb} {ln} {gb} {gn} {p} laws checked r is told some =
     subst (IsFileRead held source contents lb ln gb gn (IsAcceptedText p) (IsBadCertificate p) (IsGoodText p)) (sym is)
@@ -103,7 +104,7 @@ file_checked {held} {source} {contents} {lb} {ln} {gb} {gn} {p} laws checked r i
       parsed bytes of = by checked.answer of.answer where
         by : (a : Answer) → IsAnswer p of.certificate a → IsParsed bytes (IsAcceptedText p) (IsBadCertificate p) (IsGoodText p) (accepted_of checked a)
         by answers.Accepted good =
-            accepted laws bytes of.certificate checked of.text good (record { certificate = of.certificate; text = of.text; good = good; cost = of.cost; bound = of.bound; plan = of.plan })
+            accepted laws bytes of.certificate (record { cost = checked.cost; bound = checked.bound; plan = checked.plan }) of.text good (record { certificate = of.certificate; text = of.text; good = good; cost = of.cost; bound = of.bound; plan = of.plan })
         by (answers.Rejected reason) first = rejected laws bytes of.certificate reason of.text first
 
       some_of : (a : Answer) → IsAnswer p some.is.certificate a → IfOk (accepted_of checked a) (λ x. (bytes : List ℕ) × IsAcceptedText p bytes x)

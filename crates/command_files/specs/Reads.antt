@@ -20,6 +20,7 @@ use Rattle.postman.specs.Rounds.{IsShownRound}
 use Rattle.postman.specs.declared.fault.PostmanFault.{PostmanFault}
 use Rattle.postman.specs.declared.fault.PostmanFault.TheVariants as faults
 use Rattle.command_words.specs.Commands.{Source}
+use Rattle.command_files.specs.declared.reading.Stated.{Stated}
 use Rattle.command_files.specs.declared.rounds.Laid.{Laid}
 use Rattle.command_files.specs.Files.{Holds, IsBadFile, HasLimit, RoseAtSome}
 use Rattle.command_files.specs.declared.status.Status.{Status}
@@ -74,18 +75,18 @@ NoneIsBad bytes status = ⊥
 abbrev pub EachIsGood : List ℕ → Type 0
 EachIsGood bytes = Unit {0}
 
--- what was checked is of a good certificate with this text
-pub record IsAcceptedText (p : Problem) (bytes : List ℕ) (checked : Checked) : Type 0 where
+-- a good certificate with this text states this
+pub record IsAcceptedText (p : Problem) (bytes : List ℕ) (stated : Stated) : Type 0 where
   pub certificate : Certificate
   pub text : certificates.IsTextOf bytes certificate
   pub good : IsGood p certificate
-  pub cost : checked.cost ≡ certificate.cost
-  pub bound : checked.bound ≡ certificate.bound
-  pub plan : checked.plan ≡ certificate.plan
+  pub cost : stated.cost ≡ certificate.cost
+  pub bound : stated.bound ≡ certificate.bound
+  pub plan : stated.plan ≡ certificate.plan
 
 -- what was checked, or why it is rejected
-abbrev pub accepted_of : Checked → Answer → Result Checked (Fail Status)
-accepted_of checked answers.Accepted = Ok checked
+abbrev pub accepted_of : Checked → Answer → Result Stated (Fail Status)
+accepted_of checked answers.Accepted = Ok (record { cost = checked.cost; bound = checked.bound; plan = checked.plan })
 accepted_of checked (answers.Rejected reason) = Err (Refused (Rejected reason))
 
 -- the instance with this text, and a least round of it

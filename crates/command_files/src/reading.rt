@@ -19,15 +19,30 @@ use cert_checker::{
 use cert_format::{Cert, read_cert};
 use cert_lines::{read_is_spelled, texts_are_unique};
 use dat_text::{read_dat, readings_are_unique};
+use plan_model::Plan;
 use std::alloc::Global;
 
-/// The most bytes of an instance file.
+/// The most bytes of an instance file; contracts have the number from `instance_at`.
 pub const INSTANCE_LIMIT: u64 = 4_194_304;
 
-/// The most bytes of a certificate.
+/// The most bytes of a certificate; contracts have the number from `certificate_at`.
 pub const CERTIFICATE_LIMIT: u64 = 268_435_456;
 
+/// What a certificate states that is good for its instance.
+#[derive(Drop)]
+pub struct Stated {
+    /// The cost of its plan.
+    pub cost: u64,
+    /// Its lower bound.
+    pub bound: u64,
+    /// Its plan.
+    pub plan: Plan,
+}
+
 /// Reads the instance that a file describes.
+///
+/// It is refused with [`Status::ReadFault`], [`Status::TooLong`] with [`INSTANCE_LIMIT`], or [`Status::BadInstance`]. `Fail::Memory` says only that memory was not to be had. It takes
+/// time and memory in proportion to the bytes.
 pub fn read_instance<H: Shelf>(
     alloc: Global,
     shelf: &mut H,
@@ -45,13 +60,16 @@ pub fn read_instance<H: Shelf>(
     }
 }
 
-/// Whether the certificate of a file is good for an instance; its nodes are not held.
+/// What the certificate of a file states, where it is good for the instance; its nodes are not held.
+///
+/// It is refused with [`Status::ReadFault`], [`Status::TooLong`] with [`CERTIFICATE_LIMIT`], [`Status::BadCertificate`] or [`Status::Rejected`]. `Fail::Memory` says only that memory was not
+/// to be had. It takes the time of [`cert_checker::check_stream`], and memory that does not grow with the nodes.
 pub fn check_file<H: Shelf>(
     alloc: Global,
     inst: &Instance,
     shelf: &mut H,
     file: &str,
-) -> Result<Checked, Fail<Status>>
+) -> Result<Stated, Fail<Status>>
     ensures read { IsFileRead H.tells (certificate_at file.now) (H.contents shelf.old) (H.failed_looks shelf.old) (H.failed_looks shelf.new) (H.given shelf.old) (H.given shelf.new) (IsAcceptedText inst.now) (IsBadCertificate inst.now) (IsGoodText inst.now) result }
     ensures contents { IsTrue H.tells → SameContents (H.contents shelf.old) (H.contents shelf.new) }
     ensures keeps { H.failed_keeps shelf.new ≡ H.failed_keeps shelf.old }
@@ -74,16 +92,22 @@ pub fn check_file<H: Shelf>(
 }
 
 // What was checked, where the answer is good.
-fn accept(checked: Checked) -> Result<Checked, Fail<Status>>
+fn accept(checked: Checked) -> Result<Stated, Fail<Status>>
     ensures { result ≡ accepted_of checked checked.answer }
 {
     match checked.answer {
-        Answer::Accepted => Ok(checked),
+        Answer::Accepted => Ok(Stated {
+            cost: checked.cost,
+            bound: checked.bound,
+            plan: checked.plan,
+        }),
         Answer::Rejected(reason) => Err(Fail::Refused(Status::Rejected(reason))),
     }
 }
 
 /// Reads the certificate of a file, which is good for the instance.
+///
+/// It is refused as by [`check_file`], and takes the time of reading and of [`cert_checker::check`], and memory in proportion to the bytes.
 pub fn read_good<H: Shelf>(
     alloc: Global,
     inst: &Instance,
@@ -102,6 +126,8 @@ pub fn read_good<H: Shelf>(
 }
 
 /// All bytes of a file.
+///
+/// It is refused with [`Status::ReadFault`], or [`Status::TooLong`] with the limit. It takes time and memory in proportion to the bytes.
 pub fn read_file<H: Shelf>(
     alloc: Global,
     shelf: &mut H,
@@ -124,7 +150,7 @@ pub fn read_file<H: Shelf>(
     }
 }
 
-/// The instance that the bytes of a file describe.
+/// The instance that the bytes of a file describe. It is refused with [`Status::BadInstance`].
 pub fn parse_instance(alloc: Global, bytes: &[u8]) -> Result<Instance, Fail<Status>>
     requires { length bytes.now < 2 ^ 32 }
     ensures { IsParsed bytes.now IsTextOf IsBadInstance IsInstance result }
@@ -137,7 +163,7 @@ pub fn parse_instance(alloc: Global, bytes: &[u8]) -> Result<Instance, Fail<Stat
     }
 }
 
-/// The certificate of the bytes of a file, which is good for the instance.
+/// The certificate of the bytes of a file, which is good for the instance. It is refused with [`Status::BadCertificate`] or [`Status::Rejected`].
 pub fn parse_good(alloc: Global, inst: &Instance, bytes: &[u8]) -> Result<Cert, Fail<Status>>
     ensures { IsParsed bytes.now (IsGoodCert inst.now) (IsBadCertificate inst.now) (IsGoodText inst.now) result }
 {

@@ -21,11 +21,16 @@ use task_tours::cost_distances;
 /// An instance, and a least round of it.
 #[derive(Drop)]
 pub struct Laid {
+    /// The instance of the file.
     pub inst: Instance,
+    /// A least closed walk over its required edges.
     pub round: Round,
 }
 
 /// Reads the instance that a file describes, and lays a least round over its required edges.
+///
+/// It is refused with [`Status::ReadFault`], [`Status::TooLong`] with [`INSTANCE_LIMIT`], [`Status::BadInstance`] or [`Status::NotJoined`]. `Fail::Memory` says only that memory was not
+/// to be had. It takes the time of reading, of least paths between all vertices and of [`postman::postman`].
 pub fn read_round<H: Shelf>(alloc: Global, shelf: &mut H, file: &str) -> Result<Laid, Fail<Status>>
     ensures read { IsFileRead H.tells (instance_at file.now) (H.contents shelf.old) (H.failed_looks shelf.old) (H.failed_looks shelf.new) (H.given shelf.old) (H.given shelf.new) IsRoundOf IsBadRound IsJoinedText result }
     ensures contents { IsTrue H.tells → SameContents (H.contents shelf.old) (H.contents shelf.new) }

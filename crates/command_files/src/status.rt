@@ -9,9 +9,9 @@ use instance_edits::EditFault;
 /// How a run ends.
 #[derive(Clone, Copy, Debug, PartialEq, Eq)]
 pub enum Status {
-    /// A plan was found, and its cost is the bound.
+    /// A plan was found whose cost is the bound, or a fleet whose number of vehicles is.
     Proven,
-    /// A plan was found, and its cost is above the bound.
+    /// A plan was found whose cost is above the bound, or a fleet with more vehicles than the bound.
     Gap,
     /// The certificate is good.
     Accepted,
@@ -42,7 +42,7 @@ pub enum Status {
 impl Status {
     ghost use Rattle.command_files.specs.Codes.{code_of};
 
-    /// The status code of the process: 0 where the command was done, 1 where a plan was found with a gap, 2 where a certificate was
+    /// The status code of the process: 0 where the command was done, 1 where a plan or a fleet was found with a gap, 2 where a certificate was
     /// rejected, and from 3 to 11 otherwise.
     pub fn code(&self) -> u8
         ensures { result ≡ code_of self.now }

@@ -12,12 +12,12 @@ use Rattle.cert_lines.specs.Spelling.{IsSpellable}
 use Rattle.cert_format.specs.Certs.{certificate_in}
 use Rattle.cert_format.specs.Good.{CountsKeepGood, GoodIsProof, IsGood, with_counts}
 use Rattle.cert_format.specs.declared.cert.Cert.{Cert}
-use Rattle.cert_checker.specs.declared.streaming.Checked.{Checked}
 use Rattle.command_words.specs.Commands.{Command, Source, instance_at, certificate_at}
 use Rattle.command_files.specs.Files.{Holds}
 use Rattle.command_files.specs.Reads.{IsTried, IsAcceptedText, IsGoodCert}
+use Rattle.command_files.specs.declared.reading.Stated.{Stated}
 use Rattle.command_files.specs.declared.status.Status.{Status}
-use Rattle.command_jobs.specs.Jobs.{AreCertified, WasChecked, HasPlan, WasRenewed}
+use Rattle.command_jobs.specs.Jobs.{AreCertified, AreProved, WasChecked, HasPlan, WasRenewed}
 use Rattle.command_jobs.proofs.Results.{made}
 
 -- what is there, and that it is
@@ -38,17 +38,17 @@ module _ {file cert : List ℕ} {contents : List ℕ → Option (List ℕ)} (p :
     proof = proves p c valid good;
   }
 
-  pub was_checked : (checked : Checked) → Holds (certificate_at cert) contents (λ bytes. IsAcceptedText p bytes checked) → WasChecked file cert contents checked
-  was_checked checked accepted = with_some (contents cert) accepted (λ bytes held text. record {
+  pub was_checked : (stated : Stated) → Holds (certificate_at cert) contents (λ bytes. IsAcceptedText p bytes stated) → WasChecked file cert contents stated.cost stated.bound
+  was_checked stated accepted = with_some (contents cert) accepted (λ bytes held text. record {
     instance = p;
     certificate = text.1.certificate;
     certified = certified bytes text.1.certificate held text.0 text.1.text text.1.good;
-    cost = text.1.cost;
-    bound = text.1.bound;
+    cost_is = text.1.cost;
+    bound_is = text.1.bound;
   })
 
-  pub has_plan : (checked : Checked) → Holds (certificate_at cert) contents (λ bytes. IsAcceptedText p bytes checked) → HasPlan file cert contents p checked.plan
-  has_plan checked accepted = with_some (contents cert) accepted (λ bytes held text. record {
+  pub has_plan : (stated : Stated) → Holds (certificate_at cert) contents (λ bytes. IsAcceptedText p bytes stated) → HasPlan file cert contents p stated.plan
+  has_plan stated accepted = with_some (contents cert) accepted (λ bytes held text. record {
     certificate = text.1.certificate;
     certified = certified bytes text.1.certificate held text.0 text.1.text text.1.good;
     plan_is = text.1.plan;
@@ -64,9 +64,21 @@ module _ {file cert : List ℕ} {contents : List ℕ → Option (List ℕ)} (p :
     still_good = (keep p (certificate_in good) valid text.1.good text.1.spellable).0;
   })
 
+-- what an accepted certificate states is proved
+pub are_proved : {p : Problem} → IsValid p → GoodIsProof → (stated : Stated) → (bytes : List ℕ) × IsAcceptedText p bytes stated → AreProved stated.cost stated.bound
+are_proved {p} valid proves stated (bytes, text) = record {
+  instance = p;
+  valid = valid;
+  certificate = text.certificate;
+  good = text.good;
+  proof = proves p text.certificate valid text.good;
+  cost_is = text.cost;
+  bound_is = text.bound;
+}
+
 -- a checked plan is lawful
-pub lawful_plan : {p : Problem} (checked : Checked) → (bytes : List ℕ) × IsAcceptedText p bytes checked → IsLawful p checked.plan
-lawful_plan {p} checked (bytes, text) = subst (IsLawful p) (sym text.plan) text.good.lawful
+pub lawful_plan : {p : Problem} (stated : Stated) → (bytes : List ℕ) × IsAcceptedText p bytes stated → IsLawful p stated.plan
+lawful_plan {p} stated (bytes, text) = subst (IsLawful p) (sym text.plan) text.good.lawful
 
 -- a renewed certificate can be spelled
 pub spelled_again : {p : Problem} → IsValid p → CountsKeepGood → (good renewed : Cert) → certificate_in renewed ≡ with_counts p (certificate_in good)

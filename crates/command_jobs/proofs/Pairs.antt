@@ -12,7 +12,7 @@ use Rattle.command_files.specs.Files.{Holds, IsInstance, IsBadInstance, IsGoodTe
 use Rattle.command_files.specs.Reads.{IsTried, IsFileRead}
 use Rattle.command_files.specs.declared.status.Status.{Status}
 use Rattle.command_files.specs.declared.status.Status.TheVariants.{ReadFault}
-use Rattle.command_jobs.specs.Inputs.{IsBadPair, IsGoodPair}
+use Rattle.command_jobs.specs.Inputs.{IsBadPair, IsGoodPair, IsUnreadPair}
 use Rattle.command_jobs.proofs.Results.{again, failed, made, of_both, of_some}
 
 -- counts that rose later rose
@@ -143,3 +143,24 @@ second_decides {X} {held} {file} {cert} {contents} {lb} {lm} {ln} {gb} {gm} {gn}
 
   one : IsTrue held → (q : Problem) → Holds (instance_at file) contents (λ bytes. IsTextOf bytes q) → q ≡ p
   one told q read = of_both (contents file) read (first.made told) (λ bytes other own. unique bytes q p other.1 own.1)
+
+-- a file that could not be read
+pub unread_here : {X Y : Type 0} {held : Bool} {source : Source} {contents : List ℕ → Option (List ℕ)} {lb ln : List ℕ → ℕ} {gb gn : ℕ}
+    {Is : List ℕ → X → Type 0} {Bad : List ℕ → Status → Type 0} {Good : List ℕ → Type 0} (f : Fail Status)
+    → IsFileRead held source contents lb ln gb gn Is Bad Good (failed X f) → IsErrOf (failed Y f) (Refused ReadFault) → Rose (lb source.name) (ln source.name)
+unread_here f file e = only (file.tried.read (again e)) where
+  only : {P : Type 0} → P ⊎ ⊥ → P
+  only (inl rose) = rose
+  only (inr none) = absurd none
+
+-- the second of two files could not be read, and the first is an instance
+pub second_unread : {X Y : Type 0} {held : Bool} {file cert : List ℕ} {contents later : List ℕ → Option (List ℕ)} {lb lm ln : List ℕ → ℕ} {gb gm gn : ℕ}
+    {Is : List ℕ → X → Type 0} {Bad : List ℕ → Status → Type 0} {Good : List ℕ → Type 0} (p : Problem) (f : Fail Status)
+    → IsFileRead held (instance_at file) contents lb lm gb gm IsTextOf IsBadInstance IsInstance (made Problem p)
+    → IsFileRead held (certificate_at cert) later lm ln gm gn Is Bad Good (failed X f) → ((name : List ℕ) → lb name ≤ lm name)
+    → IsTrue held → IsErrOf (failed Y f) (Refused ReadFault) → IsUnreadPair file cert contents lb ln
+second_unread {file = file} {cert = cert} {contents = contents} {lb = lb} {lm = lm} {ln = ln} p f first second risen told e =
+    inr (
+      of_some (contents file) (first.made told) (λ bytes held. (held.0, record { instance = p; text = held.1 })),
+      rose_since 1 (lb cert) (lm cert) (ln cert) (risen cert) (unread_here f second e),
+    )

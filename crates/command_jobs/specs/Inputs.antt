@@ -1,11 +1,12 @@
 -- When what the files of a command hold has it refuse, and when it can be done.
 use Rattle.std.specs.Prelude.{ℕ, List, Option, ◌⊎◌}
 use Rattle.carp_base.specs.Problem.{Problem}
+use Rattle.carp_outside.specs.Causes.{Rose}
 use Rattle.dat_text.specs.Text.{IsTextOf}
 use Rattle.command_words.specs.Commands.{Command, Solve, Check, Sheet, Make, Drill, Upgrade, Postman, Fleet, Edit, instance_at, certificate_at}
 use Rattle.command_files.specs.Files.{Holds, IsInstance, IsBadInstance, IsGoodText, IsBadCertificate, IsBadFile, IsBadRound, IsJoinedText}
 use Rattle.command_files.specs.declared.status.Status.{Status}
-use Rattle.edit_files.specs.Edited.{AreBadFiles, AreGoodFiles}
+use Rattle.edit_files.specs.Edited.{AreBadFiles, AreGoodFiles, AreUnread}
 
 -- the first file is the text of an instance, and the second is refused so for it
 pub record IsBadSecond (file cert : List ℕ) (contents : List ℕ → Option (List ℕ)) (status : Status) : Type 0 where
@@ -46,3 +47,19 @@ CanBeDone (Upgrade file cert renewed) contents = IsGoodPair file cert contents
 CanBeDone (Postman file) contents = Holds (instance_at file) contents IsJoinedText
 CanBeDone (Fleet file turns) contents = Holds (instance_at file) contents IsInstance
 CanBeDone (Edit file cert edits edited carried) contents = AreGoodFiles file cert edits contents
+
+-- a look failed at the first of two files, or at the second one, where the first is the text of an instance
+abbrev pub IsUnreadPair : (file cert : List ℕ) → (List ℕ → Option (List ℕ)) → (List ℕ → ℕ) → (List ℕ → ℕ) → Type 0
+IsUnreadPair file cert contents before now = Rose (before file) (now file) ⊎ (Holds (instance_at file) contents IsInstance × Rose (before cert) (now cert))
+
+-- a look failed at one of the files of a command, those before it being good, or, of an edit, held and not too long
+abbrev pub IsUnread : Command → (List ℕ → Option (List ℕ)) → (List ℕ → ℕ) → (List ℕ → ℕ) → Type 0
+IsUnread (Solve file cert turns seed) contents before now = Rose (before file) (now file)
+IsUnread (Check file cert) contents before now = IsUnreadPair file cert contents before now
+IsUnread (Sheet file cert) contents before now = IsUnreadPair file cert contents before now
+IsUnread (Make file seed) contents before now = ⊥
+IsUnread (Drill turns seed) contents before now = ⊥
+IsUnread (Upgrade file cert renewed) contents before now = IsUnreadPair file cert contents before now
+IsUnread (Postman file) contents before now = Rose (before file) (now file)
+IsUnread (Fleet file turns) contents before now = Rose (before file) (now file)
+IsUnread (Edit file cert edits edited carried) contents before now = AreUnread file cert edits contents before now

@@ -1,6 +1,6 @@
 -- The job of a command, and what is read for it.
 use Rattle.std.specs.Prelude.{◌≡◌, ℕ, Bool, List, [], Option, IsTrue}
-use Rattle.carp_base.specs.Problem.{Problem}
+use Rattle.carp_base.specs.Problem.{Problem, IsValid}
 use Rattle.plan_model.specs.Plans.{IsLawful}
 use Rattle.plan_model.specs.declared.step.Step.{Step}
 use Rattle.dat_text.specs.Text.{IsTextOf}
@@ -10,7 +10,6 @@ use Rattle.cert_lines.specs.Texts as certificates
 use Rattle.cert_format.specs.Certs.{certificate_in}
 use Rattle.cert_format.specs.Good.{IsGood, IsProof, with_counts}
 use Rattle.cert_format.specs.declared.cert.Cert.{Cert}
-use Rattle.cert_checker.specs.declared.streaming.Checked.{Checked}
 use Rattle.command_words.specs.Commands.{Command, Solve, Check, Sheet, Make, Drill, Upgrade, Postman, Fleet, Edit, instance_at, certificate_at}
 use Rattle.postman.specs.Rounds.{IsShownRound}
 use Rattle.command_words.specs.Laws.{HasBudget}
@@ -22,7 +21,7 @@ use Rattle.command_jobs.specs.declared.job.Job.TheVariants as jobs
 -- the job has the names and the numbers of the command
 abbrev pub IsFor : Command → Job → Type 0
 IsFor (Solve file cert turns seed) (jobs.Solve inst name asked drawn) = (name.now ≡ cert) × (asked ≡ turns) × (drawn ≡ seed)
-IsFor (Check file cert) (jobs.Check checked) = Unit {0}
+IsFor (Check file cert) (jobs.Check cost bound) = Unit {0}
 IsFor (Sheet file cert) (jobs.Sheet inst plan) = Unit {0}
 IsFor (Make file seed) (jobs.Make name drawn) = (name.now ≡ file) × (drawn ≡ seed)
 IsFor (Drill turns seed) (jobs.Drill asked drawn) = (asked ≡ turns) × (drawn ≡ seed)
@@ -35,7 +34,7 @@ IsFor _ _ = ⊥
 -- it can be done: its turns are in their range, its plan is lawful, its certificate can be spelled, its round is least, and its certificate is good for the instance that is edited
 abbrev pub IsSoundJob : Job → Type 0
 IsSoundJob (jobs.Solve inst name turns seed) = HasBudget (Solve name.now name.now turns seed)
-IsSoundJob (jobs.Check checked) = Unit {0}
+IsSoundJob (jobs.Check cost bound) = Unit {0}
 IsSoundJob (jobs.Sheet inst plan) = IsLawful inst plan
 IsSoundJob (jobs.Make name seed) = Unit {0}
 IsSoundJob (jobs.Drill turns seed) = HasBudget (Drill turns seed)
@@ -53,12 +52,28 @@ pub record AreCertified (file cert : List ℕ) (contents : List ℕ → Option (
   pub proof : IsProof instance certificate
 
 -- the certificate that was checked is of this cost and this bound
-pub record WasChecked (file cert : List ℕ) (contents : List ℕ → Option (List ℕ)) (checked : Checked) : Type 0 where
+pub record WasChecked (file cert : List ℕ) (contents : List ℕ → Option (List ℕ)) (cost bound : ℕ) : Type 0 where
   pub instance : Problem
   pub certificate : Certificate
   pub certified : AreCertified file cert contents instance certificate
-  pub cost : checked.cost ≡ certificate.cost
-  pub bound : checked.bound ≡ certificate.bound
+  pub cost_is : cost ≡ certificate.cost
+  pub bound_is : bound ≡ certificate.bound
+
+-- They are the cost and the bound of a certificate that is good for an instance, whatever is told: its plan is lawful and costs that, and no
+-- lawful plan costs less than its bound.
+pub record AreProved (cost bound : ℕ) : Type 0 where
+  pub instance : Problem
+  pub valid : IsValid instance
+  pub certificate : Certificate
+  pub good : IsGood instance certificate
+  pub proof : IsProof instance certificate
+  pub cost_is : cost ≡ certificate.cost
+  pub bound_is : bound ≡ certificate.bound
+
+-- what a job that solves nothing and keeps nothing says is proved
+abbrev pub IsProvedJob : Job → Type 0
+IsProvedJob (jobs.Check cost bound) = AreProved cost bound
+IsProvedJob _ = Unit {0}
 
 -- this is the instance, and the plan of the certificate
 pub record HasPlan (file cert : List ℕ) (contents : List ℕ → Option (List ℕ)) (instance : Problem) (plan : List (List Step)) : Type 0 where
@@ -77,7 +92,7 @@ pub record WasRenewed (file cert : List ℕ) (contents : List ℕ → Option (Li
 -- what was read for the job is what the files of the command hold
 abbrev pub WasRead : Command → (List ℕ → Option (List ℕ)) → Job → Type 0
 WasRead (Solve file cert turns seed) contents (jobs.Solve inst name asked drawn) = Holds (instance_at file) contents (λ bytes. IsTextOf bytes inst)
-WasRead (Check file cert) contents (jobs.Check checked) = WasChecked file cert contents checked
+WasRead (Check file cert) contents (jobs.Check cost bound) = WasChecked file cert contents cost bound
 WasRead (Sheet file cert) contents (jobs.Sheet inst plan) = HasPlan file cert contents inst plan
 WasRead (Make file seed) contents (jobs.Make name drawn) = Unit {0}
 WasRead (Drill turns seed) contents (jobs.Drill asked drawn) = Unit {0}
@@ -91,4 +106,5 @@ WasRead _ contents _ = ⊥
 pub record IsJobOf (held : Bool) (c : Command) (contents : List ℕ → Option (List ℕ)) (job : Job) : Type 0 where
   pub is_for : IsFor c job
   pub sound : IsSoundJob job
+  pub proved : IsProvedJob job
   pub was_read : IsTrue held → WasRead c contents job

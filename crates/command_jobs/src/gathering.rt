@@ -1,5 +1,6 @@
 // Reads the files of a command.
-ghost use Rattle.std.specs.Prelude.{◌≡◌, ℕ, ◌≤◌, IfOk, IsTrue};
+ghost use Rattle.std.specs.Prelude.{◌≡◌, ℕ, ◌≤◌, IfOk, IsErrOf, IsTrue};
+ghost use Rattle.carp_base.specs.declared.fail.Fail.TheVariants.{Refused};
 ghost use Rattle.carp_outside.specs.Told.{SameContents};
 ghost use Rattle.cert_format.specs.Certs.{certificate_in};
 ghost use Rattle.cert_format.specs.Good.{with_counts};
@@ -7,7 +8,8 @@ ghost use Rattle.command_words.specs.Commands.{Solve, Check, Sheet, Upgrade, Pos
 ghost use Rattle.command_words.specs.Forms.{command_in};
 ghost use Rattle.command_words.specs.Laws.{HasBudget};
 ghost use Rattle.command_files.specs.Reads.{IsTried};
-ghost use Rattle.command_jobs.specs.Inputs.{IsRefused, CanBeDone};
+ghost use Rattle.command_files.specs.declared.status.Status.TheVariants as statuses;
+ghost use Rattle.command_jobs.specs.Inputs.{IsRefused, CanBeDone, IsUnread};
 ghost use Rattle.command_jobs.specs.Jobs.{IsJobOf};
 
 use crate::job::Job;
@@ -23,7 +25,9 @@ use std::alloc::Global;
 /// Reads the files of a command, each of them whole before the next, and makes its job of them: the first file that can't be read, is too long or
 /// is bad ends it with its status. A command without files has its job at once.
 ///
-/// It takes the time that reading the files and checking the certificate take.
+/// A refusal is [`Status::ReadFault`], [`Status::TooLong`], [`Status::BadInstance`], [`Status::BadCertificate`], [`Status::Rejected`], [`Status::NotJoined`] or [`Status::BadEdit`];
+/// `Fail::Memory` says only that memory was not to be had. It takes the time of reading the files and checking the certificate, for `postman` also of the round, and for `edit` of the
+/// edited instance.
 pub fn gather<'a, H: Shelf>(
     alloc: Global,
     command: Command<'a>,
@@ -32,6 +36,7 @@ pub fn gather<'a, H: Shelf>(
     requires { HasBudget (command_in command) }
     ensures job { IfOk result (IsJobOf H.tells (command_in command.entry) (H.contents shelf.old)) }
     ensures tried { IsTried H.tells (reads (command_in command.entry)) (H.failed_looks shelf.old) (H.failed_looks shelf.new) (H.given shelf.old) (H.given shelf.new) (IsRefused (command_in command.entry) (H.contents shelf.old)) (CanBeDone (command_in command.entry) (H.contents shelf.old)) result }
+    ensures order { IsTrue H.tells → IsErrOf result (Refused statuses.ReadFault) → IsUnread (command_in command.entry) (H.contents shelf.old) (H.failed_looks shelf.old) (H.failed_looks shelf.new) }
     ensures contents { IsTrue H.tells → SameContents (H.contents shelf.old) (H.contents shelf.new) }
     ensures keeps { H.failed_keeps shelf.new ≡ H.failed_keeps shelf.old }
 {
@@ -76,6 +81,7 @@ fn gather_instance<'a, H: Shelf>(
     requires turns_in_range { turns ≤ 1048576 }
     ensures job { IfOk result (IsJobOf H.tells (Solve file.now cert.now turns seed) (H.contents shelf.old)) }
     ensures tried { IsTried H.tells (reads (Solve file.now cert.now turns seed)) (H.failed_looks shelf.old) (H.failed_looks shelf.new) (H.given shelf.old) (H.given shelf.new) (IsRefused (Solve file.now cert.now turns seed) (H.contents shelf.old)) (CanBeDone (Solve file.now cert.now turns seed) (H.contents shelf.old)) result }
+    ensures order { IsTrue H.tells → IsErrOf result (Refused statuses.ReadFault) → IsUnread (Solve file.now cert.now turns seed) (H.contents shelf.old) (H.failed_looks shelf.old) (H.failed_looks shelf.new) }
     ensures contents { IsTrue H.tells → SameContents (H.contents shelf.old) (H.contents shelf.new) }
     ensures keeps { H.failed_keeps shelf.new ≡ H.failed_keeps shelf.old }
 {
@@ -99,6 +105,7 @@ fn gather_checked<'a, H: Shelf>(
 ) -> Result<Job<'a>, Fail<Status>>
     ensures job { IfOk result (IsJobOf H.tells (Check file.now cert.now) (H.contents shelf.old)) }
     ensures tried { IsTried H.tells (reads (Check file.now cert.now)) (H.failed_looks shelf.old) (H.failed_looks shelf.new) (H.given shelf.old) (H.given shelf.new) (IsRefused (Check file.now cert.now) (H.contents shelf.old)) (CanBeDone (Check file.now cert.now) (H.contents shelf.old)) result }
+    ensures order { IsTrue H.tells → IsErrOf result (Refused statuses.ReadFault) → IsUnread (Check file.now cert.now) (H.contents shelf.old) (H.failed_looks shelf.old) (H.failed_looks shelf.new) }
     ensures contents { IsTrue H.tells → SameContents (H.contents shelf.old) (H.contents shelf.new) }
     ensures keeps { H.failed_keeps shelf.new ≡ H.failed_keeps shelf.old }
 {
@@ -106,7 +113,10 @@ fn gather_checked<'a, H: Shelf>(
     readings_are_unique();
     match read_instance(alloc, shelf, file) {
         Ok(inst) => match check_file(alloc, &inst, shelf, cert) {
-            Ok(checked) => Ok(Job::Check { checked }),
+            Ok(stated) => Ok(Job::Check {
+                cost: stated.cost,
+                bound: stated.bound,
+            }),
             Err(fail) => Err(fail),
         },
         Err(fail) => Err(fail),
@@ -122,6 +132,7 @@ fn gather_plan<'a, H: Shelf>(
 ) -> Result<Job<'a>, Fail<Status>>
     ensures job { IfOk result (IsJobOf H.tells (Sheet file.now cert.now) (H.contents shelf.old)) }
     ensures tried { IsTried H.tells (reads (Sheet file.now cert.now)) (H.failed_looks shelf.old) (H.failed_looks shelf.new) (H.given shelf.old) (H.given shelf.new) (IsRefused (Sheet file.now cert.now) (H.contents shelf.old)) (CanBeDone (Sheet file.now cert.now) (H.contents shelf.old)) result }
+    ensures order { IsTrue H.tells → IsErrOf result (Refused statuses.ReadFault) → IsUnread (Sheet file.now cert.now) (H.contents shelf.old) (H.failed_looks shelf.old) (H.failed_looks shelf.new) }
     ensures contents { IsTrue H.tells → SameContents (H.contents shelf.old) (H.contents shelf.new) }
     ensures keeps { H.failed_keeps shelf.new ≡ H.failed_keeps shelf.old }
 {
@@ -129,9 +140,9 @@ fn gather_plan<'a, H: Shelf>(
     readings_are_unique();
     match read_instance(alloc, shelf, file) {
         Ok(inst) => match check_file(alloc, &inst, shelf, cert) {
-            Ok(checked) => Ok(Job::Sheet {
+            Ok(stated) => Ok(Job::Sheet {
                 inst,
-                plan: checked.plan,
+                plan: stated.plan,
             }),
             Err(fail) => Err(fail),
         },
@@ -139,7 +150,7 @@ fn gather_plan<'a, H: Shelf>(
     }
 }
 
-// A certificate that is good, with the numbers of the instance.
+// A certificate that is good, with the numbers of the instance. It is held, since it is written again.
 fn gather_renewed<'a, H: Shelf>(
     alloc: Global,
     file: &str,
@@ -149,6 +160,7 @@ fn gather_renewed<'a, H: Shelf>(
 ) -> Result<Job<'a>, Fail<Status>>
     ensures job { IfOk result (IsJobOf H.tells (Upgrade file.now cert.now renewed.now) (H.contents shelf.old)) }
     ensures tried { IsTried H.tells (reads (Upgrade file.now cert.now renewed.now)) (H.failed_looks shelf.old) (H.failed_looks shelf.new) (H.given shelf.old) (H.given shelf.new) (IsRefused (Upgrade file.now cert.now renewed.now) (H.contents shelf.old)) (CanBeDone (Upgrade file.now cert.now renewed.now) (H.contents shelf.old)) result }
+    ensures order { IsTrue H.tells → IsErrOf result (Refused statuses.ReadFault) → IsUnread (Upgrade file.now cert.now renewed.now) (H.contents shelf.old) (H.failed_looks shelf.old) (H.failed_looks shelf.new) }
     ensures contents { IsTrue H.tells → SameContents (H.contents shelf.old) (H.contents shelf.new) }
     ensures keeps { H.failed_keeps shelf.new ≡ H.failed_keeps shelf.old }
 {
@@ -183,6 +195,7 @@ fn gather_round<'a, H: Shelf>(
 ) -> Result<Job<'a>, Fail<Status>>
     ensures job { IfOk result (IsJobOf H.tells (Postman file.now) (H.contents shelf.old)) }
     ensures tried { IsTried H.tells (reads (Postman file.now)) (H.failed_looks shelf.old) (H.failed_looks shelf.new) (H.given shelf.old) (H.given shelf.new) (IsRefused (Postman file.now) (H.contents shelf.old)) (CanBeDone (Postman file.now) (H.contents shelf.old)) result }
+    ensures order { IsTrue H.tells → IsErrOf result (Refused statuses.ReadFault) → IsUnread (Postman file.now) (H.contents shelf.old) (H.failed_looks shelf.old) (H.failed_looks shelf.new) }
     ensures contents { IsTrue H.tells → SameContents (H.contents shelf.old) (H.contents shelf.new) }
     ensures keeps { H.failed_keeps shelf.new ≡ H.failed_keeps shelf.old }
 {
@@ -203,6 +216,7 @@ fn gather_fleet<'a, H: Shelf>(
     requires turns_in_range { turns ≤ 1048576 }
     ensures job { IfOk result (IsJobOf H.tells (Fleet file.now turns) (H.contents shelf.old)) }
     ensures tried { IsTried H.tells (reads (Fleet file.now turns)) (H.failed_looks shelf.old) (H.failed_looks shelf.new) (H.given shelf.old) (H.given shelf.new) (IsRefused (Fleet file.now turns) (H.contents shelf.old)) (CanBeDone (Fleet file.now turns) (H.contents shelf.old)) result }
+    ensures order { IsTrue H.tells → IsErrOf result (Refused statuses.ReadFault) → IsUnread (Fleet file.now turns) (H.contents shelf.old) (H.failed_looks shelf.old) (H.failed_looks shelf.new) }
     ensures contents { IsTrue H.tells → SameContents (H.contents shelf.old) (H.contents shelf.new) }
     ensures keeps { H.failed_keeps shelf.new ≡ H.failed_keeps shelf.old }
 {
@@ -224,6 +238,7 @@ fn gather_edited<'a, H: Shelf>(
 ) -> Result<Job<'a>, Fail<Status>>
     ensures job { IfOk result (IsJobOf H.tells (Edit file.now cert.now edits.now edited.now carried.now) (H.contents shelf.old)) }
     ensures tried { IsTried H.tells (reads (Edit file.now cert.now edits.now edited.now carried.now)) (H.failed_looks shelf.old) (H.failed_looks shelf.new) (H.given shelf.old) (H.given shelf.new) (IsRefused (Edit file.now cert.now edits.now edited.now carried.now) (H.contents shelf.old)) (CanBeDone (Edit file.now cert.now edits.now edited.now carried.now) (H.contents shelf.old)) result }
+    ensures order { IsTrue H.tells → IsErrOf result (Refused statuses.ReadFault) → IsUnread (Edit file.now cert.now edits.now edited.now carried.now) (H.contents shelf.old) (H.failed_looks shelf.old) (H.failed_looks shelf.new) }
     ensures contents { IsTrue H.tells → SameContents (H.contents shelf.old) (H.contents shelf.new) }
     ensures keeps { H.failed_keeps shelf.new ≡ H.failed_keeps shelf.old }
 {

@@ -1,7 +1,6 @@
 // What a command has to do.
 
 use carp_base::Instance;
-use cert_checker::Checked;
 use cert_format::Cert;
 use command_files::Laid;
 use edit_files::Edited;
@@ -18,9 +17,10 @@ pub enum Job<'a> {
         turns: u64,
         seed: u64,
     },
-    /// Says that a certificate was accepted.
+    /// Says that a certificate of this cost and this bound was accepted.
     Check {
-        checked: Checked,
+        cost: u64,
+        bound: u64,
     },
     /// Writes the street sheet of a lawful plan of the instance.
     Sheet {
@@ -47,7 +47,7 @@ pub enum Job<'a> {
     Postman {
         laid: Laid,
     },
-    /// Finds the fewest vehicles.
+    /// Finds few vehicles that carry all demands, and how many it takes at least.
     Fleet {
         inst: Instance,
         /// 1 to 1,048,576.

@@ -33,7 +33,7 @@ fn spelled(alloc: Global, job: &Job<'_>) -> Result<String, Fail> {
             turns,
             seed,
         } => format!(in alloc; "solve {} {cert} {turns} {seed}", inst.vertices())?,
-        Job::Check { checked } => format!(in alloc; "check {} {}", checked.cost, checked.bound)?,
+        Job::Check { cost, bound } => format!(in alloc; "check {cost} {bound}")?,
         Job::Sheet { inst, plan } => {
             format!(in alloc; "sheet {} {}", inst.vertices(), plan.len())?
         }

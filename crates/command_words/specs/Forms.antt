@@ -1,4 +1,4 @@
--- What the code holds: a command, and the form that follows a verb. No public contract speaks of forms.
+-- What the code holds: a command, which public contracts cite, and the form that follows a verb, which none does.
 use Rattle.std.specs.Prelude.{◌≡◌, is_some}
 use Rattle.command_words.specs.Commands as commands
 use Rattle.command_words.specs.Words as words

@@ -1,13 +1,14 @@
 // The commands.
 
-/// A command, with its names and its numbers. A name is not empty and does not begin with `-`, and no two names are equal.
+/// A command, with its names and its numbers. A name is not empty and does not begin with `-`, and no two names have the same bytes; two names of one file, as `a` and
+/// `./a`, are not noticed.
 #[derive(Drop)]
 pub enum Command<'a> {
     /// Solves the instance of `file`, and keeps the certificate at `cert`.
     Solve {
         file: &'a str,
         cert: &'a str,
-        /// The most price sets that are tried: 1 to 1,048,576.
+        /// The most turns of the search: 1 to 1,048,576.
         turns: u64,
         /// What the choices of helpers are drawn from: below 10 to the 18.
         seed: u64,
@@ -30,7 +31,7 @@ pub enum Command<'a> {
     },
     /// Solves the town of a number, and checks its certificate.
     Drill {
-        /// The most price sets that are tried: 1 to 1,048,576.
+        /// The most turns of the search: 1 to 1,048,576.
         turns: u64,
         /// The number of the town, and what the choices of helpers are drawn from: below 10 to the 18.
         seed: u64,
@@ -45,7 +46,7 @@ pub enum Command<'a> {
     Postman {
         file: &'a str,
     },
-    /// Finds the fewest vehicles that the instance of `file` takes.
+    /// Finds few vehicles that carry all demands of the instance of `file`, and how many it takes at least.
     Fleet {
         file: &'a str,
         /// The most turns of the search: 1 to 1,048,576.

@@ -8,6 +8,7 @@ use Rattle.carp_base.specs.Packings.{IsGroup, IsPacking, group_of}
 use Rattle.carp_base.specs.Problem.{Problem, IsValid}
 use Rattle.plan_model.specs.declared.step.Step.{Step}
 use Rattle.plan_model.specs.Plans.{IsLawful, serves, walk_at}
+use Rattle.task_tours.specs.Tours.{PlanGoesByLeastPaths}
 use Rattle.packing_trees.specs.declared.packing.Packing.{Packing}
 use Rattle.fleet_pack.specs.Packed.{IsPacked, all_turns}
 use Rattle.group_plans.specs.Groups.{ServesGroups, serving_walks}
@@ -55,10 +56,10 @@ groups_serve p groups count plan packing serves_groups = all_serve plan each ∙
 
 -- what was counted
 pub counted : (p : Problem) (asked : ℕ) (found : Packing) (plan : List (List Step)) (status : Status) (work : Work) (bound count : ℕ) → bound ≡ found.bound → count ≡ found.count → PlansArePackings → IsValid p → IsPacked p asked found
-    → IsLawful p plan → ServesGroups p found.groups.items found.count plan
+    → IsLawful p plan → ServesGroups p found.groups.items found.count plan → PlanGoesByLeastPaths p plan
     → (bound ≡ count → status ≡ Proven) → (bound ≢ count → status ≡ Gap) → (status ≡ Proven → bound ≡ count) → (status ≡ Gap → bound ≢ count)
     → work.kept ≡ [] → work.text ≡ fleet_text p plan found → ((status ≡ Proven) ⊎ (status ≡ Gap)) × IsFleetFound p asked status work
-counted p asked found plan status work bound count bound_is count_is law valid packed lawful serves_groups to_proven to_gap is_proven is_gap keeps writes = (
+counted p asked found plan status work bound count bound_is count_is law valid packed lawful serves_groups by_least to_proven to_gap is_proven is_gap keeps writes = (
   elim (cases_eq bound count) [ inl same ↦ inl (to_proven same) | inr other ↦ inr (to_gap other) ],
   record {
     found = found;
@@ -67,6 +68,7 @@ counted p asked found plan status work bound count bound_is count_is law valid p
     lawful = lawful;
     serves = serves_groups;
     serving = groups_serve p found.groups.items found.count plan packed.packing serves_groups;
+    paths = by_least;
     least = λ other is. let packing = law p other valid is in packed.exact packing.0 (serving_walks other) packing.1;
     ending = record { proven = λ is. sym bound_is ∙ is_proven is ∙ count_is; gap = λ is. let below = less (is_gap is) in (below, packed.ended below) };
     whole = λ enough. to_proven (bound_is ∙ packed.whole enough ∙ sym count_is);

@@ -1,5 +1,6 @@
 -- What is made of an edit: the edited instance, and the certificate that was carried over to it.
 use Rattle.std.specs.Prelude.{◌≡◌, ℕ, ◌-◌, List, [], ◌∷◌, length}
+use Rattle.carp_base.specs.Problem.{IsValid}
 use Rattle.dat_text.specs.DatText.{dat_of}
 use Rattle.cert_lines.specs.Certificates.{Certificate}
 use Rattle.cert_lines.specs.Texts as certificates
@@ -10,8 +11,9 @@ use Rattle.edit_files.specs.declared.edited.Edited.{Edited}
 use Rattle.command_works.specs.Texts.{edit_text}
 use Rattle.command_works.specs.Works.{Work}
 
--- the edited instance is to be kept under the first name, and then the carried certificate under the second; and a summary is to be written
+-- the edited instance, which is valid, is to be kept under the first name, and then the carried certificate under the second; and a summary is to be written
 pub record AreBothKept (read : Edited) (edited carried : List ℕ) (work : Work) : Type 0 where
+  pub valid : IsValid read.after
   pub certificate : Certificate
   pub over : IsCarriedOver read.after (certificate_in read.cert) certificate
   pub proof : IsProof read.after certificate

@@ -4,6 +4,7 @@ use Rattle.std.specs.List.{flat_map}
 use Rattle.carp_base.specs.Problem.{Problem}
 use Rattle.plan_model.specs.declared.step.Step.{Step}
 use Rattle.plan_model.specs.Plans.{IsLawful}
+use Rattle.task_tours.specs.Tours.{PlanGoesByLeastPaths}
 use Rattle.plan_print.specs.Report.{gap_line, tours_text}
 use Rattle.packing_trees.specs.declared.node.PackNode.{PackNode}
 use Rattle.packing_trees.specs.declared.node.PackNode.TheVariants.{Pair, Share, Apart}
@@ -38,7 +39,7 @@ pub record IsCountEnding (found : Packing) (asked : ℕ) (status : Status) : Typ
   pub proven : status ≡ Proven → found.bound ≡ found.count
   pub gap : status ≡ Gap → (found.bound < found.count) × (asked ≤ found.turns)
 
--- A packing with a tree that proves its bound, and a lawful plan with a tour for each group: its tours, all of which serve, and the tree are to be written. Every lawful plan has
+-- A packing with a tree that proves its bound, and a lawful plan with a tour for each group: its tours, all of which serve and go by least paths, and the tree are to be written. Every lawful plan has
 -- at least as many walks that serve as the bound says; where enough turns were asked for, none has fewer than the plan.
 pub record IsFleetFound (p : Problem) (asked : ℕ) (status : Status) (work : Work) : Type 0 where
   pub found : Packing
@@ -47,6 +48,7 @@ pub record IsFleetFound (p : Problem) (asked : ℕ) (status : Status) (work : Wo
   pub lawful : IsLawful p plan
   pub serves : ServesGroups p found.groups.items found.count plan
   pub serving : serving_walks plan ≡ found.count
+  pub paths : PlanGoesByLeastPaths p plan
   pub least : (other : List (List Step)) → IsLawful p other → found.bound ≤ serving_walks other
   pub ending : IsCountEnding found asked status
   pub whole : all_turns p ≤ asked → status ≡ Proven

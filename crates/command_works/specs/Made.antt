@@ -28,7 +28,7 @@ pub record IsKeptAgain (c : Cert) (renewed : List ℕ) (work : Work) : Type 0 wh
 -- a job is done with this answer and this work, where helpers offered such costs
 abbrev pub IsMade : Job → List (Option ℕ) → Status → Work → Type 0
 IsMade (Solve inst cert turns seed) offered status work = ((status ≡ Proven) ⊎ (status ≡ Gap)) × IsSolvedBy inst cert.now turns offered status work
-IsMade (Check checked) offered status work = (status ≡ Accepted) × (work ≡ record { kept = []; text = answer_text (codes "accepted\n") checked.cost checked.bound })
+IsMade (Check cost bound) offered status work = (status ≡ Accepted) × (work ≡ record { kept = []; text = answer_text (codes "accepted\n") cost bound })
 IsMade (Sheet inst plan) offered status work = (status ≡ Done) × (work ≡ record { kept = []; text = sheet_text inst plan })
 IsMade (Make file seed) offered status work =
     (status ≡ Done) × (work ≡ record { kept = record { name = file.now; bytes = dat_of (town_of seed) } ∷ []; text = made_text (town_of seed) })

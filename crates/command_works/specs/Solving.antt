@@ -4,7 +4,7 @@ use Rattle.carp_base.specs.Problem.{Problem}
 use Rattle.cert_lines.specs.Certificates.{Certificate}
 use Rattle.cert_lines.specs.Texts as certificates
 use Rattle.plan_print.specs.Report.{report_text}
-use Rattle.carp_engine.specs.Helpers.{IsAtMost}
+use Rattle.helper_rounds.specs.Helpers.{IsAtMost}
 use Rattle.carp_engine.specs.Solutions.{IsSound}
 use Rattle.command_works.specs.Works.{Work}
 use Rattle.command_files.specs.declared.status.Status.{Status}

@@ -1,8 +1,9 @@
-// Counts the fewest vehicles.
+// Finds few vehicles that carry all demands.
 ghost use Rattle.std.specs.Prelude.{◌≡◌, ◌⊎◌, ◌<◌, ◌≤◌, ◌++◌, IfOk, OnOk};
 ghost use Rattle.std.specs.List.{flat_map};
 ghost use Rattle.carp_base.specs.Packings.{IsPacking};
 ghost use Rattle.plan_model.specs.Plans.{IsLawful};
+ghost use Rattle.task_tours.specs.Tours.{PlanGoesByLeastPaths};
 ghost use Rattle.group_plans.specs.Groups.{ServesGroups};
 ghost use Rattle.command_works.specs.Fleets.{IsFleetFound, counts_text, fleet_text, node_line, nodes_text};
 ghost use Rattle.command_works.specs.Works.{work_in};
@@ -20,7 +21,7 @@ use plan_print::{push_gap, push_tours};
 use std::alloc::Global;
 use task_tours::cost_distances;
 
-/// The fewest vehicles that are found in so many turns, with a plan for them and a tree that proves how many it takes at least.
+/// The vehicles that are found in so many turns, with a plan for them and a tree that proves how many it takes at least.
 pub(crate) fn count_fleet<'a>(
     alloc: Global,
     inst: &Instance,
@@ -31,6 +32,7 @@ pub(crate) fn count_fleet<'a>(
     ensures { IfOk result (λ d. ((d.status ≡ Status.Proven) ⊎ (d.status ≡ Status.Gap)) × IsFleetFound inst.now turns d.status (work_in d)) }
 {
     plans_are_packings();
+    // A read of the instance says that it is valid.
     let _ = inst.vertices();
     let found = pack(alloc, inst, turns)?;
     let plan = plan_of(alloc, inst, &found)?;
@@ -48,6 +50,7 @@ fn plan_of(alloc: Global, inst: &Instance, found: &Packing) -> Result<Plan, Memo
     requires { IsPacking inst.now found.now.groups.items found.now.count }
     ensures lawful { IfOk result (λ plan. IsLawful inst.now plan) }
     ensures serves { IfOk result (λ plan. ServesGroups inst.now found.now.groups.items found.now.count plan) }
+    ensures paths { IfOk result (λ plan. PlanGoesByLeastPaths inst.now plan) }
 {
     let dist = cost_distances(alloc, inst)?;
     plan_of_groups(alloc, inst, &dist, &found.groups, found.count)

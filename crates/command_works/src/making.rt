@@ -18,7 +18,8 @@ use std::alloc::Global;
 
 /// Does a job, with the aid of the helpers where it solves an instance: they are seeded from the job's seed on. All other jobs leave them as they are.
 ///
-/// Its error says only that memory was not to be had.
+/// Its error says only that memory was not to be had. It takes the time of what the job asks for ([`carp_engine::solve`], [`fleet_pack::pack`], [`cert_transfer::carry`]) and of the
+/// texts, all of which are held at once.
 pub fn make<'a, P: Proposer>(
     alloc: Global,
     job: &Job<'a>,
@@ -39,7 +40,7 @@ pub fn make<'a, P: Proposer>(
             turns,
             seed,
         } => solve_instance(alloc, inst, cert, *turns, *seed, helpers),
-        Job::Check { checked } => accept(alloc, checked.cost, checked.bound),
+        Job::Check { cost, bound } => accept(alloc, *cost, *bound),
         Job::Sheet { inst, plan } => spell_sheet(alloc, inst, plan),
         Job::Make { file, seed } => keep_town(alloc, file, *seed),
         Job::Drill { turns, seed } => drill(alloc, *turns, *seed, helpers),

@@ -36,7 +36,7 @@ pub fn touched(inst: &Instance, s: &Shore) -> u64
 }
 
 /// The least number of deadheads over the set that parity and the number of vehicles ask for (Belenguer and Benavent
-/// 1998), at most 36,000,000: every lawful plan has at least as many.
+/// 1998), at most 36,000,000: every lawful plan has at least as many, by the law [`crate::need_is_met`].
 ///
 /// It takes no memory, and time in proportion to the number of required edges.
 pub fn need(inst: &Instance, s: &Shore) -> u64

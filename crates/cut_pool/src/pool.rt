@@ -63,7 +63,7 @@ impl ShorePool {
         Ok(self.len())
     }
 
-    /// The number of shores, 0 to 2,000.
+    /// The number of shores, 0 to 2,000. It takes constant time.
     pub fn len(&self) -> u32
         ensures value { result ≡ length self.now }
         ensures few { length self.now ≤ 2000 }
@@ -72,7 +72,7 @@ impl ShorePool {
         self.shores.len() as u32
     }
 
-    /// The shore of a number, from 1 to the number of shores.
+    /// The shore of a number, from 1 to the number of shores. It takes constant time.
     pub fn shore(&self, i: u32) -> &Shore
         requires { IsShoreNumber self.now i }
         ensures { result.now ≡ shore_at self.now i }

@@ -14,7 +14,8 @@ use std::alloc::Global;
 use std::hash::{Hash, Hasher};
 use std::marker::Model;
 
-/// A set of vertices that is not empty. Contracts see the rising list of its vertices.
+/// A set of numbers that is not empty; [`Shore::belongs`] tells whether it is a set of vertices of an instance without the
+/// depot. Contracts see its rising list.
 ///
 /// It keeps a mark for each vertex up to its greatest, so that each look takes constant time.
 #[derive(Drop)]
@@ -23,7 +24,7 @@ pub struct Shore {
     marks: Vec<bool>,
 }
 
-/// A shore with a weight.
+/// A shore with a weight. It stands here since those who give weights and those who place shores share no other crate.
 #[derive(Drop)]
 pub struct Weighted {
     /// The shore.
@@ -70,7 +71,8 @@ impl Hash for Shore {
 impl Shore {
     /// The set of the vertices of a list that is not empty and rises strictly.
     ///
-    /// It takes memory and time in proportion to the greatest vertex; `Memory` says only that memory was not to be had.
+    /// It takes memory and time in proportion to the greatest vertex, which is at most 2^32 - 1: a byte for each number up to
+    /// it, besides the list. `Memory` says only that memory was not to be had.
     pub fn from_list(alloc: Global, list: &[u32]) -> Result<Shore, Memory>
         requires { IsShore list.now }
         ensures { IfOk result (λ shore. shore ≡ list.now) }
@@ -94,7 +96,7 @@ impl Shore {
         self.has(e.u) != self.has(e.v)
     }
 
-    /// The number of vertices.
+    /// The number of vertices. It takes constant time.
     pub fn len(&self) -> usize
         ensures value { result ≡ length self.now }
         ensures shore { IsShore self.now }
@@ -102,7 +104,7 @@ impl Shore {
         self.vertices.len()
     }
 
-    /// The vertex at a place from 0, in rising order.
+    /// The vertex at a place from 0, in rising order. It takes constant time.
     pub fn vertex(&self, i: usize) -> u32
         requires { i < length self.now }
         ensures { result ≡ slice_index self.now i }

@@ -39,7 +39,7 @@ fn read_text(alloc: Global, bytes: &[u8]) -> Result<Described, Fail<DatFault>>
 ///
 /// Lines end in LF. A line is a key with its number, a list key, an edge of the last list, or it is skipped. A line
 /// of the required list is `( u, v) coste c demanda d`, and may end in `servicio s`; without it the service cost is
-/// the cost. A line of the other list is `( u, v) coste c`. Keys and words stand in any case.
+/// the cost. A line of the other list is `( u, v) coste c`, and a `demanda` may follow whose digits are all 0. Keys and words stand in any case.
 ///
 /// Where the bytes are no such text of a valid instance, the first fault is answered. The work grows with the number
 /// of bytes, and the memory with the number of edges.

@@ -12,8 +12,8 @@ use std::marker::Model;
 
 /// The least prices of deadheads between all pairs of vertices of an instance, and steps that have them.
 ///
-/// Contracts see the instance, of which it keeps a copy, and the price of each edge. Its labels are potentials: no edge
-/// leads to a vertex at a lower price than its label.
+/// Contracts see the instance, of which it keeps a copy, and the price of each edge. From no vertex does an edge and
+/// the least price at its other end come to less than the least price there.
 #[derive(Drop)]
 pub struct Distances {
     pub(crate) inst: Instance,

@@ -142,7 +142,8 @@ fn add_up(loads: &mut [u64], inst: &Instance, labels: &[u32])
 impl<'a> Chains<'a> {
     /// The chains of the yes pairs of some decisions, whose pairs are of required edges.
     ///
-    /// With m required edges and d decisions it takes time in proportion to m * m + d, and memory in proportion to m.
+    /// With m required edges and d decisions it takes time in proportion to m * (m + d) at most, and to m * m + d where yes pairs form no
+    /// cycle and give no edge three neighbours; it takes memory in proportion to m.
     pub fn of(
         alloc: Global,
         inst: &'a Instance,
@@ -187,7 +188,8 @@ impl<'a> Chains<'a> {
     }
 
     /// The next edge on the way along yes pairs over an edge that was reached from `before`, which is 0 where the way begins at
-    /// the edge; `None` where the chain ends there. It takes no memory and a fixed time.
+    /// the edge; `None` where the chain ends there. Where `before` is none of two yes neighbours, one of them is the next. It takes no
+    /// memory and a fixed time.
     pub fn next(&self, edge: u32, before: u32) -> Option<u32>
         requires table { IsChainTable self.now }
         requires untangled { self.now.tangled ≡ false }

@@ -93,7 +93,7 @@ impl Chains<'_> {
 
     /// The pairs of required edges that are not excluded.
     ///
-    /// With m required edges and d decisions it takes time in proportion to m * m + d.
+    /// With m required edges and d decisions it takes time in proportion to m * m + d, and memory in proportion to m * m.
     pub fn allowed(&self, alloc: Global) -> Result<Allowed, Memory>
         requires { IsChainTable self.now }
         ensures { IfOk result (PermitsUnexcluded self.now.inst.now self.now.decisions.now) }

@@ -130,8 +130,8 @@ fn label_all(
 /// For each vertex the least vertex of its component, where edges with at least `least` parts join their ends; the label of
 /// vertex v stands at place v, and place 0 is not used.
 ///
-/// `x` has one number of parts for each edge, in the order of the edges. It takes time and memory in proportion to the
-/// vertices and edges.
+/// `x` has one number of parts for each edge, in the order of the edges, which may be any. With `least` 0 every edge joins its
+/// ends. The one error is want of memory. It takes time and memory in proportion to the vertices and edges.
 pub fn label_components(
     alloc: Global,
     inst: &Instance,

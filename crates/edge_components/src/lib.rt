@@ -1,4 +1,4 @@
-//! Components of the edges of an instance that have at least so many deadheads, and what lies at their borders.
+//! Components of the edges of an instance with at least so many parts of deadheads, and what lies at their borders.
 //!
 //! Deadheads may be fractions: each edge has a whole number of parts of a unit. [`label_components`] gives each vertex the
 //! least vertex of its component, [`crossings_by_label`], [`demand_by_label`] and [`parts_by_label`] add up what the edges

@@ -1,4 +1,5 @@
 pub mod Several
 pub mod FirstFaults
 pub mod Lines
+pub mod Order
 pub mod ThreeTexts

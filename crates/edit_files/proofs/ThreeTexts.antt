@@ -167,6 +167,7 @@ module _ (file cert edits : List ℕ) where
           certified = certified.made.text;
           edits_read = parsed.made.text;
           is = record { spellable = certified.made.spellable; good = certified.made.good; known = parsed.made.text.known; after = parsed.made.after };
+          valid = subst (λ (q : Problem). IsValid q) (sym parsed.made.after) parsed.made.valid;
         };
         refusal = λ status e. cc;
         refused = λ status e. cc;

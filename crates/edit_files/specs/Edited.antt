@@ -1,6 +1,7 @@
 -- An instance, a certificate and edits that are read from three files, and when they are refused.
 use Rattle.std.specs.Prelude.{◌≡◌, ℕ, List, [], Option, ◌⊎◌}
 use Rattle.carp_base.specs.Problem.{Problem, IsValid}
+use Rattle.carp_outside.specs.Causes.{Rose}
 use Rattle.carp_base.specs.Faults.{IsFirstFault}
 use Rattle.carp_base.specs.declared.fault.InstanceFault.{InstanceFault}
 use Rattle.dat_text.specs.Text.{IsTextOf}
@@ -15,6 +16,7 @@ use Rattle.instance_edits.specs.Edits.{AreKnown, edited}
 use Rattle.instance_edits.specs.Texts.{IsEditsText, IsFirstBad}
 use Rattle.command_words.specs.Commands.{instance_at, certificate_at, edits_at}
 use Rattle.command_files.specs.Files.{Holds, IsBadInstance, IsGoodText, IsBadCertificate, IsBadFile}
+use Rattle.command_files.specs.Reads.{EachIsGood}
 use Rattle.command_files.specs.declared.status.Status.{Status}
 use Rattle.command_files.specs.declared.status.Status.TheVariants.{BadEdit}
 use Rattle.edit_files.specs.declared.edited.Edited.{Edited}
@@ -75,6 +77,13 @@ abbrev pub AreGoodFiles : (file cert edits : List ℕ) → (List ℕ → Option 
 AreGoodFiles file cert edits contents =
     Holds (instance_at file) contents (λ a. Holds (certificate_at cert) contents (λ b. Holds (edits_at edits) contents (AreGoodTexts a b)))
 
+-- a look failed at one of three files that are read in turn: those before it are held, and not too long
+abbrev pub AreUnreadTwo : (cert edits : List ℕ) → (List ℕ → Option (List ℕ)) → (List ℕ → ℕ) → (List ℕ → ℕ) → Type 0
+AreUnreadTwo cert edits contents before now = Rose (before cert) (now cert) ⊎ (Holds (certificate_at cert) contents EachIsGood × Rose (before edits) (now edits))
+
+abbrev pub AreUnread : (file cert edits : List ℕ) → (List ℕ → Option (List ℕ)) → (List ℕ → ℕ) → (List ℕ → ℕ) → Type 0
+AreUnread file cert edits contents before now = Rose (before file) (now file) ⊎ (Holds (instance_at file) contents EachIsGood × AreUnreadTwo cert edits contents before now)
+
 -- an instance, a certificate that is good for it and can be spelled, edits that it knows, and the edited instance
 pub record IsEdited (x : Edited) : Type 0 where
   pub spellable : IsSpellable (certificate_in x.cert)
@@ -82,12 +91,13 @@ pub record IsEdited (x : Edited) : Type 0 where
   pub known : AreKnown x.before [] x.edits.items
   pub after : x.after ≡ edited x.before x.edits.items
 
--- they are those of three texts
+-- they are those of three texts, and the edited instance is valid
 pub record IsEditedBy (file cert edits : List ℕ) (x : Edited) : Type 0 where
   pub read : IsTextOf file x.before
   pub certified : certificates.IsTextOf cert (certificate_in x.cert)
   pub edits_read : IsEditsText x.before edits x.edits.items
   pub is : IsEdited x
+  pub valid : IsValid x.after
 
 -- and these are the texts that three files hold
 abbrev pub IsEditedFrom : (file cert edits : List ℕ) → (List ℕ → Option (List ℕ)) → Edited → Type 0

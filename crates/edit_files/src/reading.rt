@@ -1,9 +1,12 @@
 // Reads the three files of an edit.
-ghost use Rattle.std.specs.Prelude.{◌≡◌, ℕ, ◌≤◌, ◌<◌, ◌^◌, List, length, IfOk, IsTrue, ◌∷◌, []};
+ghost use Rattle.std.specs.Prelude.{◌≡◌, ℕ, ◌≤◌, ◌<◌, ◌^◌, List, length, IfOk, IsErrOf, IsTrue, ◌∷◌, []};
+ghost use Rattle.carp_base.specs.declared.fail.Fail.TheVariants.{Refused};
+ghost use Rattle.carp_outside.specs.Causes.{Rose};
 ghost use Rattle.carp_outside.specs.Told.{SameContents};
 ghost use Rattle.command_words.specs.Commands.{instance_at, certificate_at, edits_at};
 ghost use Rattle.command_files.specs.Reads.{IsTried};
-ghost use Rattle.edit_files.specs.Edited.{AreBadFiles, AreGoodFiles, IsEdited, IsEditedFrom};
+ghost use Rattle.command_files.specs.declared.status.Status.TheVariants as statuses;
+ghost use Rattle.edit_files.specs.Edited.{AreBadFiles, AreGoodFiles, AreUnread, AreUnreadTwo, IsEdited, IsEditedFrom};
 ghost use Rattle.edit_files.specs.Stages.{AreOfThird, AreOfTwo, IsBadThird, IsGoodThird, AreBadTwo, AreGoodTwo};
 
 use crate::edited::Edited;
@@ -13,7 +16,7 @@ use carp_outside::Shelf;
 use command_files::{CERTIFICATE_LIMIT, INSTANCE_LIMIT, Status, read_file};
 use std::alloc::Global;
 
-/// The most bytes of a file of edits.
+/// The most bytes of a file of edits; contracts have the number from `edits_at`.
 pub const EDITS_LIMIT: u64 = 1_048_576;
 
 /// Reads an instance, a certificate and edits from three files, all of them before it looks at what they hold. The first file that can't be read or is too long
@@ -33,6 +36,7 @@ pub fn read_edited<H: Shelf>(
     ensures made { IsTrue H.tells → IfOk result (IsEditedFrom file.now cert.now edits.now (H.contents shelf.old)) }
     ensures sound { IfOk result IsEdited }
     ensures tried { IsTried H.tells (instance_at file.now ∷ certificate_at cert.now ∷ edits_at edits.now ∷ []) (H.failed_looks shelf.old) (H.failed_looks shelf.new) (H.given shelf.old) (H.given shelf.new) (AreBadFiles file.now cert.now edits.now (H.contents shelf.old)) (AreGoodFiles file.now cert.now edits.now (H.contents shelf.old)) result }
+    ensures order { IsTrue H.tells → IsErrOf result (Refused statuses.ReadFault) → AreUnread file.now cert.now edits.now (H.contents shelf.old) (H.failed_looks shelf.old) (H.failed_looks shelf.new) }
     ensures contents { IsTrue H.tells → SameContents (H.contents shelf.old) (H.contents shelf.new) }
     ensures keeps { H.failed_keeps shelf.new ≡ H.failed_keeps shelf.old }
 {
@@ -54,6 +58,7 @@ fn read_two<H: Shelf>(
     ensures made { IsTrue H.tells → IfOk result (AreOfTwo text.items cert.now edits.now (H.contents shelf.old)) }
     ensures sound { IfOk result IsEdited }
     ensures tried { IsTried H.tells (certificate_at cert.now ∷ edits_at edits.now ∷ []) (H.failed_looks shelf.old) (H.failed_looks shelf.new) (H.given shelf.old) (H.given shelf.new) (AreBadTwo text.items cert.now edits.now (H.contents shelf.old)) (AreGoodTwo text.items cert.now edits.now (H.contents shelf.old)) result }
+    ensures order { IsTrue H.tells → IsErrOf result (Refused statuses.ReadFault) → AreUnreadTwo cert.now edits.now (H.contents shelf.old) (H.failed_looks shelf.old) (H.failed_looks shelf.new) }
     ensures contents { IsTrue H.tells → SameContents (H.contents shelf.old) (H.contents shelf.new) }
     ensures keeps { H.failed_keeps shelf.new ≡ H.failed_keeps shelf.old }
     ensures looks { (other : List ℕ) → H.failed_looks shelf.old other ≤ H.failed_looks shelf.new other }
@@ -76,6 +81,7 @@ fn read_third<H: Shelf>(
     ensures made { IsTrue H.tells → IfOk result (AreOfThird text.items cert.items edits.now (H.contents shelf.old)) }
     ensures sound { IfOk result IsEdited }
     ensures tried { IsTried H.tells (edits_at edits.now ∷ []) (H.failed_looks shelf.old) (H.failed_looks shelf.new) (H.given shelf.old) (H.given shelf.new) (IsBadThird text.items cert.items edits.now (H.contents shelf.old)) (IsGoodThird text.items cert.items edits.now (H.contents shelf.old)) result }
+    ensures order { IsErrOf result (Refused statuses.ReadFault) → Rose (H.failed_looks shelf.old edits.now) (H.failed_looks shelf.new edits.now) }
     ensures contents { IsTrue H.tells → SameContents (H.contents shelf.old) (H.contents shelf.new) }
     ensures keeps { H.failed_keeps shelf.new ≡ H.failed_keeps shelf.old }
     ensures looks { (other : List ℕ) → H.failed_looks shelf.old other ≤ H.failed_looks shelf.new other }

@@ -7,7 +7,8 @@ use Rattle.carp_base.specs.declared.edge.Task.{Task}
 use Rattle.carp_base.specs.Problem.{Problem, IsRequired, edge_at}
 use Rattle.carp_base.specs.Packings.{demand_in, group_of}
 use Rattle.task_tours.specs.Tours.{tour_load}
-use Rattle.group_plans.specs.Gathering.{ServesGroup, gathered, own_task}
+use Rattle.group_plans.specs.Gathering.{ServesGroup}
+use Rattle.group_plans.specs.Groups.{gathered, own_task}
 
 pub all-append : {X : Type 0} (P : X → Type 0) (xs ys : List X) → AllByRecursion P xs → AllByRecursion P ys → AllByRecursion P (xs ++ ys)
 all-append P [] ys first second = second

@@ -13,8 +13,8 @@ use Rattle.plan_model.specs.Plans.{serves, walk_at}
 use Rattle.deadhead_paths.specs.Tidy.{served_steps}
 use Rattle.deadhead_paths.specs.Tours.{task_of, tasks_of}
 use Rattle.task_tours.specs.Tours.{AreLawfulTours, all_tasks, plan_tours, tour_load}
-use Rattle.group_plans.specs.Groups.{ServesGroups}
-use Rattle.group_plans.specs.Gathering.{ServesGroup, ServesUpTo}
+use Rattle.group_plans.specs.Groups.{ServesGroups, ServesInOrder, gathered}
+use Rattle.group_plans.specs.Gathering.{InOrderUpTo, ServesGroup, ServesUpTo}
 use Rattle.group_plans.proofs.GroupTasks.{all-append, one_if}
 
 pub serves_none : (p : Problem) (groups : List ℕ) → ServesUpTo p groups 0 []
@@ -100,6 +100,24 @@ module _ (p : Problem) (groups : List ℕ) where
   -- the same, where the tasks are lent
   pub serves_step : (n : ℕ) (tours new : List (List Task)) (tasks lent : List Task) → new ≡ tours ++ lent ∷ [] → lent ≡ tasks → ServesGroup p groups (n + 1) tasks → ServesUpTo p groups n tours → ServesUpTo p groups (n + 1) new
   serves_step n tours new tasks lent is same own up = rw is (rw same (serves_more n tours tasks up own))
+
+  -- the same of the order in which they stand
+  pub order_step : (n : ℕ) (tours new : List (List Task)) (tasks lent : List Task) → new ≡ tours ++ lent ∷ [] → lent ≡ tasks → tasks ≡ gathered groups (n + 1) p.required →
+      InOrderUpTo p groups n tours → InOrderUpTo p groups (n + 1) new
+  order_step n tours new tasks lent is same own up = rw is (rw same (
+    omega (arith, up.0, length-append tours (tasks ∷ [])),
+    λ k low. elim (cases_eq k n) [
+      | inl at ↦ get_or_push tours tasks [] k (omega (arith, at, up.0)) ∙ own ∙ ap (λ m. gathered groups (m + 1) p.required) (sym at)
+      | inr differs ↦ get_or_append_left tours (tasks ∷ []) [] k (omega (arith, low, differs, up.0)) ∙ up.1 k (omega (arith, low, differs))
+    ],
+  ))
+
+  pub groups_in_order : (count : ℕ) (plan : List (List Step)) → InOrderUpTo p groups count (plan_tours plan) → ServesInOrder p groups count plan
+  groups_in_order count plan up g is =
+      let k : ℕ = g - 1 in
+      let next : k + 1 ≡ g = omega (arith, is.from_one) in
+      let below : k < length plan = omega (arith, is.from_one, is.in_range, up.0, length-map plan tasks_of) in
+      sym (get_or-map tasks_of plan k [] [] below) ∙ up.1 k (omega (arith, is.from_one, is.in_range)) ∙ ap (λ h. gathered groups h p.required) next
 
 module _ (p : Problem) (groups : List ℕ) (count : ℕ) (packing : IsPacking p groups count) where
   pub all_served : (tours : List (List Task)) → ServesUpTo p groups count tours → AreLawfulTours p tours

@@ -1,19 +1,11 @@
 -- The tasks of the groups of a packing. No public contract speaks of this.
-use Rattle.std.specs.Prelude.{◌≡◌, ℕ, zero, suc, ◌+◌, ◌<◌, ◌≤◌, ◌==◌, true, List, [], ◌∷◌, ◌++◌, if◌then◌else◌, length, count_by, slice_index, slice_index_or}
+use Rattle.std.specs.Prelude.{◌≡◌, ℕ, ◌+◌, ◌<◌, ◌≤◌, ◌==◌, List, [], if◌then◌else◌, length, count_by, slice_index_or}
 use Rattle.std.specs.List.{AllByRecursion}
 use Rattle.carp_base.specs.declared.edge.Task.{Task}
 use Rattle.carp_base.specs.Problem.{Problem, IsRequired}
 use Rattle.carp_base.specs.Packings.{IsGroup, group_load, group_of}
 use Rattle.task_tours.specs.Tours.{all_tasks, tour_load}
-
--- the edge, forward, where the group that it lies in is this one
-abbrev pub own_task : ℕ → ℕ → ℕ → List Task
-own_task owner group edge = if owner == group then (record { edge = edge; forward = true }) ∷ [] else []
-
--- those of the edges from 1 to n that lie in the group
-abbrev pub gathered : List ℕ → ℕ → ℕ → List Task
-gathered groups group zero = []
-gathered groups group (suc n) = gathered groups group n ++ own_task (slice_index groups n) group (suc n)
+use Rattle.group_plans.specs.Groups.{gathered}
 
 -- tasks in any order and direction on the edges of a group, one on each of them
 pub record ServesGroup (p : Problem) (groups : List ℕ) (group : ℕ) (tasks : List Task) : Type 0 where
@@ -30,3 +22,7 @@ pub record ServesUpTo (p : Problem) (groups : List ℕ) (n : ℕ) (tours : List 
   pub unserved : (e : ℕ) → IsRequired p e → n < group_of groups e → count_by (λ t. t.edge == e) (all_tasks tours) ≡ 0
   pub loads : ((g : ℕ) → IsGroup n g → group_load p groups g ≤ p.capacity) → AllByRecursion (λ tour. tour_load p tour ≤ p.capacity) tours
   pub each : (k e : ℕ) → k < n → IsRequired p e → count_by (λ t. t.edge == e) (slice_index_or tours k []) ≡ (if group_of groups e == k + 1 then 1 else 0)
+
+-- the tours take the edges of the groups from 1 to n in the order of their numbers, and forward
+abbrev pub InOrderUpTo : Problem → List ℕ → ℕ → List (List Task) → Type 0
+InOrderUpTo p groups n tours = (length tours ≡ n) × ((k : ℕ) → k < n → slice_index_or tours k [] ≡ gathered groups (k + 1) p.required)

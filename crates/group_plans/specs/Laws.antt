@@ -6,6 +6,6 @@ use Rattle.plan_model.specs.declared.step.Step.{Step}
 use Rattle.plan_model.specs.Plans.{IsLawful}
 use Rattle.group_plans.specs.Groups.{serving_walks}
 
--- the walks of a lawful plan that serve make a packing: as many groups as there are such walks
+-- there is a packing with as many groups as walks of a lawful plan serve
 abbrev pub PlansArePackings : Type 0
 PlansArePackings = (p : Problem) (plan : List (List Step)) → IsValid p → IsLawful p plan → (groups : List ℕ) × IsPacking p groups (serving_walks plan)

@@ -2,8 +2,8 @@
 ghost use Rattle.std.specs.Prelude.{◌≡◌, [], ◌∷◌};
 ghost use Rattle.carp_base.specs.Packings.{IsPacking};
 ghost use Rattle.group_plans.specs.Examples.{against_street, crossing, far_triangle, lone_depot, on_street, outer_walk, second_walk, service, triangle};
-ghost use Rattle.group_plans.specs.Gathering.{ServesGroup, ServesUpTo, gathered, own_task};
-ghost use Rattle.group_plans.specs.Groups.{ServesGroups, serving_walks};
+ghost use Rattle.group_plans.specs.Gathering.{ServesGroup, ServesUpTo};
+ghost use Rattle.group_plans.specs.Groups.{ServesGroups, gathered, own_task, serving_walks};
 
 fn what_packs()
     ensures all_in_one { IsPacking triangle (1 ∷ 1 ∷ 1 ∷ []) 1 }

@@ -1,6 +1,7 @@
 // The tasks of a group.
 ghost use Rattle.std.specs.Prelude.{◌≡◌, ◌++◌, ◌<◌, ◌^◌, length, IfOk, OnOk};
-ghost use Rattle.group_plans.specs.Gathering.{ServesGroup, gathered, own_task};
+ghost use Rattle.group_plans.specs.Gathering.{ServesGroup};
+ghost use Rattle.group_plans.specs.Groups.{gathered, own_task};
 
 use carp_base::{Instance, Memory, Task};
 use std::alloc::Global;
@@ -38,7 +39,8 @@ pub(crate) fn group_tasks(
     group: u32,
 ) -> Result<Vec<Task>, Memory>
     requires { length groups.now ≡ inst.now.required }
-    ensures { IfOk result (λ tasks. ServesGroup inst.now groups.now group tasks.items) }
+    ensures serves { IfOk result (λ tasks. ServesGroup inst.now groups.now group tasks.items) }
+    ensures order { IfOk result (λ tasks. tasks.items ≡ gathered groups.now group inst.now.required) }
 {
     // What a read of the instance says of it is needed: that it is valid.
     let _ = inst.vertices();

@@ -4,8 +4,8 @@ ghost use Rattle.carp_base.specs.Packings.{IsPacking};
 ghost use Rattle.plan_model.specs.Plans.{IsLawful};
 ghost use Rattle.deadhead_paths.specs.Prices.{costs_of};
 ghost use Rattle.task_tours.specs.Tours.{PlanGoesByLeastPaths, plan_tours};
-ghost use Rattle.group_plans.specs.Gathering.{ServesUpTo};
-ghost use Rattle.group_plans.specs.Groups.{ServesGroups};
+ghost use Rattle.group_plans.specs.Gathering.{InOrderUpTo, ServesUpTo};
+ghost use Rattle.group_plans.specs.Groups.{ServesGroups, ServesInOrder};
 
 use crate::gathering::group_tasks;
 use carp_base::{Instance, Memory};
@@ -15,7 +15,7 @@ use std::alloc::Global;
 use task_tours::{add_tour, plans_are_tours};
 
 // Adds the tour of the group that follows the first `done` groups, whose tours the plan has.
-#[tactic(auto, using(crate::proofs::GroupTours::serves_step))]
+#[tactic(auto, using(crate::proofs::GroupTours::serves_step, crate::proofs::GroupTours::order_step))]
 fn add_next(
     alloc: Global,
     inst: &Instance,
@@ -30,6 +30,7 @@ fn add_next(
     requires few { done < 2 ^ 32 - 1 }
     requires room { length plan.old < 2 ^ 32 - 1 }
     ensures up { OnOk result (ServesUpTo inst.now groups.now done (plan_tours plan.old) → ServesUpTo inst.now groups.now (done + 1) (plan_tours plan.new)) }
+    ensures order { OnOk result (InOrderUpTo inst.now groups.now done (plan_tours plan.old) → InOrderUpTo inst.now groups.now (done + 1) (plan_tours plan.new)) }
     ensures paths { OnOk result (PlanGoesByLeastPaths inst.now plan.old → PlanGoesByLeastPaths inst.now plan.new) }
 {
     // What a read of the instance says of it is needed: that it is valid.
@@ -59,8 +60,10 @@ pub fn plan_of_groups(
     requires packing { IsPacking inst.now groups.now count }
     ensures lawful { IfOk result (λ plan. IsLawful inst.now plan) }
     ensures serves { IfOk result (λ plan. ServesGroups inst.now groups.now count plan) }
+    ensures order { IfOk result (λ plan. ServesInOrder inst.now groups.now count plan) }
     ensures paths { IfOk result (λ plan. PlanGoesByLeastPaths inst.now plan) }
 {
+    // That a plan of lawful tours by least paths is lawful.
     plans_are_tours();
     // What a read of the instance says of it is needed: that it is valid.
     let _ = inst.vertices();

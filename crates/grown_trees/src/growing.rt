@@ -78,7 +78,7 @@ impl GrowingTree {
         branch_at(alloc, &self.nodes, place)
     }
 
-    /// Puts another leaf in the place of a leaf. It takes no memory.
+    /// Puts another node in the place of a node. The list stays that of a tree where both are leaves. It takes no memory.
     pub fn replace(&mut self, place: usize, leaf: GrowingNode)
         requires { place < length self.old.nodes }
         ensures { self.new ≡ record { nodes = take place self.old.nodes ++ ((leaf ∷ []) ++ drop (place + 1) self.old.nodes); room = self.old.room } }
@@ -86,7 +86,8 @@ impl GrowingTree {
         self.nodes[place] = leaf;
     }
 
-    /// Puts an inner node with two leaves in the place of a leaf. It takes no memory.
+    /// Puts a node with two behind it in the place of a node. The list stays that of a tree where the first is an inner node, and the two
+    /// and the one that gives way are leaves. It takes no memory.
     pub fn split(
         &mut self,
         place: usize,
@@ -123,7 +124,8 @@ impl GrowingTree {
     }
 
     /// The first place of a node that does not show a cost by itself and whose number is the least of all; `None` exactly where each
-    /// node shows the cost.
+    /// node shows the cost. In a tree of sound nodes it is a leaf, where the cost is below 10^18
+    /// ([`sound_trees_are_lean`](crate::sound_trees_are_lean)).
     pub fn open_leaf(&self, cost: u64) -> Option<usize>
         ensures some { IfSome result (λ place. IsLeastOpen cost self.now.nodes place) }
         ensures none { IfNone result (All (λ entry. cost ≤ entry.shows) self.now.nodes) }
@@ -135,7 +137,7 @@ impl GrowingTree {
         first_that_shows(&self.nodes, least)
     }
 
-    /// The nodes as a tree. Without memory there is an error.
+    /// The nodes as a tree. Without memory there is an error. Nothing is said of its room for more nodes.
     pub fn tree(&self, alloc: Global) -> Result<Tree, Memory>
         ensures nodes { IfOk result (λ tree. tree.nodes ≡ map (λ entry. entry.node) self.now.nodes) }
         ensures few { length self.now.nodes ≤ self.now.room }

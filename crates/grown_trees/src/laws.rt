@@ -23,8 +23,8 @@ pub fn sound_trees_are_lean()
     ensures leaf { UnshownIsLeaf }
 {}
 
-/// A price set that fits under a branch fits under it with one more decision, and has no lower value there: a yes or a no to a pair that
-/// is not determined, or any decision on a shore.
+/// A price set that fits under a branch fits under it with one more decision, and has no lower value there, where the decision is a yes or
+/// a no to a pair that is not determined, or any decision on a shore.
 pub fn decisions_keep_sets()
     ensures { DecisionsKeepSets }
 {

@@ -11,7 +11,7 @@ use carp_base::Instance;
 use cut_pool::ShorePool;
 
 /// The greatest bound that a price set shows under a branch under which it fits: its value divided by its denominator, rounded
-/// up; 2^64 - 1 where that is more. The bound 0 at least is shown.
+/// up; some number of at least 10^18 where that is 10^18 or more. The bound 0 at least is shown.
 ///
 /// It takes no memory, and time as [`Branch::value_at`] does.
 pub fn shown_under(inst: &Instance, pool: &ShorePool, branch: &Branch, set: &PriceSet) -> u64

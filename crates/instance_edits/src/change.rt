@@ -11,7 +11,7 @@ use crate::Edit;
 use carp_base::{Edge, Fail, Instance, InstanceFault, Memory, RawEdge};
 use std::alloc::Global;
 
-/// What edits do to an edge: what they add, and whether they close it.
+// What edits do to an edge: what they add, and whether they close it.
 #[derive(Clone, Copy)]
 struct Change {
     cost: u64,
@@ -28,7 +28,7 @@ struct Change {
 /// Where faults of the edited instance apply, it is refused for the first of them, with the edge numbers of the edited
 /// instance. `Fail::Memory` says only that memory was not to be had.
 ///
-/// The time grows with the number of edits and what it takes to build an instance, the memory with the number of edges.
+/// With k edits it takes time in proportion to k and to what [`Instance::build`] takes, and memory in proportion to the edges.
 pub fn edited(
     alloc: Global,
     inst: &Instance,
@@ -60,7 +60,7 @@ pub fn edited(
     )
 }
 
-/// A table of what edits do to each edge, by its number.
+// A table of what edits do to each edge, by its number.
 fn changes_by(alloc: Global, count: usize, edits: &[Edit]) -> Result<Vec<Change>, Memory>
     requires applied { All (IsApplied count) edits.now }
     requires few { length edits.now ≤ 2 ^ 20 }
@@ -80,7 +80,7 @@ fn changes_by(alloc: Global, count: usize, edits: &[Edit]) -> Result<Vec<Change>
     Ok(changes)
 }
 
-/// Does edits, one after another, to a table in which nothing is changed.
+// Does edits, one after another, to a table in which nothing is changed.
 fn apply_all(changes: &mut [Change], edits: &[Edit])
     requires none { (e : ℕ) → e < length changes.old → slice_index_or changes.old e nothing ≡ nothing }
     requires applied { All (IsApplied (length changes.old)) edits.now }
@@ -93,7 +93,7 @@ fn apply_all(changes: &mut [Change], edits: &[Edit])
     }
 }
 
-/// Does an edit.
+// Does an edit.
 fn apply(changes: &mut [Change], edit: Edit)
     requires applied { IsApplied (length changes.old) edit }
     requires room { (e : ℕ) → e < length changes.old → IsAtMost (10 ^ 12 * 2 ^ 20) (slice_index_or changes.old e nothing) }
@@ -107,7 +107,7 @@ fn apply(changes: &mut [Change], edit: Edit)
     }
 }
 
-/// So many edges from the one behind number `first` on, with what is changed of them, without the closed ones.
+// So many edges from the one behind number `first` on, with what is changed of them, without the closed ones.
 fn kept_from(
     alloc: Global,
     inst: &Instance,
@@ -130,7 +130,7 @@ fn kept_from(
     Ok(edges)
 }
 
-/// Adds an edge with what is changed of it, unless it is closed.
+// Adds an edge with what is changed of it, unless it is closed.
 fn push_kept(edges: &mut Vec<RawEdge>, edge: Edge, change: Change) -> Result<(), Memory>
     requires cost { edge.cost ≤ 1000000 }
     requires demand { edge.demand ≤ 1000000 }

@@ -1,7 +1,7 @@
 // Laws, as functions whose contract is the law.
 ghost use Rattle.instance_edits.specs.Laws.{BadLineIsUnique, EditsAreUnique, EditsHaveNoFault};
 
-/// Bytes are the text of at most one list of edits, or have one first bad line.
+/// No bytes are the text of two lists of edits, have two first bad lines, or are a text and have a bad line.
 pub fn edits_are_unique()
     ensures edits { EditsAreUnique }
     ensures apart { EditsHaveNoFault }

@@ -6,10 +6,10 @@ ghost use Rattle.std.specs.Char.{is_ascii_digit};
 ghost use Rattle.std.specs.Str.Parse.{digits_value, AllDigits};
 ghost use Rattle.instance_edits.specs.Reading.{after_byte, number_before, keyword_at, closing_at, adding_at, line_at, edit_of, is_numeral};
 
-/// A number has at most so many digits.
+// A number has at most so many digits.
 const MOST_DIGITS: usize = 12;
 
-/// What a line says is done to an edge.
+// What a line says is done to an edge.
 #[derive(Clone, Copy)]
 pub(crate) enum Keyword {
     Cost,
@@ -18,7 +18,7 @@ pub(crate) enum Keyword {
     Close,
 }
 
-/// What a line says. Nothing is added where the edge is closed.
+// What a line says. Nothing is added where the edge is closed.
 #[derive(Clone, Copy)]
 pub(crate) struct Line {
     pub(crate) keyword: Keyword,
@@ -26,7 +26,7 @@ pub(crate) struct Line {
     pub(crate) add: u64,
 }
 
-/// The line at the front of a text, and what follows it, unless the text begins with no line of an edit.
+// The line at the front of a text, and what follows it, unless the text begins with no line of an edit.
 #[tactic(auto, unfolding(crate::specs::Reading::line_at))]
 pub(crate) fn line_at(text: &[u8]) -> Option<(Line, &[u8])>
     ensures { option_map (λ p. (edit_of p.0, p.1.now)) result ≡ line_at text.now }
@@ -38,7 +38,7 @@ pub(crate) fn line_at(text: &[u8]) -> Option<(Line, &[u8])>
     }
 }
 
-/// An edge and what is added.
+// An edge and what is added.
 fn adding_at(keyword: Keyword, text: &[u8]) -> Option<(Line, &[u8])>
     ensures { option_map (λ p. (edit_of p.0, p.1.now)) result ≡ adding_at keyword text.now }
 {
@@ -48,7 +48,7 @@ fn adding_at(keyword: Keyword, text: &[u8]) -> Option<(Line, &[u8])>
     Some((line, rest))
 }
 
-/// An edge alone.
+// An edge alone.
 fn closing_at(text: &[u8]) -> Option<(Line, &[u8])>
     ensures { option_map (λ p. (edit_of p.0, p.1.now)) result ≡ closing_at text.now }
 {
@@ -61,7 +61,7 @@ fn closing_at(text: &[u8]) -> Option<(Line, &[u8])>
     Some((line, rest))
 }
 
-/// The word at the front of a text with the blank behind it, and what follows.
+// The word at the front of a text with the blank behind it, and what follows.
 #[tactic(auto, unfolding(crate::specs::Reading::keyword_at))]
 fn keyword_at(text: &[u8]) -> Option<(Keyword, &[u8])>
     ensures { option_map (λ p. (p.0, p.1.now)) result ≡ keyword_at text.now }
@@ -81,7 +81,7 @@ fn keyword_at(text: &[u8]) -> Option<(Keyword, &[u8])>
     None
 }
 
-/// The number at the front of a text that stands before this byte, and what follows the byte.
+// The number at the front of a text that stands before this byte, and what follows the byte.
 #[tactic(auto, unfolding(crate::specs::Reading::number_before))]
 fn number_before(text: &[u8], end: u8) -> Option<(u64, &[u8])>
     ensures { option_map (λ p. (p.0, p.1.now)) result ≡ number_before end text.now }
@@ -101,7 +101,7 @@ fn digit_count(text: &[u8]) -> usize
     text.iter().take_while(|byte| byte.is_ascii_digit()).count()
 }
 
-/// Whether digits spell a number in the one way that is allowed.
+// Whether digits spell a number in the one way that is allowed.
 fn is_numeral(digits: &[u8]) -> bool
     ensures { result ≡ is_numeral digits.now }
 {
@@ -120,7 +120,7 @@ fn after_byte(text: &[u8], byte: u8) -> Option<&[u8]>
     }
 }
 
-/// The number that digits write.
+// The number that digits write.
 fn value_of(digits: &[u8]) -> u64
     requires digits { AllDigits 10 digits.now }
     requires short { length digits.now ≤ 12 }

@@ -22,7 +22,7 @@ use std::alloc::Global;
 /// closes. Whichever of both lines stands first is answered. [`EditFault::Refused`] is never answered: whether the edited
 /// instance is valid is told by [`edited`](crate::edited). `Fail::Memory` says only that memory was not to be had.
 ///
-/// The time grows with the number of bytes and of edges, the memory with the number of lines and of edges.
+/// With b bytes and m edges it takes time in proportion to b + m, and memory in proportion to the lines and to m.
 pub fn read_edits(
     alloc: Global,
     inst: &Instance,
@@ -36,7 +36,7 @@ pub fn read_edits(
     read_lines(alloc, inst, &mut closed, bytes)
 }
 
-/// Reads the lines, with a mark for each edge that tells whether it is closed.
+// Reads the lines, with a mark for each edge that tells whether it is closed.
 fn read_lines(
     alloc: Global,
     inst: &Instance,
@@ -64,7 +64,7 @@ fn read_lines(
     Ok(edits)
 }
 
-/// Marks what an edit closes.
+// Marks what an edit closes.
 fn mark(closed: &mut [bool], edit: Edit)
     requires { IsWithin (length closed.old) edit }
     ensures { (before : List AnyEdit) → IsMarked closed.old before → IsMarked closed.new (before ++ edit ∷ []) }
@@ -74,7 +74,7 @@ fn mark(closed: &mut [bool], edit: Edit)
     }
 }
 
-/// The edit of the next line and what follows the line, which has this number; or the fault of the line.
+// The edit of the next line and what follows the line, which has this number; or the fault of the line.
 fn next_edit<'a>(
     inst: &Instance,
     closed: &[bool],
@@ -93,7 +93,7 @@ fn next_edit<'a>(
     Ok((edit_of(line), rest))
 }
 
-/// Whether a line names an edge that it may name.
+// Whether a line names an edge that it may name.
 #[tactic(auto, unfolding(crate::specs::Reading::is_known))]
 fn is_known(inst: &Instance, closed: &[bool], line: Line) -> bool
     requires { length closed.now ≡ length inst.now.edges + 1 }
@@ -124,7 +124,7 @@ fn is_required(inst: &Instance, edge: u64) -> bool
     edge >= 1 && edge <= u64::from(inst.required())
 }
 
-/// The edit of a line that names an edge.
+// The edit of a line that names an edge.
 fn edit_of(line: Line) -> Edit
     requires { line.edge < 2 ^ 32 }
     ensures { result ≡ edit_of line }

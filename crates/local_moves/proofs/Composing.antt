@@ -49,11 +49,11 @@ ends_home (tour ∷ tours) =
     let rest = ends_home tours in
     (0 ∷ (map stop_of tour ++ rest.0), ap (λ zs. 0 ∷ (map stop_of tour ++ zs)) rest.1 ∙ ap (λ zs. 0 ∷ zs) (sym (append_assoc (map stop_of tour) rest.0 (0 ∷ []))))
 
-starts_home : (tours : List (List Task)) → get_or (round_of tours) 0 0 ≡ 0
+pub starts_home : (tours : List (List Task)) → get_or (round_of tours) 0 0 ≡ 0
 starts_home [] = refl
 starts_home (tour ∷ tours) = refl
 
-round_some : (tours : List (List Task)) → 1 ≤ length (round_of tours)
+pub round_some : (tours : List (List Task)) → 1 ≤ length (round_of tours)
 round_some [] = omega arith
 round_some (tour ∷ tours) = omega arith
 

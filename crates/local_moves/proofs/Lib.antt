@@ -8,4 +8,5 @@ mod Rounding
 mod Boarding
 mod Changing
 mod Composing
+mod Serving
 mod Small

@@ -1,12 +1,14 @@
 // Small data on which a fact that no call decides holds, and on which it does not.
-ghost use Rattle.std.specs.Prelude.{◌≡◌, [], ◌∷◌};
+ghost use Rattle.std.specs.Prelude.{◌≡◌, [], ◌∷◌, None, Some};
 ghost use Rattle.task_tours.specs.Examples.{alley_out, lane_and_alley, lane_home, lane_out};
-ghost use Rattle.local_moves.specs.Changes.{IsChange, IsSettledPlan, MovesOne, OpensOne, SwapsBetween, SwapsWithin, TakesOutTask, TurnsOne, other_direction};
+ghost use Rattle.local_moves.specs.Changes.{IsChange, IsSameService, IsSettledPlan, MovesOne, OpensOne, SwapsBetween, SwapsWithin, TakesOutTask, TurnsOne, other_direction};
 ghost use Rattle.local_moves.specs.Examples.{detour};
+ghost use Rattle.local_moves.specs.Offering.{OffersSettled};
 
 fn services_turn()
     ensures turned { TurnsOne ((lane_out ∷ []) ∷ []) ((lane_home ∷ []) ∷ []) }
     ensures same { ¬ (TurnsOne ((lane_out ∷ []) ∷ []) ((lane_out ∷ []) ∷ [])) }
+    ensures other_edge { ¬ (IsSameService lane_out alley_out) }
     ensures back { other_direction (other_direction lane_out) ≡ lane_out }
 {}
 
@@ -30,4 +32,9 @@ fn services_change_places()
 fn plans_are_settled()
     ensures nothing { IsSettledPlan lane_and_alley [] }
     ensures detour { ¬ (IsSettledPlan lane_and_alley (detour ∷ [])) }
+{}
+
+fn what_is_offered()
+    ensures none { ¬ (OffersSettled lane_and_alley (detour ∷ []) None) }
+    ensures idle_tour { ¬ (OffersSettled lane_and_alley (detour ∷ []) (Some ([] ∷ []))) }
 {}

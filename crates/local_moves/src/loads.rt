@@ -15,8 +15,8 @@ const MOST_LOAD: u32 = 60_000;
 // The loads of tours before and from each place of a round on, as far as they are counted.
 #[derive(Drop)]
 pub(crate) struct Loads {
-    pub behind: Vec<u32>,
-    pub ahead: Vec<u32>,
+    pub(crate) behind: Vec<u32>,
+    pub(crate) ahead: Vec<u32>,
 }
 
 // The load once a stop was made too.

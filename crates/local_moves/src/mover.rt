@@ -15,12 +15,14 @@ use task_tours::{Standing, cost_distances, lawful_cost};
 
 /// A helper that changes the best plan so far by ruin and recreate, where that makes it no dearer, and settles it.
 ///
-/// It draws on from call to call from the seed that it was given, so that its offers are the same for the same seed, instance and
-/// best plans. Most of its time goes into ruin and recreate (at most 120,000 steps, each in proportion to the required edges).
+/// It draws on from call to call, and begins anew with the seed that it is given; no clause speaks of the draws.
+///
+/// With n vertices, m edges and r required edges an offer takes time in proportion to n (n + m) log n, to r for each of at most
+/// 120,000 steps of ruin and recreate, and to r * r for each change that settling finds.
 #[derive(Drop)]
 pub struct Mover {
     standing: Standing,
-    generator: Lcg64Xsh32,
+    pub(crate) generator: Lcg64Xsh32,
 }
 
 impl Mover {
@@ -39,7 +41,6 @@ impl Mover {
 }
 
 impl Proposer for Mover {
-    ghost use Rattle.plan_model.specs.Offers.{Tally};
     ghost use Rattle.task_tours.specs.Standings.{tally_of};
 
     ghost id = { λ h. h.standing.id };

@@ -1,8 +1,10 @@
 // Settled plans.
-ghost use Rattle.std.specs.Prelude.{◌≡◌, ◌≤◌, ◌+◌, IfOk};
+ghost use Rattle.std.specs.Prelude.{◌≡◌, ◌≢◌, ◌≤◌, ◌+◌, [], IfOk};
+ghost use Rattle.std.specs.List.{AllByRecursion};
 ghost use Rattle.carp_base.specs.Problem.{required_cost};
 ghost use Rattle.plan_model.specs.Plans.{IsLawful, plan_cost};
 ghost use Rattle.deadhead_paths.specs.Prices.{costs_of};
+ghost use Rattle.task_tours.specs.Tours.{PlanGoesByLeastPaths, plan_tours};
 ghost use Rattle.ruin_recreate.specs.Boards.{IsBoard, IsBoardOf};
 ghost use Rattle.local_moves.specs.Changes.{IsSettledPlan};
 ghost use Rattle.local_moves.specs.Rounds.{links_of};
@@ -33,6 +35,8 @@ pub(crate) fn settle_from(
     ensures lawful { IfOk result (IsLawful inst.now) }
     ensures cost { IfOk result (λ plan. plan_cost inst.now plan ≤ required_cost inst.now + links_of board.now round.items) }
     ensures settled { IfOk result (IsSettledPlan inst.now) }
+    ensures paths { IfOk result (PlanGoesByLeastPaths inst.now) }
+    ensures each_serves { IfOk result (λ after. AllByRecursion (λ tour. tour ≢ []) (plan_tours after)) }
 {
     plans_are_tours();
     // What a read of the instance says of it is needed: that it is valid.
@@ -57,6 +61,8 @@ pub(crate) fn settle_on(
     ensures lawful { IfOk result (IsLawful inst.now) }
     ensures cost { IfOk result (λ after. plan_cost inst.now after ≤ plan_cost inst.now plan.now) }
     ensures settled { IfOk result (IsSettledPlan inst.now) }
+    ensures paths { IfOk result (PlanGoesByLeastPaths inst.now) }
+    ensures each_serves { IfOk result (λ after. AllByRecursion (λ tour. tour ≢ []) (plan_tours after)) }
 {
     plans_are_tours();
     required_edges_are_served_once();
@@ -69,11 +75,12 @@ pub(crate) fn settle_on(
 /// A plan that no small change makes cheaper, and that costs no more than a lawful plan from which it comes.
 ///
 /// A small change turns the direction of one service, moves one service, in either direction, to any place of any tour or to a
-/// tour of its own, or lets two services change places. Of all lawful plans whose tours are one such change away none costs
-/// less. The distances are those by cost.
+/// tour of its own, or lets two services change places, each in its direction. Of all lawful plans whose tours are one such
+/// change away none costs less. Each tour serves, and goes by least paths. The distances are those by cost.
 ///
 /// With m required edges a pass over all changes takes time in proportion to m * m, and so does the table of least prices
-/// that it reads. Passes go on until one finds nothing; each change found lowers the cost.
+/// that it reads. Passes go on until one finds nothing; each change found lowers the cost, so there
+/// are at most as many as the cost has units.
 pub fn settle(alloc: Global, inst: &Instance, dist: &Distances, plan: &Plan) -> Result<Plan, Memory>
     requires problem { dist.now.problem ≡ inst.now }
     requires prices { dist.now.prices ≡ costs_of inst.now }
@@ -81,6 +88,8 @@ pub fn settle(alloc: Global, inst: &Instance, dist: &Distances, plan: &Plan) -> 
     ensures lawful { IfOk result (IsLawful inst.now) }
     ensures cost { IfOk result (λ after. plan_cost inst.now after ≤ plan_cost inst.now plan.now) }
     ensures settled { IfOk result (IsSettledPlan inst.now) }
+    ensures paths { IfOk result (PlanGoesByLeastPaths inst.now) }
+    ensures each_serves { IfOk result (λ after. AllByRecursion (λ tour. tour ≢ []) (plan_tours after)) }
 {
     let board = board_of(alloc, inst, dist)?;
     settle_on(alloc, inst, dist, &board, plan)

@@ -14,8 +14,8 @@ use std::alloc::Global;
 // A round after a change, and the place of the service that it began with.
 #[derive(Drop)]
 pub(crate) struct Change {
-    pub round: Vec<u32>,
-    pub place: usize,
+    pub(crate) round: Vec<u32>,
+    pub(crate) place: usize,
 }
 
 // A change of the service at a place, or a swap with a later one, that is better, if there is one.

@@ -30,7 +30,7 @@ fn try_swap(
     }
     let before = round[first - 1];
     let after = round[second + 1];
-    // the stops between the two, where the first is already changed
+    // The stops between the two, where the first is already changed
     let next = round[first + 1];
     let last = if first + 1 == second {
         y

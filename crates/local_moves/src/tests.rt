@@ -2,21 +2,27 @@
 use crate::{Mover, settle};
 use carp_base::{Instance, Memory, RawEdge};
 use plan_model::{JudgeRoom, Plan, Proposer, Step, Verdict, Walk, judge, verdicts_are_exact};
+use rand_pcg::Lcg64Xsh32;
 use std::alloc::Global;
 use std::mem;
 use std::process::Abort;
 use std::test::Fail;
 use task_tours::{cost_distances, lawful_cost};
 
-// An edge of demand 1 whose service costs as much as a crossing.
-fn street(u: u64, v: u64, cost: u64) -> RawEdge {
+// An edge whose service costs as much as a crossing.
+fn loaded(u: u64, v: u64, cost: u64, demand: u64) -> RawEdge {
     RawEdge {
         u,
         v,
         cost,
-        demand: 1,
+        demand,
         service: cost,
     }
+}
+
+// The same with a demand of 1.
+fn street(u: u64, v: u64, cost: u64) -> RawEdge {
+    loaded(u, v, cost, 1)
 }
 
 // A plan from a text. A sign and a digit are a step on the edge of that number: `+` serves it forward, `-` serves it backward,
@@ -142,7 +148,46 @@ fn offers_a_settled_plan(rt: HostRuntime) -> Result<(), Fail> {
         }
         None => panic!(rt; "it offers a plan"),
     }
+    assert!(rt; helper.generator != Lcg64Xsh32::new(0, 1));
     helper.reseed(7);
+    assert!(rt; helper.generator == Lcg64Xsh32::new(7, 1));
     assert_eq!(rt; (helper.id(), helper.fouls()), (5, 0));
+    Ok(())
+}
+
+// Three dead ends at 2 and three at 3, both far from the depot, of which one each takes half a vehicle. Each tour of the best plan
+// goes to both, and each change of one or two services loads a vehicle too much or saves nothing.
+#[test]
+fn stirs_what_is_settled(rt: HostRuntime) -> Result<(), Fail> {
+    let alloc = rt.alloc();
+    let required = [
+        loaded(2, 4, 1, 2),
+        loaded(2, 5, 1, 1),
+        loaded(2, 6, 1, 1),
+        loaded(3, 7, 1, 1),
+        loaded(3, 8, 1, 1),
+        loaded(3, 9, 1, 2),
+    ];
+    let ways = [loaded(1, 2, 100, 0), loaded(1, 3, 100, 0)];
+    let inst = Instance::build(alloc, 9, 1, 4, &required, &ways)?;
+    let text = ">7+1<1<7>8+6<6<8;>7+2<2+3<3<7>8+4<4+5<5<8;";
+    let best = plan_of(&rt, alloc, text)?;
+    let settled = settled_cost(&rt, alloc, &inst, &best)?;
+    assert_eq!(rt; settled, 812);
+    verdicts_are_exact();
+    let mut room = JudgeRoom::new(alloc, &inst)?;
+    let Verdict::Lawful { .. } = judge(&inst, &best, &mut room) else {
+        panic!(rt; "it is lawful");
+    };
+    let mut helper = Mover::new(alloc, 5);
+    match helper.propose(alloc, &inst, &best)? {
+        Some(plan) => {
+            assert_eq!(rt;
+                judge(&inst, &plan, &mut room),
+                Verdict::Lawful { cost: 412 }
+            );
+        }
+        None => panic!(rt; "it offers a plan"),
+    }
     Ok(())
 }

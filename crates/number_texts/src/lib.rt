@@ -1,7 +1,7 @@
 //! Numbers in a growing text.
 //!
-//! Each call adds to the end of a text, and says what it adds. Its error says only that memory was not to be had; the text may then have
-//! grown by a part of it.
+//! Each call adds to the end of a text, and says what it adds. Words stand as they are: a blank before the number is part of them. Its error
+//! says only that memory was not to be had; what the text then holds is not said. It takes time in proportion to what it adds.
 #![tactic(auto)]
 
 #[cfg(test)]

@@ -13,8 +13,8 @@ use Rattle.packing_trees.specs.declared.node.PackChoice.TheVariants.{Together, A
 use Rattle.packing_trees.specs.declared.shares.Shares.{Shares}
 use Rattle.packing_trees.specs.Bundles.{AreBundles, IsChoice, bundle_of, bundle_weight, over_bundles, is_large, share_value}
 use Rattle.packing_trees.specs.Tables.{AddsBundle, AreLabels, AreMerged, AreShares, AreSmallShares, IsBelow, IsSmallTable, merged, over_labels, value_of, weight_to}
-use Rattle.packing_trees.proofs.Naming.{named_bundles, after_together, after_apart}
-use Rattle.packing_trees.proofs.Sums.{sum_to-same, sum_to-most}
+use Rattle.packing_trees.proofs.Naming.{bundle_required, named_bundles, after_together, after_apart}
+use Rattle.packing_trees.proofs.Sums.{sum_to-same, sum_to-most, sum_to-zero}
 
 -- One choice more in the labels.
 pub labels_joined : (branch : List PackChoice) (a b : ℕ) (old new : List ℕ) → a < length old → b < length old → AreLabels branch old →
@@ -102,14 +102,18 @@ bundle_small p branch l valid =
     most false e required = omega arith
 
 -- The lists are of the bundles.
-pub are_bundles : (p : Problem) (branch : List PackChoice) (labels weights : List ℕ) → length labels ≡ p.required + 1 → AreLabels branch labels → length weights ≡ p.required + 1 →
+pub are_bundles : (p : Problem) (branch : List PackChoice) (labels weights : List ℕ) → All (IsChoice p) branch → length labels ≡ p.required + 1 → AreLabels branch labels → length weights ≡ p.required + 1 →
     ((l : ℕ) → l < length weights → slice_index weights l ≡ weight_to p labels p.required l) → AreBundles p branch labels weights
-are_bundles p branch labels weights label_each own weight_each each = record {
+are_bundles p branch labels weights choices label_each own weight_each each = record {
   label_each = label_each;
   weight_each = weight_each;
   labelled = λ e required. own e (omega (arith, required.in_range, label_each));
   weighed = λ e required. each e (omega (arith, required.in_range, weight_each)) ∙ sum_to-same p.required _ _
       (λ d one below. ap (λ l. if l == e then (edge_at p d).demand else 0) (own d (omega (arith, below, label_each))));
+  none_at_0 = each 0 (omega (arith, weight_each)) ∙ sum_to-same p.required (λ e. if slice_index labels e == 0 then (edge_at p e).demand else 0) (λ _. 0) (λ d one below.
+      let number = bundle_required p branch d choices (record { from_one = one; in_range = below }) in
+      ap {B = ℕ} (λ b. if b then (edge_at p d).demand else 0) (ne_eqb (slice_index labels d) 0 (λ none. omega (arith, none, own d (omega (arith, below, label_each)), number.from_one))))
+      ∙ sum_to-zero p.required;
 }
 
 pub small_table : (p : Problem) (branch : List PackChoice) (labels weights : List ℕ) → IsValid p → AreBundles p branch labels weights → IsSmallTable labels weights

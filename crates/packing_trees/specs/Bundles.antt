@@ -1,5 +1,5 @@
 -- Branches of a search over packings: pairs of required edges that share a group or do not, and the bundles that they make
--- (bin packing with conflicts; Martello and Toth 1990, chapter 8).
+-- (Ryan and Foster 1981; the bounds at the leaves are those of Martello and Toth 1990, section 8.3).
 use Rattle.std.specs.Prelude.{◌≡◌, ◌≢◌, ℕ, ◌+◌, ◌-◌, ◌*◌, ◌<◌, ◌≤◌, ◌==◌, ◌&&◌, ◌⊎◌, Bool, List, [], ◌∷◌, if◌then◌else◌, max, min, nat_lt, nat_le, slice_index, length}
 use Rattle.std.specs.List.{All, Contains}
 use Rattle.std.specs.Int.{div_ceil}
@@ -109,12 +109,13 @@ share_value p branch s =
     alone_count p branch s + large_count p branch s
     + div_ceil (middle_weight p branch s - (large_count p branch s * p.capacity - large_weight p branch s)) p.capacity
 
--- the number and the weight of the bundle of each required edge, at the places of the edges' numbers; place 0 is of no edge
+-- the number and the weight of the bundle of each required edge, at the places of the edges' numbers; place 0 is of no edge, and weighs nothing
 pub record AreBundles (p : Problem) (branch : List PackChoice) (labels weights : List ℕ) : Type 0 where
   pub label_each : length labels ≡ p.required + 1
   pub weight_each : length weights ≡ p.required + 1
   pub labelled : (e : ℕ) → IsRequired p e → slice_index labels e ≡ bundle_of branch e
   pub weighed : (e : ℕ) → IsRequired p e → slice_index weights e ≡ bundle_weight p branch e
+  pub none_at_0 : slice_index weights 0 ≡ 0
 
 -- the lists are of the bundles of some branch of choices on required edges
 pub record HasBundles (p : Problem) (labels weights : List ℕ) : Type 0 where

@@ -13,6 +13,10 @@ two = record { u = 1; v = 2; cost = 5; demand = 2; service = 5 }
 abbrev pub carrying : ℕ → Problem
 carrying capacity = record { vertices = 2; depot = 1; capacity = capacity; required = 3; edges = two ∷ two ∷ two ∷ [] }
 
+-- no edges, and nothing that is required
+abbrev pub no_edges : Problem
+no_edges = record { vertices = 1; depot = 1; capacity = 3; required = 0; edges = [] }
+
 -- a pair that is split, with a share of size 2 where its edges are together, and the other leaf where they are apart
 abbrev pub split_pair : PackTree
 split_pair = pair 1 2 (share 2) settled

@@ -1,4 +1,4 @@
-// Whether two bundles can share a group.
+// Whether two bundles can lie in one group.
 ghost use Rattle.std.specs.Prelude.{◌≡◌, ◌≢◌, ℕ, ◌+◌, ◌<◌, ◌≤◌, ◌↔◌, ◌⊎◌, All, IfOk, IsTrue, length, slice_index};
 ghost use Rattle.packing_trees.specs.Bundles.{AreAllClosed, AreBundles, IsChoice, IsClosedPair, IsPair};
 ghost use Rattle.packing_trees.specs.Tables.{AreRefused, IsBelow, IsSmallTable, Marks, PartsLabels, RowIsClosed, RowIsHeavy, RowIsMarked, RowsAreClosed, SomePartsLabels};
@@ -30,7 +30,7 @@ pub fn is_closed(inst: &Instance, bundles: &Bundles, branch: &[PackChoice], a: u
         )
 }
 
-// Whether two bundles cannot share a group.
+// Whether two bundles cannot lie in one group.
 fn are_refused(
     capacity: u64,
     labels: &[u32],
@@ -85,10 +85,10 @@ fn are_they(x: u32, y: u32, one: u32, other: u32) -> bool
 }
 
 /// Whether each pair of required edges is closed under the branch whose bundles these are, so that no two bundles can
-/// share a group.
+/// lie in one group.
 ///
 /// With m required edges, n bundles and d choices it takes time in proportion to m + n * (m + d), and memory in proportion
-/// to m. The choices are looked at only for bundles that are not too heavy beside all others.
+/// to m. The choices are looked at only for bundles that are not too heavy beside each one of a greater number.
 pub fn all_closed(
     alloc: Global,
     inst: &Instance,
@@ -110,7 +110,7 @@ pub fn all_closed(
     ))
 }
 
-// Whether no two bundles can share a group.
+// Whether no two bundles can lie in one group.
 fn rows_closed(
     capacity: u64,
     labels: &[u32],
@@ -135,7 +135,7 @@ fn rows_closed(
     true
 }
 
-// Whether a bundle can share a group with none of a greater number.
+// Whether a bundle can lie in one group with none of a greater number.
 fn row_closed(
     capacity: u64,
     labels: &[u32],

@@ -16,7 +16,7 @@ pub fn bundles_are_joined()
     ensures least { BundlesAreNamedByTheLeast }
 {}
 
-/// No good packing has a first reason, and every packing has at most one.
+/// No good packing has a first reason, and whatever is claimed has at most one.
 pub fn pack_answers_are_exact()
     ensures good { GoodHasNoReason }
     ensures unique { ReasonIsUnique }

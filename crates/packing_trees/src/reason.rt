@@ -11,7 +11,8 @@ pub enum PackReason {
     GroupEmpty { group: u32 },
     /// The group's demand is above the capacity.
     Overload { group: u32, load: u128 },
-    /// The nodes are not one whole tree: it is whole at this node and others follow, or the nodes end here.
+    /// The nodes are not one whole tree: it is whole at this node and others follow, or the nodes end here. Where there are none at all,
+    /// the number is 0.
     NotWhole { node: u64 },
     /// The node is a pair that is not of two required edges, the lesser one first.
     Misfit { node: u64 },
@@ -19,7 +20,7 @@ pub enum PackReason {
     NotLean { node: u64 },
     /// The node is a share of more than half the capacity.
     ShareWrong { node: u64 },
-    /// The node is a leaf `Apart`, and two of its bundles could share a group.
+    /// The node is a leaf `Apart`, and two of its bundles could lie in one group.
     NotApart { node: u64 },
     /// The node is a leaf whose value is below the bound.
     LeafLow { node: u64, value: u64 },

@@ -35,7 +35,8 @@ pub trait Proposer: Drop {
         ensures asked { asked self.new ≡ 0 }
         ensures tally { tally self.new ≡ record { fouls = 0; least = None; last = None } };
 
-    /// Offers a plan, or none. It may look at the best lawful plan so far.
+    /// Offers a plan, or none. It may look at the best lawful plan so far. From one seed to the next it is asked at most 1,000 times, and no more once it has offered
+    /// 1,000 unlawful plans. After want of memory it counts as asked, and its last offer is none.
     fn propose(
         &mut self,
         alloc: Global,

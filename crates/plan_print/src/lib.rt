@@ -1,4 +1,4 @@
-//! The texts that are printed of a plan.
+//! The report of a certificate, the street sheet of a plan, and the parts that other answers share: a route, the tours, the line of a gap.
 #![tactic(auto)]
 
 mod reporting;

@@ -1,4 +1,4 @@
-// What `solve` writes.
+// The report, and the parts of it that other answers have.
 ghost use Rattle.std.specs.Prelude.{◌≡◌, ◌+◌, ◌<◌, ◌≤◌, ◌^◌, ◌++◌, length, IfOk, OnOk, decimal, All};
 ghost use Rattle.std.specs.List.{flat_map};
 ghost use Rattle.carp_base.specs.Problem.{IsEdgeNumber};
@@ -35,7 +35,7 @@ fn push_crossings(text: &mut Vec<u8>, inst: &Instance, walk: &Walk) -> Result<()
 /// Adds the route of a walk: the depot, and then for each step `=` where it serves and `-` where it does not, and the vertex that it reaches. The
 /// steps are on edges of the instance.
 ///
-/// Its error says only that memory was not to be had; the text may then have grown by a part of it.
+/// Its error says only that memory was not to be had; what the text then holds is not said. It takes time in proportion to what it adds.
 #[tactic(auto, unfolding(crate::specs::Report::route_text))]
 pub fn push_route(text: &mut Vec<u8>, inst: &Instance, walk: &Walk) -> Result<(), Memory>
     requires { IsOnEdges inst.now walk.now }
@@ -87,7 +87,7 @@ fn push_instance_line(text: &mut Vec<u8>, inst: &Instance) -> Result<(), Memory>
 
 /// Adds the line that says whether a bound, at most a cost, is the cost: `proven`, or `open gap` and how far it lies below.
 ///
-/// Its error says only that memory was not to be had; the text may then have grown by a part of it.
+/// Its error says only that memory was not to be had; what the text then holds is not said. It takes time in proportion to what it adds.
 #[tactic(auto, unfolding(crate::specs::Report::gap_line))]
 pub fn push_gap(text: &mut Vec<u8>, cost: u128, bound: u128) -> Result<(), Memory>
     requires { bound ≤ cost }
@@ -114,7 +114,7 @@ fn push_result_lines(text: &mut Vec<u8>, cert: &Cert, turns: u64) -> Result<(), 
 
 /// Adds the number of the tours of a lawful plan, and a line for each: its load, its cost and its route.
 ///
-/// Its error says only that memory was not to be had; the text may then have grown by a part of it. It takes time in proportion to the text.
+/// Its error says only that memory was not to be had; what the text then holds is not said. It takes time in proportion to what it adds.
 #[tactic(auto, unfolding(crate::specs::Report::tours_text))]
 pub fn push_tours(text: &mut Vec<u8>, inst: &Instance, plan: &Plan) -> Result<(), Memory>
     requires { IsLawful inst.now plan.now }
@@ -124,8 +124,8 @@ pub fn push_tours(text: &mut Vec<u8>, inst: &Instance, plan: &Plan) -> Result<()
     push_tour_lines(text, inst, plan)
 }
 
-/// The report of an instance, a certificate of it and the turns of the certificate's tree: the size of the instance, cost, bound and turns, whether
-/// the bound is the cost, and each tour with its load, its cost and the vertices that it reaches.
+/// The report of an instance, a certificate and a number of turns: the size of the instance, the cost and the bound that the certificate states, the
+/// turns as they are given, whether the bound is the cost, and each tour with its load, its cost and the vertices that it reaches.
 ///
 /// Its error says only that memory was not to be had. It takes time in proportion to the text.
 pub fn report(alloc: Global, inst: &Instance, cert: &Cert, turns: u64) -> Result<Vec<u8>, Memory>

@@ -122,6 +122,7 @@ fn total_cost(inst: &Instance, plan: &Plan) -> u128
     requires { IsLawful inst.now plan.now }
     ensures { result ≡ plan_cost inst.now plan.now }
 {
+    // What a read of the instance says of it is needed: that it is valid.
     let _ = inst.vertices();
     let mut sum: u128 = 0;
     for i in 0..plan.len() {

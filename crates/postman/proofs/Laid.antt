@@ -15,9 +15,9 @@ use Rattle.road_network.specs.Incidence.{has_end}
 use Rattle.cut_pool.specs.Shores.{required_crossings}
 use Rattle.edge_components.specs.Parts.{parts_of, parts_over}
 use Rattle.matching_duals.specs.Joins.{MakesEven}
-use Rattle.postman.specs.Rounds.{AreJoined}
+use Rattle.postman.specs.Rounds.{AreJoined, idles}
 use Rattle.postman.specs.Trails.{IsCheapRound, IsCircuit, IsLaid, IsSpent, IsStart, Spends, Stands, left_at, one_each, one_if, one_service, worth, worth_left, worth_of}
-use Rattle.postman.proofs.Sums.{sum_to-add, sum_to-edge_at, sum_to-front, sum_to-most, sum_to-same, sum_to-single, sum_to-zero}
+use Rattle.postman.proofs.Sums.{sum_to-add, sum_to-edge_at, sum_to-front, sum_to-most, sum_to-one, sum_to-same, sum_to-single, sum_to-zero}
 use Rattle.postman.proofs.Walks.{on_edges}
 use Rattle.postman.proofs.Worth.{ones, worth_start}
 
@@ -200,6 +200,28 @@ module _ (p : Problem) (valid : IsValid p) (deadheads start : List ℕ) (makes_e
         let sum = sum_by-cons (λ t. astray t.edge t.served) s steps in
         (is_required s.edge s.served numbers.0 (omega (arith, none, sum)), all_required steps numbers.1 (omega (arith, none, sum)))
 
+    -- a deadhead of each edge at most, so no more steps over it that do not serve
+    abbrev idling : (e i : ℕ) → Bool → ℕ
+    idling e i b = cond (not b && (i == e)) 1 0
+
+    one_idle : (d : ℕ) (b : Bool) → d ≤ 1 → d * cond b 1 0 ≤ 1
+    one_idle d true few = omega (arith, few)
+    one_idle d false few = omega arith
+
+    none_idle : (d : ℕ) (b : Bool) → b ≡ false → d * cond b 1 0 ≡ 0
+    none_idle d b is = ap {B = ℕ} (λ c. d * cond c 1 0) is ∙ omega arith
+
+    few_idle : (e : ℕ) → count_by (idles e) walk ≤ 1
+    few_idle e =
+        omega (
+          arith,
+          spent_by (idling e),
+          sum_to-same p.required (λ i. idling e i true) (λ _. 0) (λ i _ _. refl),
+          sum_to-zero p.required,
+          sum_to-one (length p.edges) e (λ i. parts_of deadheads i * idling e i false) (λ i. one_idle (parts_of deadheads i) (i == e) (once i))
+              (λ i other. none_idle (parts_of deadheads i) (i == e) (ne_eqb i e other)),
+        )
+
     pub cheap_round : AreJoined p → IsCheapRound p deadheads walk
     cheap_round joined = record {
       is_round = record {
@@ -217,4 +239,5 @@ module _ (p : Problem) (valid : IsValid p) (deadheads start : List ℕ) (makes_e
         sum_to-edge_at p (λ x. x.service) p.required valid.required_in,
       );
       few = laid.few;
+      once_idle = few_idle;
     }

@@ -1,12 +1,13 @@
 -- Rounds and joined edges of small instances.
-use Rattle.std.proofs.Common.{◌≡◌, ◌≢◌, ℕ, zero, suc, ◌≤◌, ◌%◌, Bool, true, false, List, [], ◌∷◌, get_or, refl, arith}
+use Rattle.std.proofs.Common.{◌≡◌, ◌≢◌, ℕ, zero, suc, ◌≤◌, ◌==◌, ◌%◌, Bool, true, false, cond, List, [], ◌∷◌, get_or, refl, ap, inl, inr, arith}
+use Rattle.std.proofs.lemmas.Bool.{cases_Bool}
 use Rattle.std.specs.List.{AllByRecursion, count_by}
 use Rattle.carp_base.specs.declared.edge.Task.{Task}
 use Rattle.carp_base.specs.Problem.{IsEdgeNumber, IsRequired, IsVertex, TasksLead, edge_at, tail_of}
 use Rattle.plan_model.specs.Plans.{serves}
 use Rattle.postman.specs.Examples.{no_street, once_more, one_street, out_and_back, street_apart}
 use Rattle.postman.specs.Trails.{IsSpent, IsStart, left_at}
-use Rattle.postman.specs.Rounds.{AreJoined, IsFirstApart, IsJoined, IsRound}
+use Rattle.postman.specs.Rounds.{AreJoined, IsFirstApart, IsJoined, IsRound, idles}
 
 pub first_edge : IsEdgeNumber one_street 1
 first_edge = record { from_one = omega arith; in_range = omega arith }
@@ -29,6 +30,15 @@ back_is_round = record {
   serves_required = ((λ _. first_required), ((λ _. first_required), tt));
   once = λ e required. only_first (λ d. count_by (serves d) out_and_back ≡ 1) refl e required.from_one required.in_range;
 }
+
+pub back_idles_once : (e : ℕ) → count_by (idles e) out_and_back ≤ 1
+back_idles_once e = elim (cases_Bool (1 == e)) [
+  | inl is ↦ omega (arith, ap {B = ℕ} (λ b. cond b 1 0) is)
+  | inr other ↦ omega (arith, ap {B = ℕ} (λ b. cond b 1 0) other)
+]
+
+pub more_idles : ¬ ((e : ℕ) → count_by (idles e) once_more ≤ 1)
+more_idles few = absurd (omega (arith, few 1))
 
 pub more_is_round : IsRound one_street once_more
 more_is_round = record {

@@ -32,6 +32,14 @@ sum_to-single (suc m) e g one below = elim (cases_eq e (suc m)) [
   | inr other ↦ rw (sum_to-single m e g one (omega arith), ne_eqb e (suc m) other) (omega arith)
 ]
 
+-- of numbers that are 0 but for one, which is at most 1
+pub sum_to-one : (m e : ℕ) (g : ℕ → ℕ) → ((i : ℕ) → g i ≤ 1) → ((i : ℕ) → i ≢ e → g i ≡ 0) → sum_to m g ≤ 1
+sum_to-one zero e g one none = omega arith
+sum_to-one (suc m) e g one none = elim (cases_eq (suc m) e) [
+  | inl is ↦ omega (arith, sum_to-same m g (λ _. 0) (λ i _ low. none i (λ same. omega (arith, same, is, low))), sum_to-zero m, one (suc m))
+  | inr other ↦ omega (arith, sum_to-one m e g one none, none (suc m) other)
+]
+
 -- terms that differ at one number alone
 pub sum_to-at : (m e : ℕ) (f g : ℕ → ℕ) → ((i : ℕ) → i ≢ e → f i ≡ g i) → 1 ≤ e → e ≤ m → sum_to m f + g e ≡ sum_to m g + f e
 sum_to-at zero e f g same one below = absurd (omega (arith, one, below))

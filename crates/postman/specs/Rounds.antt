@@ -1,6 +1,6 @@
 -- Rounds: closed walks from the depot that serve each required edge, by one vehicle without a limit (the rural postman problem;
 -- Eiselt, Gendreau and Laporte 1995, part II).
-use Rattle.std.specs.Prelude.{◌≡◌, ℕ, ◌+◌, ◌*◌, ◌<◌, ◌≤◌, List, IsTrue, count_by, length, not}
+use Rattle.std.specs.Prelude.{◌≡◌, ℕ, ◌+◌, ◌*◌, ◌<◌, ◌≤◌, ◌==◌, ◌&&◌, Bool, List, IsTrue, count_by, length, not}
 use Rattle.std.specs.List.{All, AllByRecursion}
 use Rattle.carp_base.specs.declared.edge.Task.{Task}
 use Rattle.carp_base.specs.Problem.{Problem, IsRequired, TasksLead, edge_at, required_cost}
@@ -22,6 +22,10 @@ IsLeastRound p walk = (other : List Step) → IsRound p other → walk_cost p wa
 -- how many steps of a walk do not serve
 abbrev pub deadheads_in : List Step → ℕ
 deadheads_in walk = count_by (λ s. not s.served) walk
+
+-- a step that crosses the edge and does not serve
+abbrev pub idles : ℕ → Step → Bool
+idles e s = not s.served && (s.edge == e)
 
 -- a path over required edges alone leads from the depot to the first end of the edge
 pub record IsJoined (p : Problem) (e : ℕ) : Type 0 where
@@ -45,10 +49,11 @@ pub record ShowLeast (p : Problem) (shores : List Weighted) (cost : ℕ) : Type 
   pub packs : Packs p shores
   pub twice : all_halves shores + 2 * required_cost p ≡ 2 * cost
 
--- a least round of few steps, what it costs, and shores that show that no other costs less
+-- a least round of few steps that crosses no edge twice without service, what it costs, and shores that show that no other costs less
 pub record IsShownRound (p : Problem) (walk : List Step) (shores : List Weighted) (cost : ℕ) : Type 0 where
   pub is_round : IsRound p walk
   pub costs : walk_cost p walk ≡ cost
   pub least : IsLeastRound p walk
   pub shown : ShowLeast p shores cost
   pub few_steps : length walk ≤ p.required + length p.edges
+  pub once_idle : (e : ℕ) → count_by (idles e) walk ≤ 1

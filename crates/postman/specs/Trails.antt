@@ -1,5 +1,5 @@
 -- A circuit that is being laid over the crossings that are left. No public contract speaks of this.
-use Rattle.std.specs.Prelude.{◌≡◌, ◌≢◌, ℕ, zero, suc, ◌+◌, ◌-◌, ◌*◌, ◌%◌, ◌<◌, ◌≤◌, ◌==◌, ◌&&◌, Bool, not, List, [], ◌∷◌, ◌++◌, Option, None, Some, MatchOption, IsTrue, length, nat_le, slice_index, sum_by, if◌then◌else◌}
+use Rattle.std.specs.Prelude.{◌≡◌, ◌≢◌, ℕ, zero, suc, ◌+◌, ◌-◌, ◌*◌, ◌%◌, ◌<◌, ◌≤◌, ◌==◌, ◌&&◌, Bool, not, List, [], ◌∷◌, ◌++◌, Option, None, Some, MatchOption, IsTrue, count_by, length, nat_le, slice_index, sum_by, if◌then◌else◌}
 use Rattle.std.specs.List.{AllByRecursion}
 use Rattle.carp_base.specs.Problem.{Problem, IsEdgeNumber, IsRequired, IsVertex, edge_at, required_cost, tail_of}
 use Rattle.plan_model.specs.declared.step.Step.{Step}
@@ -8,7 +8,7 @@ use Rattle.plan_model.specs.Sums.{sum_to}
 use Rattle.road_network.specs.Incidence.{has_end, incident}
 use Rattle.edge_components.specs.Parts.{parts_of, parts_over}
 use Rattle.matching_duals.specs.Joins.{join_cost}
-use Rattle.postman.specs.Rounds.{IsRound}
+use Rattle.postman.specs.Rounds.{IsRound, idles}
 
 -- a required edge has one service
 abbrev pub one_service : Problem → ℕ → ℕ
@@ -142,3 +142,4 @@ pub record IsCheapRound (p : Problem) (deadheads : List ℕ) (walk : List Step) 
   pub is_round : IsRound p walk
   pub cheap : walk_cost p walk ≤ required_cost p + join_cost p deadheads
   pub few : length walk ≤ p.required + length p.edges
+  pub once_idle : (e : ℕ) → count_by (idles e) walk ≤ 1

@@ -1,10 +1,10 @@
 // Small data on which a fact that no call decides holds, and on which it does not.
-ghost use Rattle.std.specs.Prelude.{◌≡◌, [], ◌∷◌, true, false};
+ghost use Rattle.std.specs.Prelude.{◌≡◌, ℕ, ◌≤◌, [], ◌∷◌, true, false, count_by};
 ghost use Rattle.carp_base.specs.declared.fail.Fail.TheVariants.{Memory as OutOfMemory, Refused};
 ghost use Rattle.plan_model.specs.Plans.{walk_cost};
 ghost use Rattle.postman.specs.Examples.{no_street, once_more, one_shore, one_street, out_and_back, over, served_twice, street_apart};
 ghost use Rattle.postman.specs.Refusals.{RefusesApart};
-ghost use Rattle.postman.specs.Rounds.{AreJoined, IsFirstApart, IsJoined, IsLeastRound, IsRound, IsShownRound, ShowLeast, deadheads_in};
+ghost use Rattle.postman.specs.Rounds.{AreJoined, IsFirstApart, IsJoined, IsLeastRound, IsRound, IsShownRound, ShowLeast, deadheads_in, idles};
 ghost use Rattle.postman.specs.Trails.{IsCheapRound, IsSpent, IsStart, is_service, left_at, one_each, worth_left};
 ghost use Rattle.postman.specs.declared.fault.PostmanFault.TheVariants.{NotJoined};
 
@@ -16,6 +16,8 @@ fn rounds_of_a_street()
     ensures none { ¬ (IsRound one_street []) }
     ensures cost { walk_cost one_street out_and_back ≡ 12 }
     ensures deadheads { deadheads_in out_and_back ≡ 1 }
+    ensures idles_once { (e : ℕ) → count_by (idles e) out_and_back ≤ 1 }
+    ensures idles_more { ¬ ((e : ℕ) → count_by (idles e) once_more ≤ 1) }
 {}
 
 fn least_rounds()

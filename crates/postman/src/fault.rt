@@ -1,4 +1,4 @@
-// Why there is no round that is known to be least.
+// Why no round is given.
 
 use thiserror::Error;
 

@@ -1,8 +1,10 @@
 //! A least closed walk from the depot that serves each required edge, for one vehicle without a limit: the rural
-//! postman problem (Eiselt, Gendreau and Laporte 1995).
+//! postman problem (Eiselt, Gendreau and Laporte 1995), with a depot that the walk starts at, and a cost of its own for each
+//! service.
 //!
 //! Where the required edges hang together with the depot, the least walk is found exactly: deadheads of least cost
-//! that make every vertex even, and then a circuit over all of them (Edmonds and Johnson 1973).
+//! that make every vertex even (Edmonds and Johnson 1973), and then a circuit over the required edges and those of the
+//! deadheads that it reaches.
 //!
 //! - `joined`: whether the required edges hang together with the depot.
 //! - `trail`, `circuit`: a circuit over required edges and deadheads (Hierholzer 1873).

@@ -118,7 +118,8 @@ fn least_with_last(required: &[RawEdge], ways: &[u64], table: &[u64], set: u64, 
     least.saturating_add(service(required, s))
 }
 
-// The least cost of all orders and directions of at most six services, from vertex 1 and back.
+// The least cost of all orders and directions of at most six services, from vertex 1 and back. A place of the table is a set of six
+// services and the last one of them in one of two directions: 64 * 12 places.
 fn least_of_all(alloc: Global, required: &[RawEdge], ways: &[u64]) -> Result<u64, Failure> {
     let mut table = vec![in alloc; u64::MAX; 768]?;
     for place in 0..768u64 {

@@ -33,8 +33,8 @@ impl Grid {
         })
     }
 
-    /// Copies what tours are priced by, for the instance that the grid was made for: distances over its streets, a unit from 1 to
-    /// 1,000,000 by which service costs count, a price for each required edge in their order, each within 10^15 either way,
+    /// Copies what tours are priced by, for the instance that the grid was made for: distances over its streets, a unit of at
+    /// most 1,000,000 by which service costs count, a price for each required edge in their order, each within 10^15 either way,
     /// and the pairs of edges that may be served one directly after the other. For n vertices, m required edges and E edges it
     /// takes `n * n + m * m + E` steps, and no memory.
     pub fn copy_from(

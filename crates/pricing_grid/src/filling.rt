@@ -1,4 +1,4 @@
-// How a table is filled.
+// The cells of a table, and the least partial tour before a task.
 ghost use Rattle.std.specs.Prelude.{◌≡◌, ◌+◌, ◌*◌, ◌<◌, ◌≤◌, length};
 ghost use Rattle.pricing_grid.specs.Partial.{IsGrid, IsLeastJoin, IsLeastFrom, IsPredecessor, IsCell, AreFilled, width, column_task, cell_place, demand_of};
 
@@ -13,7 +13,7 @@ pub struct Before {
 }
 
 impl Grid {
-    /// The place of the cell of a load and a column.
+    /// The place of the cell of a load, from 0 to the capacity, and a column.
     pub fn place(&self, load: usize, column: usize) -> usize
         requires load { load ≤ self.now.inst.capacity }
         requires column { column < width self.now }

@@ -52,7 +52,7 @@ impl Grid {
         }
     }
 
-    /// The demand of the edge of a column.
+    /// The demand of the edge of a column, from 1 to the capacity.
     pub fn demand(&self, column: usize) -> usize
         requires { column < width self.now }
         ensures value { result ≡ demand_of self.now (column_task column) }
@@ -83,7 +83,8 @@ impl Grid {
         if task.forward { edge.v } else { edge.u }
     }
 
-    /// The least price of deadheads from one vertex to another.
+    /// The least price of deadheads from one vertex to another, at most `2^73`, where the depot reaches both. Of other vertices nothing
+    /// is said.
     pub fn between(&self, from: u32, to: u32) -> u128
         requires grid { IsGrid self.now }
         requires from { IsVertex self.now.inst from }

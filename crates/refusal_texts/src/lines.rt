@@ -14,7 +14,7 @@ use std::fmt::Write;
 /// The line for a fault of an instance file: `bad instance: `, what is wrong with it, and LF.
 ///
 /// Lines of the file and edges are counted from 1, as in the fault, and a key is spelled in capitals. Its error says
-/// only that memory was not to be had. A line has fewer than 100 bytes, so it takes constant time.
+/// only that memory was not to be had. A line has at most 100 bytes, so it takes constant time.
 #[tactic(auto, unfolding(crate::specs::Lines::instance_fault_line))]
 pub fn instance_fault_line(alloc: Global, fault: &DatFault) -> Result<Vec<u8>, Memory>
     ensures { IfOk result (λ text. text.items ≡ instance_fault_line fault.now) }

@@ -4,7 +4,7 @@ ghost use Rattle.road_network.specs.Incidence.{far_end};
 
 use carp_base::Edge;
 
-/// The end of an edge that is not the given one, which is one of its ends.
+/// The other end of an edge; for a vertex that is no end of it, its first end.
 pub fn far_end(edge: &Edge, v: u32) -> u32
     ensures { result ≡ far_end v edge.now }
 {

@@ -8,7 +8,7 @@ ghost use Rattle.ruin_recreate.specs.Boards.{IsBoard, demand_of, link, turned};
 /// backward. Stop 1 stands at the depot too, and no search needs it.
 #[derive(Drop)]
 pub struct Board {
-    /// How many stops there are: twice the number of required edges, and 2 more; 2 to 1,202.
+    /// How many stops there are: 2 to 1,202, and for the board of an instance twice the number of its required edges, and 2 more.
     pub width: usize,
     /// The least price by the costs of edges from the end of stop x to the start of stop y, at place x * width + y; 0 to
     /// 999,000,000.
@@ -22,7 +22,7 @@ pub struct Board {
 }
 
 impl Board {
-    /// The least price from the end of a stop to the start of another, 0 to 999,000,000.
+    /// The least price from the end of a stop to the start of another, or of the same one, 0 to 999,000,000.
     pub fn between(&self, x: u32, y: u32) -> u32
         requires board { IsBoard self.now }
         requires x { x < self.now.width }

@@ -12,7 +12,7 @@ use std::alloc::Global;
 // The greatest number of steps in all.
 const MOST_STEPS: u32 = 120_000;
 
-// How many steps there are in all: more for more pairs of edges, up to 78 edges.
+// How many steps there are in all: more for more pairs of edges, so that few edges are done soon.
 fn steps(edges: u32) -> u32
     requires { edges ≤ 600 }
 {
@@ -28,10 +28,10 @@ fn steps(edges: u32) -> u32
 /// edge costs, for each stop. The answer is meant to be the start, or a round with the same services that costs fewer deadheads
 /// and loads no tour above the room. It is promised to have stops of the board alone, so the caller has to test it.
 ///
-/// The same generator gives the same answer, and is left further on. With m required edges there are up to six annealings, the
-/// first from the start and the others from one tour for each service, of 8,000 + 18 * m * m steps in all and at most 120,000.
-/// A step takes time in proportion to m, and the neighbours of all edges, once, in proportion to m * m log m. Beside the board
-/// it takes space in proportion to m.
+/// The same generator gives the same answer. With m required edges there are up to six annealings, the first from the start and
+/// the others from one tour for each service, of 8,000 + 18 * m * m steps in all and at most 120,000, rounded down to as many for
+/// each. With fewer than two required edges the start is given back. A step takes time in proportion to m, and the neighbours of
+/// all edges, once, in proportion to m * m log m. Beside the board it takes space in proportion to m.
 pub fn stir(
     alloc: Global,
     board: &Board,

@@ -13,7 +13,8 @@ use std::alloc::Global;
 
 /// Distances by the costs of the edges.
 ///
-/// With n vertices and m edges it takes time in proportion to n (n + m) log n.
+/// With n vertices and m edges it takes time in proportion to n (n + m) log n, and memory for n * n numbers. The one error is want
+/// of memory.
 pub fn cost_distances(alloc: Global, inst: &Instance) -> Result<Distances, Memory>
     ensures problem { IfOk result (λ dist. dist.problem ≡ inst.now) }
     ensures prices { IfOk result (λ dist. dist.prices ≡ costs_of inst.now) }
@@ -39,7 +40,8 @@ pub fn least_cost(inst: &Instance, dist: &Distances, from: u32, to: u32) -> u64
     dist.get(from, to).unwrap() as u64
 }
 
-/// What a lawful plan costs. It takes time in proportion to its steps.
+/// What a lawful plan costs. It takes time in proportion to the plan's walks and steps and the number of required edges, and memory
+/// for a number for each required edge. The one error is want of memory.
 pub fn lawful_cost(alloc: Global, inst: &Instance, plan: &Plan) -> Result<u128, Memory>
     requires { IsLawful inst.now plan.now }
     ensures { IfOk result (λ cost. cost ≡ plan_cost inst.now plan.now) }

@@ -16,8 +16,8 @@ pub fn tours_are_linked()
 }
 
 /// Walks by least paths are a lawful plan where their tours serve each required edge once within the capacity, as those of every
-/// lawful plan do. Such a plan costs its services and the least deadheads of its tours, and no plan with the same tours
-/// costs less.
+/// lawful plan do. Such a plan costs its services and the least deadheads of its tours, and no lawful plan with the
+/// same tours costs less.
 pub fn plans_are_tours()
     ensures lawful { LawfulToursMakeLawfulPlans }
     ensures tours { LawfulPlansHaveLawfulTours }

@@ -1,8 +1,8 @@
 //! Tours as lists of tasks: joined by least paths to walks, and what plans of such tours cost.
 //!
 //! [`join`] makes the walk of a tour, and [`add_tour`] adds it to a plan. The laws say that plans of such walks are lawful where
-//! their tours serve each required edge once within the capacity, what they cost, and that no plan with the same tours
-//! costs less. [`Standing`] has the numbers that each helper keeps of itself.
+//! their tours serve each required edge once within the capacity, what they cost, and that no lawful plan with the
+//! same tours costs less. [`Standing`] has the numbers that each helper keeps of itself.
 #![tactic(auto)]
 
 mod costs;

@@ -44,7 +44,7 @@ impl Standing {
         };
     }
 
-    /// Counts that it is asked once more. Until it offers a lawful plan there is no latest one.
+    /// Counts that it is asked once more, at most 1,000 times since it was seeded. Until it offers a lawful plan there is no latest one.
     pub fn ask(&mut self)
         requires { self.old.asked < 1000 }
         ensures { self.new ≡ record { id = self.old.id; seed = self.old.seed; asked = self.old.asked + 1; fouls = self.old.fouls; least = self.old.least; last = None } }

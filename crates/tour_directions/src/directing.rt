@@ -148,10 +148,10 @@ fn follow(
 }
 
 /// Tasks on required edges in their order, at most 29,999 of them and repeats permitted, each in the direction that makes the
-/// deadheads from the depot over them and back the least of all, by cost (Beullens et al. 2003). The distances are those by
-/// cost.
+/// deadheads from the depot over them and back the least of all, by cost (Beullens et al. 2003). Which of equally cheap choices is
+/// taken is not promised. The distances are those by cost.
 ///
-/// It takes time and memory in proportion to the number of edges.
+/// It takes time and memory in proportion to the number of edges. The one error is want of memory.
 pub fn direct(
     alloc: Global,
     inst: &Instance,

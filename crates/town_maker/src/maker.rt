@@ -31,8 +31,8 @@ fn build(
 /// The town of a number: a valid instance that the number determines, for every number.
 ///
 /// It has 100 vertices in ten rows of ten, and the 180 streets between neighbours: first those along the rows, and then those from each
-/// row to the next. The generator of that seed, PCG XSH RR 64/32 (O'Neill), draws for one street after another a cost of 10 to 99 and
-/// whether it is required, as about half of them are, and for a required one a demand of 1 to 9; and at last the depot. A service costs
+/// row to the next. The generator of that seed, PCG XSH RR 64/32 (O'Neill), draws for one street after another a cost of 10 to 99 and,
+/// by a draw of 0 or 1, whether it is required, and for a required one a demand of 1 to 9; and at last the depot. A service costs
 /// what a crossing costs, and the capacity is 60.
 ///
 /// Its error says only that memory was not to be had. Time and memory are in proportion to the streets, and so the same for all numbers.

@@ -52,7 +52,8 @@ impl Path {
     }
 
     /// Goes past a node, which stands where the path leads: to its first child, or after a leaf to the nearest second child that is still
-    /// to be read. Where there is none, the tree is whole. The number of a cut is at most 1,000,000.
+    /// to be read. Where there is none, the tree is whole. The number of a cut is at most 1,000,000. The one error is want of memory, after
+    /// which the path is of no more use.
     ///
     /// Past all nodes of a tree it takes time in proportion to their number.
     pub fn pass(&mut self, node: &Node) -> Result<(), Memory>

@@ -22,15 +22,15 @@ fn street(u: u64, v: u64, cost: u64, demand: u64) -> RawEdge {
     }
 }
 
-/// A street of cost 100 from the depot 1 to 2, and three streets of demand 2 and cost 1 from there.
+// A street of cost 100 from the depot 1 to 2, and three streets of demand 2 and cost 1 from there.
 pub(crate) fn star(alloc: Global, capacity: u64) -> Result<Instance, Fail> {
     let required = [street(2, 3, 1, 2), street(2, 4, 1, 2), street(2, 5, 1, 2)];
     let inst = Instance::build(alloc, 5, 1, capacity, &required, &[street(1, 2, 100, 0)])?;
     Ok(inst)
 }
 
-/// The pool of the shore of all vertices but the depot. Six units of demand need two vehicles of capacity 3 to 5, so that its lower number
-/// is 4.
+// The pool of the shore of all vertices but the depot. Six units of demand need two vehicles of capacity 3 to 5, so that its lower number
+// is 4.
 pub(crate) fn one_shore(rt: &impl Abort, alloc: Global) -> Result<ShorePool, Fail> {
     let mut pool = ShorePool::new(alloc);
     let number = pool.add(Shore::from_list(alloc, &[2, 3, 4, 5])?);
@@ -81,7 +81,7 @@ fn signs_of(node: Node) -> (u8, u64, u64) {
     }
 }
 
-/// The text of the nodes of a tree.
+// The text of the nodes of a tree.
 pub(crate) fn text_of(alloc: Global, tree: &Tree) -> Result<Vec<u8>, AllocError> {
     let mut text = Vec::new(alloc);
     for place in 0..tree.len() {
@@ -193,7 +193,7 @@ fn tree_with(alloc: Global, inst: &Instance, pool: &ShorePool, nodes: &[Node]) -
     Ok(tree)
 }
 
-/// The tree of a text of nodes of three signs.
+// The tree of a text of nodes of three signs.
 pub(crate) fn tree_of(
     alloc: Global,
     inst: &Instance,

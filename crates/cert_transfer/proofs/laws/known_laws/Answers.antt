@@ -1,4 +1,3 @@
-use Rattle.cert_transfer.proofs.PlanCosts.{cost_little}
 use Rattle.cert_transfer.proofs.laws.known_laws.Goals as goal
 
 pub returns : goal.returns
@@ -8,7 +7,7 @@ returns c = record {
   trees = c.carried_trees_show.ensures;
   tours = c.plans_are_tours.ensures.tours;
   edges = c.plans_are_on_edges.ensures;
-  costs = cost_little;
+  costs = c.short_plans_cost_little.ensures;
   bounds = c.tree_bounds.ensures;
   spelled = c.fine_is_spellable.ensures;
   fine = c.spellable_is_fine.ensures;

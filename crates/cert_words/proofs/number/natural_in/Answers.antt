@@ -11,8 +11,5 @@ returns-then-not-is_numeral-clause-told c = λ text cut. no_natural cut (λ whol
 pub returns-then-not-more-clause-told : goal.returns-then-not-more-clause-told
 returns-then-not-more-clause-told c = λ text cut. natural_whole cut (search rules) (c.is_numeral.ensures.0 (search rules)) c.value_of.result c.value_of.ensures
 
-pub returns-then-front-eq48-clause-told : goal.returns-then-front-eq48-clause-told
-returns-then-front-eq48-clause-told c = λ text cut. no_natural cut (λ whole. (let a = whole.more (search rules) in let b = c.if-not-more.false in cc))
-
 pub returns-clause-told : goal.returns-clause-told
-returns-clause-told c = λ text cut. natural_long cut (search rules) (c.is_numeral.ensures.0 (search rules)) (search rules) (search rules)
+returns-clause-told c = λ text cut. natural_long cut (search rules) (c.is_numeral.ensures.0 (search rules)) (search rules)

@@ -1,7 +1,7 @@
-use Rattle.std.proofs.Common.{rules, ◌≡◌, ℕ, List, refl, sym, subst, ap, ◌∙◌}
+use Rattle.std.proofs.Common.{rules, ◌≡◌, ℕ, ◌+◌, ◌-◌, ◌*◌, ◌/◌, ◌^◌, ◌≤◌, List, refl, sym, subst, ap, ◌∙◌}
 use Rattle.std.proofs.lemmas.List.Elements.{All-map}
 use Rattle.carp_base.specs.Problem.{Problem}
-use Rattle.carp_engine.specs.Helpers.{IsAtMost}
+use Rattle.helper_rounds.specs.Helpers.{IsAtMost}
 use Rattle.carp_engine.specs.Solutions.{IsSound}
 use Rattle.cert_lines.specs.Certificates.{Certificate}
 use Rattle.cert_format.specs.Certs.{certificate_in}
@@ -19,6 +19,7 @@ returns-clause-drilled g c =
         turns = turns;
         sound = subst (λ (p : Problem). IsSound p certificate turns) c.in_ok-inst.ensures c.in_ok-solved.ensures.sound;
         ended = spent certificate.bound certificate.cost c.args.turns turns c.in_ok-solved.ensures.ended;
+        whole = subst (λ (p : Problem). 2 ^ (p.required * (p.required - 1) / 2 + 5) ≤ c.args.turns → certificate.bound ≡ certificate.cost) c.in_ok-inst.ensures c.in_ok-solved.ensures.whole;
         helped = All-map (IsAtMost certificate.cost) (λ helper. (g.P.Proposer.tally helper).least) _ c.in_ok-solved.ensures.least;
         keeps = search rules;
         writes = c.in_ok-text.ensures ∙ ap (λ (p : Problem). drill_text c.args.seed c.args.turns p certificate.cost certificate.bound turns) c.in_ok-inst.ensures;

@@ -12,6 +12,7 @@ pub returns : goal.returns
 returns c = of_ok c.deliver_two.result c.deliver_two.ensures (λ d made. (
   made.0,
   record {
+    valid = c.edge_count-after.ensures.valid;
     certificate = certificate_in c.in_ok-cert.cert;
     over = c.in_ok-cert.ensures;
     proof = c.good_is_proof.ensures c.args.read.now.after (certificate_in c.in_ok-cert.cert) c.edge_count-after.ensures.valid c.in_ok-cert.ensures.good;

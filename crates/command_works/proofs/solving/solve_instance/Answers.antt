@@ -1,7 +1,7 @@
 use Rattle.std.proofs.Common.{rules, ◌≡◌, ◌≢◌, ℕ, ◌≤◌, ◌⊎◌, inl, inr}
 use Rattle.std.specs.Prelude.{IfOk, Result, Ok, Err}
 use Rattle.std.proofs.lemmas.List.Elements.{All-map}
-use Rattle.carp_engine.specs.Helpers.{IsAtMost}
+use Rattle.helper_rounds.specs.Helpers.{IsAtMost}
 use Rattle.cert_lines.specs.Certificates.{Certificate}
 use Rattle.cert_format.specs.Certs.{certificate_in}
 use Rattle.command_works.proofs.Solved.{solved_by, spent}

@@ -1,5 +1,7 @@
+use Rattle.std.proofs.Common.{inl, inr}
 use Rattle.std.proofs.Math.Path.{fun_ext}
 use Rattle.edit_files.specs.Stages.{AreBadTwo, AreGoodTwo, AreOfTwo}
+use Rattle.edit_files.proofs.Order.{held_here, unread_here, unread_later}
 use Rattle.edit_files.proofs.Several.{first_stops, made_of, others_decide, same_tried}
 use Rattle.edit_files.proofs.reading.read_edited.Goals as goal
 
@@ -20,3 +22,10 @@ pub returns-in-Err-clause-tried : goal.returns-in-Err-clause-tried
 returns-in-Err-clause-tried g c =
     let contents = g.H.Shelf.contents c.args.shelf.now in
     first_stops (λ a. AreBadTwo a c.args.cert.now c.args.edits.now contents) (λ a. AreGoodTwo a c.args.cert.now c.args.edits.now contents) c.in-Err.fail c.in-Err.ensures.read
+
+pub returns-in-Ok-clause-order : goal.returns-in-Ok-clause-order
+returns-in-Ok-clause-order g c = λ told e.
+    inr (held_here c.in-Ok.text c.in-Ok.ensures.read told, unread_later c.args.cert.now c.args.edits.now (fun_ext (c.in-Ok.ensures.contents told)) (c.in-Ok.ensures.looks c.args.cert.now) (c.in-Ok.ensures.looks c.args.edits.now) (c.read_two.ensures.order told e))
+
+pub returns-in-Err-clause-order : goal.returns-in-Err-clause-order
+returns-in-Err-clause-order g c = λ told e. inl (unread_here c.in-Err.fail c.in-Err.ensures.read e)

@@ -1,5 +1,6 @@
 use Rattle.std.proofs.Common.{arith, refl}
 use Rattle.edit_files.specs.Edited.{AreBadTexts, AreGoodTexts, IsEditedBy}
+use Rattle.edit_files.proofs.Order.{never_unread, unread_here}
 use Rattle.edit_files.proofs.Several.{first_stops, made_of, of_ok, others_decide, parsed_of, tried_none}
 use Rattle.edit_files.proofs.reading.read_third.Goals as goal
 
@@ -19,3 +20,9 @@ returns-in-Ok-clause-tried g c =
 
 pub returns-in-Err-clause-tried : goal.returns-in-Err-clause-tried
 returns-in-Err-clause-tried g c = first_stops (AreBadTexts c.args.text.items c.args.cert.items) (AreGoodTexts c.args.text.items c.args.cert.items) c.in-Err.fail c.in-Err.ensures.read
+
+pub returns-in-Ok-clause-order : goal.returns-in-Ok-clause-order
+returns-in-Ok-clause-order g c = λ e. never_unread c.parse_texts.ensures e
+
+pub returns-in-Err-clause-order : goal.returns-in-Err-clause-order
+returns-in-Err-clause-order g c = λ e. unread_here c.in-Err.fail c.in-Err.ensures.read e

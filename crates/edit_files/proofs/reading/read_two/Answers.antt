@@ -1,5 +1,7 @@
+use Rattle.std.proofs.Common.{inl, inr}
 use Rattle.std.proofs.Math.Path.{fun_ext}
 use Rattle.edit_files.specs.Stages.{AreOfThird, IsBadThird, IsGoodThird}
+use Rattle.edit_files.proofs.Order.{held_here, rose_later, unread_here}
 use Rattle.edit_files.proofs.Several.{first_stops, made_of, others_decide, same_tried}
 use Rattle.edit_files.proofs.reading.read_two.Goals as goal
 
@@ -22,3 +24,10 @@ returns-in-Err-clause-tried g c =
     let contents = g.H.Shelf.contents c.args.shelf.now in
     let file = c.args.text.items in
     first_stops (λ b. IsBadThird file b c.args.edits.now contents) (λ b. IsGoodThird file b c.args.edits.now contents) c.in-Err.fail c.in-Err.ensures.read
+
+pub returns-in-Ok-clause-order : goal.returns-in-Ok-clause-order
+returns-in-Ok-clause-order g c = λ told e.
+    inr (held_here c.in-Ok.cert c.in-Ok.ensures.read told, rose_later _ _ _ (c.in-Ok.ensures.looks c.args.edits.now) (c.read_third.ensures.order e))
+
+pub returns-in-Err-clause-order : goal.returns-in-Err-clause-order
+returns-in-Err-clause-order g c = λ told e. inl (unread_here c.in-Err.fail c.in-Err.ensures.read e)

@@ -1,5 +1,5 @@
 use Rattle.std.proofs.Common.{◌≡◌}
-use Rattle.group_plans.specs.Gathering.{gathered}
+use Rattle.group_plans.specs.Groups.{gathered}
 use Rattle.group_plans.proofs.gathering.gather.Given as goal
 
 abbrev pub invariant-loop-place : goal.invariant-loop-place

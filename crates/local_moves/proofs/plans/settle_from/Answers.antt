@@ -5,7 +5,8 @@ use Rattle.plan_model.specs.declared.step.Step.{Step}
 use Rattle.task_tours.specs.Tours.{PlanGoesByLeastPaths, all_tasks, plan_tours}
 use Rattle.local_moves.specs.Stops.{round_of}
 use Rattle.local_moves.proofs.Composing.{IsMade, Known, made_lawful, made_no_dearer, made_settled, still_short}
-use Rattle.local_moves.proofs.Later.{ok_by_three}
+use Rattle.local_moves.proofs.Later.{ok_by_one, ok_by_three}
+use Rattle.local_moves.proofs.Serving.{tours_serve}
 use Rattle.local_moves.proofs.plans.settle_from.Goals as goal
 
 pub plan_of_round-requires-clause-short : goal.plan_of_round-requires-clause-short
@@ -33,4 +34,6 @@ returns c =
       lawful = ok_by_three c.plan_of_round.result told.tours told.paths told.required (λ plan tours paths required. made_lawful known p b valid c.requires.of xs ys plan (made plan tours paths required));
       cost = ok_by_three c.plan_of_round.result told.tours told.paths told.required (λ plan tours paths required. made_no_dearer known p b valid c.requires.of xs ys plan (made plan tours paths required));
       settled = ok_by_three c.plan_of_round.result told.tours told.paths told.required (λ plan tours paths required. made_settled known p b valid c.requires.of xs ys plan (made plan tours paths required) settled.settled);
+      paths = told.paths;
+      each_serves = ok_by_one c.plan_of_round.result told.tours (λ plan tours. tours_serve ys (plan_tours plan) settled.closed (rw c.deref.ensures.value at tours));
     }

@@ -7,7 +7,7 @@ weights_of-requires-clause-within c = rw c.deref.ensures.value (labels_within c.
 pub returns-clause-bundles : goal.returns-clause-bundles
 returns-clause-bundles c =
     let labels = c.in_ok-labels.labels.items in
-    are_bundles c.args.inst.now c.args.branch.now labels _ c.in_ok-labels.ensures.long c.in_ok-labels.ensures.own c.in_ok-weights.ensures.long (rw c.deref.ensures.value at c.in_ok-weights.ensures.each)
+    are_bundles c.args.inst.now c.args.branch.now labels _ c.requires c.in_ok-labels.ensures.long c.in_ok-labels.ensures.own c.in_ok-weights.ensures.long (rw c.deref.ensures.value at c.in_ok-weights.ensures.each)
 
 pub returns-clause-some : goal.returns-clause-some
 returns-clause-some c =
@@ -15,5 +15,5 @@ returns-clause-some c =
     record {
       branch = c.args.branch.now;
       choices = c.requires;
-      are = are_bundles c.args.inst.now c.args.branch.now labels _ c.in_ok-labels.ensures.long c.in_ok-labels.ensures.own c.in_ok-weights.ensures.long (rw c.deref.ensures.value at c.in_ok-weights.ensures.each);
+      are = are_bundles c.args.inst.now c.args.branch.now labels _ c.requires c.in_ok-labels.ensures.long c.in_ok-labels.ensures.own c.in_ok-weights.ensures.long (rw c.deref.ensures.value at c.in_ok-weights.ensures.each);
     }

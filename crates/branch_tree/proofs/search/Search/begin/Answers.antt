@@ -16,5 +16,5 @@ returns-clause-search c =
       some_turns = c.requires.some_turns;
       turns_in_range = c.requires.turns_in_range;
       room = ap (λ (tree : Growth). tree.room) root.leaf;
-      held = begun_held p floor c.in_ok-floor.ensures.floor c.args.best c.requires.short c.args.turns c.in_ok-tree.tree root c.in_ok-sets.sets.items c.in_ok-sets.ensures c.in_ok-cost.cost c.in_ok-cost.ensures c.turns-done.result c.turns-done.ensures;
+      held = begun_held c.short_plans_cost_little.ensures p floor c.in_ok-floor.ensures.floor c.args.best c.requires.short c.args.turns c.in_ok-tree.tree root c.in_ok-sets.sets.items c.in_ok-sets.ensures c.in_ok-cost.cost c.in_ok-cost.ensures c.turns-done.result c.turns-done.ensures;
     }

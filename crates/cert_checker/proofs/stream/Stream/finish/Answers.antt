@@ -29,7 +29,7 @@ returns-clause-checked c = λ bytes streamed.
     let w = c.in_default.ensures.whole bytes streamed.taken in
     let heads = whole_heads c.args.inst.now c.args.self.now bytes w.0 streamed w.1 w.2 in
     let text : IsTextOf bytes (certificate_of w.0) = record { said = w.0; reads = w.1; whole = w.2; is = refl } in
-    let h = c.in-Some.ensures.there bytes w.0 streamed.taken (inl ([], w.1)) in
+    let h = (c.in-Some.ensures.there bytes w.0 streamed.taken (inl ([], w.1))).1 in
     record {
       certificate = certificate_of w.0;
       text = text;

@@ -18,13 +18,13 @@ unreachable-requires c =
 pub stage_of-requires : goal.stage_of-requires
 stage_of-requires c =
     let x = c.requires.comes in
-    let h = c.in-Some.ensures.there x.bytes c.requires.said x.taken (says_so_far x) in
+    let h = (c.in-Some.ensures.there x.bytes c.requires.said x.taken (says_so_far x)).1 in
     subst (λ (s : Support). All (HasItsShores s) s.sets) (sym (c.claim_of.ensures.support [])) (head_weights c.in-Some.head.now h x)
 
 pub returns-clause-stage : goal.returns-clause-stage
 returns-clause-stage c = λ before said x.
     let head = c.in-Some.head.now in
     let stage = c.in_ok-self.field-0 in
-    let h = c.in-Some.ensures.there x.bytes said x.taken (says_so_far x) in
+    let h = (c.in-Some.ensures.there x.bytes said x.taken (says_so_far x)).1 in
     let says = subst (λ (k : Certificate). StageSays c.claim_of.result.inst.now k stage) (c.claim_of.ensures.claimed []) c.in_ok-self.ensures.says in
     head_on head stage h x c.in_ok-self.ensures.heads (subst (λ (q : Problem). StageSays q (head_with head []) stage) c.claim_of.ensures.inst says)

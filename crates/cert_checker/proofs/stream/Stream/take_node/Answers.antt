@@ -17,7 +17,7 @@ unreachable-requires c =
 pub walk_on-requires : goal.walk_on-requires
 walk_on-requires c =
     let x = c.requires.comes in
-    may_walk c.args.node c.in-Walking.checker c.in-Some.head.now c.in-Walking.is (c.in-Some.ensures.there x.bytes c.requires.said x.taken (says_so_far x)) x
+    may_walk c.args.node c.in-Walking.checker c.in-Some.head.now c.in-Walking.is (c.in-Some.ensures.there x.bytes c.requires.said x.taken (says_so_far x)).1 x
 
 pub returns-clause-stage : goal.returns-clause-stage
 returns-clause-stage c = λ before said x.
@@ -25,5 +25,5 @@ returns-clause-stage c = λ before said x.
     let checker = c.in-Walking.checker in
     let head = c.in-Some.head.now in
     let is = c.in-Walking.is in
-    let h = c.in-Some.ensures.there x.bytes said x.taken (says_so_far x) in
+    let h = (c.in-Some.ensures.there x.bytes said x.taken (says_so_far x)).1 in
     on_ok_weaker c.walk_on.result (λ walks. node_on node checker c.walk_on.new.checker head is h x walks) (c.walk_on.ensures (nodes_of before) (node_walks node checker head is h x))

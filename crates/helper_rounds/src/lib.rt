@@ -1,0 +1,15 @@
+//! Asks helpers for better plans, and trusts none of them.
+//!
+//! A helper is any [`plan_model::Proposer`]. [`consult`] asks one, and takes its offer where it is lawful and costs less; [`ask_all`] asks a
+//! list in rounds; [`dismiss`] drops those that offered an unlawful plan.
+#![tactic(auto)]
+
+mod consulting;
+mod dismissing;
+mod rounds;
+#[cfg(test)]
+mod tests;
+
+pub use consulting::{Heard, consult};
+pub use dismissing::dismiss;
+pub use rounds::ask_all;

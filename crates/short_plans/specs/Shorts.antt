@@ -1,0 +1,11 @@
+-- Short plans.
+use Rattle.std.specs.Prelude.{ℕ, ◌≤◌, List, length}
+use Rattle.carp_base.specs.Problem.{Problem}
+use Rattle.plan_model.specs.Plans.{IsLawful, steps_of}
+use Rattle.plan_model.specs.declared.step.Step.{Step}
+
+-- a lawful plan of no more tours than there are required edges, and of at most 2,000,000 steps
+pub record IsShortPlan (p : Problem) (plan : List (List Step)) : Type 0 where
+  pub lawful : IsLawful p plan
+  pub few_tours : length plan ≤ p.required
+  pub few_steps : length (steps_of plan) ≤ 2000000
