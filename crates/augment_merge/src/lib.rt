@@ -4,7 +4,6 @@
 #![tactic(auto)]
 
 mod augmenting;
-#[cfg(test)]
 mod examples;
 mod joins;
 mod laws;
@@ -14,8 +13,6 @@ mod merging;
 mod outline;
 mod renewing;
 mod searching;
-#[cfg(test)]
-mod tests;
 mod tour;
 
 pub use making::augment_merge;

@@ -35,6 +35,14 @@ impl Costs {
         })
     }
 
+    /// The number of members.
+    pub fn members(&self) -> u32
+        requires { IsTable self.now }
+        ensures { result ≡ self.now.size }
+    {
+        self.size as u32
+    }
+
     /// Sets the cost of the pair of two different members, 0 to [`MAX_COST`], in both orders.
     pub fn set(&mut self, a: u32, b: u32, value: u64)
         requires table { IsTable self.old }

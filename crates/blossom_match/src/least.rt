@@ -37,6 +37,14 @@ impl Matching {
         self.mates[v as usize - 1] as u32 + 1
     }
 
+    /// The number of members.
+    pub fn members(&self) -> u32
+        requires { IsMatching self.now }
+        ensures { result ≡ self.now.size }
+    {
+        self.size as u32
+    }
+
     /// The number of sets that have a weight.
     pub fn sets(&self) -> usize
         ensures { result ≡ sets_in self.now }

@@ -19,7 +19,6 @@ mod augment;
 mod beginning;
 mod costs;
 mod cycle;
-#[cfg(test)]
 mod examples;
 mod expand;
 mod gather;
@@ -33,8 +32,6 @@ mod rooms;
 mod search;
 mod shrink;
 mod state;
-#[cfg(test)]
-mod tests;
 mod unfold;
 mod ways;
 

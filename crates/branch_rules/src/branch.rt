@@ -74,8 +74,8 @@ impl Branch {
         self.decisions.len()
     }
 
-    // The decisions in order.
-    pub(crate) fn decisions(&self) -> &[Decision]
+    /// The decisions in order.
+    pub fn decisions(&self) -> &[Decision]
         ensures { result.now ≡ self.now }
     {
         &self.decisions

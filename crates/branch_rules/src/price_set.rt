@@ -145,8 +145,8 @@ impl PriceSet {
         &self.services
     }
 
-    // The weights.
-    pub(crate) fn shore_weights(&self) -> &[Weight]
+    /// The weights in order.
+    pub fn shore_weights(&self) -> &[Weight]
         ensures value { result.now ≡ self.now.weights }
         ensures fine { IsPriceSet self.now }
     {

@@ -6,7 +6,6 @@ mod changing;
 mod children;
 mod choosing;
 mod closing;
-#[cfg(test)]
 mod examples;
 mod finishing;
 mod kinds;
@@ -15,8 +14,6 @@ mod raising;
 mod search;
 mod splitting;
 mod stepping;
-#[cfg(test)]
-mod tests;
 mod values;
 
 pub use finishing::Found;

@@ -7,18 +7,13 @@
 //! need ([`cut_pool::need`]) is above the deadheads over them, and [`shells`] the sets of the vertices beyond each distance.
 #![tactic(auto)]
 
-#[cfg(test)]
-mod brute_tests;
 mod components;
-#[cfg(test)]
 mod examples;
 mod fractional;
 mod laws;
 mod lengths;
 mod network;
 mod shelling;
-#[cfg(test)]
-mod tests;
 
 pub use components::find_components;
 pub use fractional::find_fractional;

@@ -28,7 +28,4 @@ pub use fault::InstanceFault;
 pub use instance::Instance;
 pub use laws::valid_where_no_fault;
 
-#[cfg(test)]
 mod examples;
-#[cfg(test)]
-mod tests;

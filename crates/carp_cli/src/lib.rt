@@ -10,7 +10,6 @@
 
 mod delivering;
 mod dir_shelf;
-#[cfg(test)]
 mod examples;
 mod refusals;
 mod running;

@@ -8,8 +8,6 @@
 mod certifying;
 mod searching;
 mod solving;
-#[cfg(test)]
-mod tests;
 
 pub use helper_rounds::{Heard, consult, dismiss};
 pub use solving::{Solved, solve};

@@ -6,20 +6,15 @@
 #![tactic(auto)]
 
 mod calls;
-#[cfg(test)]
 mod examples;
 mod mem_file;
 mod mem_files;
 mod mem_shelf;
 mod mem_sink;
 mod pieces;
-#[cfg(test)]
-mod pieces_tests;
 mod reading;
 mod shelf;
 mod sink;
-#[cfg(test)]
-mod tests;
 
 pub use mem_shelf::MemShelf;
 pub use mem_sink::MemSink;

@@ -6,7 +6,6 @@
 //! have values.
 #![tactic(auto)]
 
-#[cfg(test)]
 mod examples;
 mod laws;
 

@@ -7,18 +7,13 @@
 mod checker;
 mod checking;
 mod claim;
-#[cfg(test)]
 mod examples;
 mod head;
 mod laws;
 mod leaves;
 mod reason;
 mod stream;
-#[cfg(test)]
-mod stream_tests;
 mod streaming;
-#[cfg(test)]
-mod tests;
 
 pub use checking::check;
 pub use laws::{good_has_no_reason, reason_is_unique};

@@ -17,12 +17,8 @@ mod laws;
 mod line;
 mod reader;
 mod reading;
-#[cfg(test)]
-mod reading_tests;
 mod spelling;
 mod writing;
-#[cfg(test)]
-mod writing_tests;
 
 pub use cert::{Cert, CertHead};
 pub use cert_lines::{CertFault, Counts, Item};

@@ -7,7 +7,6 @@
 #![tactic(auto)]
 
 mod counts;
-#[cfg(test)]
 mod examples;
 mod fault;
 mod item;

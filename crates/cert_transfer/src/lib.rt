@@ -9,8 +9,6 @@
 mod carrying;
 mod copies;
 mod laws;
-#[cfg(test)]
-mod tests;
 
 pub use carrying::carry;
 pub use instance_edits::{Edit, EditFault, edited, read_edits};

@@ -4,11 +4,8 @@
 //! 10^18, and an edge of a step past 1,000,000, is told as that.
 #![tactic(auto)]
 
-#[cfg(test)]
 mod examples;
 mod number;
-#[cfg(test)]
-mod tests;
 mod word;
 
 pub use word::Word;

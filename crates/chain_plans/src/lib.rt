@@ -6,8 +6,6 @@
 mod laws;
 mod ordering;
 mod planning;
-#[cfg(test)]
-mod tests;
 
 pub use laws::fixed_values_compare;
 pub use planning::plan;

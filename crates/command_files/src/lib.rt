@@ -8,8 +8,6 @@
 mod reading;
 mod rounds;
 mod status;
-#[cfg(test)]
-mod tests;
 
 pub use reading::{
     CERTIFICATE_LIMIT, INSTANCE_LIMIT, Stated, check_file, parse_good, parse_instance, read_file,

@@ -6,8 +6,6 @@
 
 mod gathering;
 mod job;
-#[cfg(test)]
-mod tests;
 
 pub use gathering::gather;
 pub use job::Job;

@@ -8,13 +8,10 @@
 #![tactic(auto)]
 
 mod command;
-#[cfg(test)]
 mod examples;
 mod grammar;
 mod laws;
 mod plain;
-#[cfg(test)]
-mod tests;
 mod words;
 
 pub use command::Command;

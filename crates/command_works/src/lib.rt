@@ -13,8 +13,6 @@ mod fleets;
 mod making;
 mod rounds;
 mod solving;
-#[cfg(test)]
-mod tests;
 
 pub use delivery::{Delivery, Kept};
 pub use making::make;

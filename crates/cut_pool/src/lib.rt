@@ -5,13 +5,10 @@
 #![tactic(auto)]
 
 mod border;
-#[cfg(test)]
 mod examples;
 mod laws;
 mod pool;
 mod shore;
-#[cfg(test)]
-mod tests;
 
 pub use border::{need, required_crossings, touched};
 pub use laws::need_is_met;

@@ -17,8 +17,6 @@ mod line_texts;
 mod number;
 mod parts;
 mod reading;
-#[cfg(test)]
-mod tests;
 mod write;
 
 pub use fault::DatFault;

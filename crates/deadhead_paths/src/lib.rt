@@ -5,14 +5,11 @@
 //! such paths, and [`single_tours`] serves each required edge in a tour of its own.
 #![tactic(auto)]
 
-#[cfg(test)]
 mod examples;
 mod laws;
 mod making;
 mod search;
 mod table;
-#[cfg(test)]
-mod tests;
 mod tidying;
 mod touring;
 

@@ -6,13 +6,10 @@
 
 mod chains;
 mod decision;
-#[cfg(test)]
 mod examples;
 mod excluding;
 mod laws;
 mod near;
-#[cfg(test)]
-mod tests;
 
 pub use chains::Chains;
 pub use decision::Decision;

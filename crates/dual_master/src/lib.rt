@@ -8,13 +8,10 @@
 
 mod best;
 mod candidate;
-#[cfg(test)]
 mod examples;
 mod laws;
 mod raising;
 mod singles;
-#[cfg(test)]
-mod tests;
 mod values;
 
 pub use best::floors;

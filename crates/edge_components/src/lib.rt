@@ -6,14 +6,11 @@
 //! to the vertices and edges, and [`list_marked`] besides in proportion to the greatest vertices of its shores.
 #![tactic(auto)]
 
-#[cfg(test)]
 mod examples;
 mod labelling;
 mod laws;
 mod listing;
 mod tallies;
-#[cfg(test)]
-mod tests;
 
 pub use labelling::label_components;
 pub use laws::{equal_sets_have_one_border, kept_labels_are_components, vertices_are_listed};

@@ -6,8 +6,6 @@
 
 mod edited;
 mod reading;
-#[cfg(test)]
-mod tests;
 mod texts;
 
 pub use edited::Edited;

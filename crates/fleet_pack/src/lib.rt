@@ -7,7 +7,6 @@
 #![tactic(auto)]
 
 mod ending;
-#[cfg(test)]
 mod examples;
 mod filling;
 mod first_fit;
@@ -20,8 +19,6 @@ mod packing;
 mod pairs;
 mod search;
 mod share;
-#[cfg(test)]
-mod tests;
 
 pub use laws::lean_trees_are_small;
 pub use packing::pack;

@@ -9,9 +9,6 @@
 //! [`better_sets_reach_as_much`].
 #![tactic(auto)]
 
-#[cfg(test)]
-mod brute_tests;
-#[cfg(test)]
 mod examples;
 mod join;
 mod laws;
@@ -19,8 +16,6 @@ mod placing;
 mod ratio;
 mod services;
 mod shell;
-#[cfg(test)]
-mod tests;
 
 pub use join::join_prices;
 pub use laws::{better_sets_reach_as_much, packing_weights_fit};

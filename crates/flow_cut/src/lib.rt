@@ -9,15 +9,12 @@
 mod adjacency;
 mod blocking;
 mod dinic;
-#[cfg(test)]
 mod examples;
 mod laws;
 mod layers;
 mod network;
 mod paths;
 mod residual;
-#[cfg(test)]
-mod tests;
 
 pub use dinic::max_flow;
 pub use laws::{cut_bounds_flow, equal_is_best};

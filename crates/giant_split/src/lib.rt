@@ -6,14 +6,11 @@
 
 mod cutter;
 mod cutting;
-#[cfg(test)]
 mod examples;
 mod exchange;
 mod legs;
 mod splitter;
 mod splitting;
-#[cfg(test)]
-mod tests;
 
-pub use splitter::Splitter;
+pub use splitter::{Splitter, order_of};
 pub use splitting::split;

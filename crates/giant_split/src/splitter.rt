@@ -37,8 +37,9 @@ fn add_tasks(order: &mut Vec<Task>, walk: &Walk) -> Result<(), Memory>
     Ok(())
 }
 
-// The order in which a plan serves.
-pub(crate) fn order_of(alloc: Global, plan: &Plan) -> Result<Vec<Task>, Memory>
+/// The tasks of a plan in the order in which it serves them, tour by tour. It takes time in proportion to the steps of the plan, and fails only
+/// for want of memory.
+pub fn order_of(alloc: Global, plan: &Plan) -> Result<Vec<Task>, Memory>
     ensures { IfOk result (λ order. order.items ≡ all_tasks (plan_tours plan.now)) }
 {
     let mut order = Vec::new(alloc);

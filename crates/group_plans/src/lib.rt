@@ -5,7 +5,6 @@
 //! many groups as walks of the plan serve.
 #![tactic(auto)]
 
-#[cfg(test)]
 mod examples;
 mod gathering;
 mod laws;

@@ -9,7 +9,6 @@
 //! decision leaves each excluded pair excluded, and each chain within the capacity ([`decisions_keep_exclusions`]).
 #![tactic(auto)]
 
-#[cfg(test)]
 mod examples;
 mod growing;
 mod laws;

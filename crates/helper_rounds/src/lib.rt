@@ -7,8 +7,6 @@
 mod consulting;
 mod dismissing;
 mod rounds;
-#[cfg(test)]
-mod tests;
 
 pub use consulting::{Heard, consult};
 pub use dismissing::dismiss;

@@ -12,7 +12,4 @@ pub use edit::{Edit, EditFault};
 pub use laws::edits_are_unique;
 pub use read::read_edits;
 
-#[cfg(test)]
 mod examples;
-#[cfg(test)]
-mod tests;

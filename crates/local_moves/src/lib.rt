@@ -4,7 +4,6 @@
 //! changes the best plan by ruin and recreate before it settles it.
 #![tactic(auto)]
 
-#[cfg(test)]
 mod examples;
 mod loads;
 mod mover;
@@ -15,8 +14,6 @@ mod searching;
 mod settling;
 mod stirred;
 mod swaps;
-#[cfg(test)]
-mod tests;
 mod tours;
 
 pub use mover::Mover;

@@ -37,7 +37,6 @@
 
 mod bound;
 mod depth_rows;
-#[cfg(test)]
 mod examples;
 mod ground;
 mod joining;
@@ -46,8 +45,6 @@ mod merging;
 mod pairing;
 mod runs;
 mod setting;
-#[cfg(test)]
-mod tests;
 
 pub use bound::{JoinBound, join_bound};
 pub use laws::{plans_pay_joins, shores_bound_joins};

@@ -4,8 +4,6 @@
 //! says only that memory was not to be had; what the text then holds is not said. It takes time in proportion to what it adds.
 #![tactic(auto)]
 
-#[cfg(test)]
-mod tests;
 mod text;
 
 pub use text::{push_line, push_number, push_words};

@@ -14,12 +14,9 @@
 //! - `laws`: what is proved of all packings.
 #![tactic(auto)]
 
-#[cfg(test)]
-mod bundle_tests;
 mod bundling;
 mod checking;
 mod closing;
-#[cfg(test)]
 mod examples;
 mod grouping;
 mod laws;
@@ -28,8 +25,6 @@ mod packing;
 mod reason;
 mod shape;
 mod shares;
-#[cfg(test)]
-mod tests;
 mod walking;
 
 pub use bundling::{Bundles, bundle_count, bundles_of, share_value};

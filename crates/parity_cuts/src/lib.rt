@@ -5,10 +5,7 @@
 //! crosses it, and yet each lawful plan has an odd number of deadheads over it, by the law [`cut_pool::need_is_met`].
 #![tactic(auto)]
 
-#[cfg(test)]
 mod examples;
 mod finding;
-#[cfg(test)]
-mod tests;
 
 pub use finding::find;

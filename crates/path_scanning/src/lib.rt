@@ -4,14 +4,11 @@
 #![tactic(auto)]
 
 mod candidate;
-#[cfg(test)]
 mod examples;
 mod nearest;
 mod rule;
 mod scanner;
 mod scanning;
-#[cfg(test)]
-mod tests;
 
 pub use rule::Rule;
 pub use scanner::Scanner;

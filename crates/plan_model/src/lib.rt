@@ -5,18 +5,13 @@
 //! plans.
 #![tactic(auto)]
 
-#[cfg(test)]
 mod examples;
 mod judging;
 mod laws;
 mod plan;
 mod proposer;
-#[cfg(test)]
-mod proposer_tests;
 mod served;
 mod step;
-#[cfg(test)]
-mod tests;
 mod totals;
 mod tours;
 mod verdict;

@@ -2,11 +2,7 @@
 #![tactic(auto)]
 
 mod reporting;
-#[cfg(test)]
-mod sheet_tests;
 mod sheets;
-#[cfg(test)]
-mod tests;
 
 pub use reporting::{push_gap, push_route, push_tours, report};
 pub use sheets::sheet;

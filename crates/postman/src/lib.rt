@@ -13,16 +13,11 @@
 #![tactic(auto)]
 
 mod circuit;
-#[cfg(test)]
 mod examples;
 mod fault;
 mod joined;
 mod laws;
-#[cfg(test)]
-mod order_tests;
 mod round;
-#[cfg(test)]
-mod tests;
 mod trail;
 
 pub use fault::PostmanFault;

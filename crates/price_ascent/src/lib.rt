@@ -20,8 +20,6 @@ mod scaling;
 mod scoring;
 mod setting_out;
 mod slopes;
-#[cfg(test)]
-mod tests;
 mod touring;
 
 pub use ascending::ascend;

@@ -8,17 +8,10 @@
 
 mod carrying;
 mod copying;
-#[cfg(test)]
 mod examples;
 mod filling;
 mod grid;
 mod labels;
-#[cfg(test)]
-mod plain;
-#[cfg(test)]
-mod tests;
-#[cfg(test)]
-mod towns;
 
 pub use filling::Before;
 pub use grid::{Grid, LIFT, UNREACHED};

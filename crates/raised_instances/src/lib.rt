@@ -4,7 +4,6 @@
 //! are facts about the new one.
 #![tactic(auto)]
 
-#[cfg(test)]
 mod examples;
 mod laws;
 

@@ -7,7 +7,5 @@
 #![tactic(auto)]
 
 mod lines;
-#[cfg(test)]
-mod tests;
 
 pub use lines::{certificate_fault_line, edit_fault_line, instance_fault_line, rejection_line};

@@ -8,8 +8,6 @@ mod counting;
 mod ends;
 mod network;
 mod reach;
-#[cfg(test)]
-mod tests;
 
 pub use ends::far_end;
 pub use network::Network;

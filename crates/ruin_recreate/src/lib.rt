@@ -13,7 +13,6 @@
 mod annealing;
 mod board;
 mod draws;
-#[cfg(test)]
 mod examples;
 mod neighbours;
 mod ordering;
@@ -23,8 +22,6 @@ mod rounds;
 mod ruining;
 mod stirring;
 mod tables;
-#[cfg(test)]
-mod tests;
 
 pub use board::Board;
 pub use stirring::stir;

@@ -11,7 +11,5 @@
 mod placing;
 mod proposing;
 mod rounds;
-#[cfg(test)]
-mod tests;
 
 pub use proposing::shore_prices;

@@ -15,7 +15,6 @@
 
 mod adding;
 mod cuts;
-#[cfg(test)]
 mod examples;
 mod fixed;
 mod packing;
@@ -25,8 +24,6 @@ mod ratio;
 mod reading;
 mod rooms;
 mod tableau;
-#[cfg(test)]
-mod tests;
 mod trimming;
 
 pub use program::Program;

@@ -15,7 +15,6 @@ mod aims;
 mod best;
 mod cuts;
 mod draws;
-#[cfg(test)]
 mod examples;
 mod growing;
 mod hunting;
@@ -23,8 +22,6 @@ mod judging;
 mod places;
 mod search;
 mod streets;
-#[cfg(test)]
-mod tests;
 
 pub use judging::shortfall;
 pub use search::{Effort, Search};

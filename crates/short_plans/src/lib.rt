@@ -3,7 +3,6 @@
 //! Every plan that the engine holds is short, so that its cost is far below what a bound may be, and its certificate can be spelled.
 #![tactic(auto)]
 
-#[cfg(test)]
 mod examples;
 mod laws;
 

@@ -6,14 +6,11 @@
 #![tactic(auto)]
 
 mod costs;
-#[cfg(test)]
 mod examples;
 mod joining;
 mod laws;
 mod standing;
 mod stands;
-#[cfg(test)]
-mod tests;
 
 pub use costs::{cost_distances, lawful_cost, least_cost};
 pub use joining::{add_tour, join};

@@ -7,7 +7,6 @@
 #![tactic(auto)]
 
 mod across;
-#[cfg(test)]
 mod examples;
 mod fitting;
 mod heavier;
@@ -15,8 +14,6 @@ mod passes;
 mod place;
 mod probe;
 mod search;
-#[cfg(test)]
-mod tests;
 
 pub use fitting::fits;
 pub use passes::tighten;

@@ -2,7 +2,5 @@
 #![tactic(auto)]
 
 mod directing;
-#[cfg(test)]
-mod tests;
 
 pub use directing::direct;

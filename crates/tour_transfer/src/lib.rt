@@ -7,7 +7,6 @@
 
 mod carrying;
 mod cutting;
-#[cfg(test)]
 mod examples;
 mod reading;
 #[cfg(test)]

@@ -7,8 +7,6 @@ mod draws;
 mod grid;
 mod laws;
 mod maker;
-#[cfg(test)]
-mod tests;
 
 pub use laws::towns_are_valid;
 pub use maker::town;

@@ -4,10 +4,7 @@
 //! A [`Path`] holds both in one branch and at most one decision beside each of its decisions, however large the tree is.
 #![tactic(auto)]
 
-#[cfg(test)]
 mod examples;
 mod path;
-#[cfg(test)]
-mod tests;
 
 pub use path::Path;

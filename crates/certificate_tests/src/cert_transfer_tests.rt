@@ -1,0 +1,103 @@
+// Certificates that are carried over to edited instances, worked by hand.
+ghost use Rattle.std.specs.Prelude.{IfOk, IfSome};
+ghost use Rattle.cert_lines.specs.Spelling.{IsSpellable};
+ghost use Rattle.cert_format.specs.Certs.{certificate_in};
+ghost use Rattle.cert_format.specs.Good.{IsGood};
+
+use carp_base::{Instance, RawEdge};
+use cert_checker::{Answer, check};
+use cert_format::{Cert, read_cert};
+use cert_lines::read_is_spelled;
+use cert_transfer::{carry, edited, read_edits};
+use std::alloc::Global;
+use std::test::Fail;
+
+fn street(u: u64, v: u64, cost: u64, demand: u64) -> RawEdge {
+    RawEdge {
+        u,
+        v,
+        cost,
+        demand,
+        service: cost,
+    }
+}
+
+// Two streets in a row, each a load for a vehicle.
+fn row(alloc: Global) -> Result<Instance, Fail> {
+    let required = [street(1, 2, 3, 2), street(2, 3, 4, 2)];
+    Ok(Instance::build(alloc, 3, 1, 2, &required, &[])?)
+}
+
+const ROW: &str =
+    "carp-certificate 1~cost 20~bound 20~tours 2~tour 2 +1 <1~tour 4 >1 +2 <2 <1~shores 2~shore 2 2 3~shore 1 3~sets 1~prices 1 2 3 4~weights 2 1 3 2 4~nodes 1~price 1~end~";
+
+// Three streets round a far corner, for vehicles that carry two of them.
+fn ring(alloc: Global) -> Result<Instance, Fail> {
+    let required = [street(2, 3, 1, 2), street(3, 4, 1, 2), street(4, 2, 1, 2)];
+    Ok(Instance::build(alloc, 4, 1, 5, &required, &[street(1, 2, 10, 0)])?)
+}
+
+const RING: &str =
+    "carp-certificate 1~cost 45~bound 45~tours 2~tour 5 >4 +1 +2 >3 <4~tour 4 >4 -3 >3 <4~shores 2~shore 3 2 3 4~shore 2 3 4~sets 1~prices 1 3 1 1 1~weights 2 1 10 2 1~nodes 1~price 1~end~";
+
+// The same with a pair at the root.
+const SPLIT_RING: &str =
+    "carp-certificate 1~cost 45~bound 45~tours 2~tour 5 >4 +1 +2 >3 <4~tour 4 >4 -3 >3 <4~shores 2~shore 3 2 3 4~shore 2 3 4~sets 1~prices 1 3 1 1 1~weights 2 1 10 2 1~nodes 3~pair 1 2~price 1~price 1~end~";
+
+// The certificate of a text, in which `~` stands for a line feed, where it is good for the instance.
+fn good(alloc: Global, inst: &Instance, text: &str) -> Result<Option<Cert>, Fail>
+    ensures { IfOk result (λ found. IfSome found (λ cert. IsSpellable (certificate_in cert) × IsGood inst.now (certificate_in cert))) }
+{
+    read_is_spelled();
+    let text = text.replace(alloc, "~", "\n")?;
+    let cert = read_cert(alloc, text.as_bytes())?;
+    match check(alloc, inst, &cert)? {
+        Answer::Accepted => Ok(Some(cert)),
+        Answer::Rejected(_) => Ok(None),
+    }
+}
+
+// The cost, the bound, the numbers of tours, shores, sets and nodes, and the edges of the certificate that is carried over by the edits.
+fn carried(alloc: Global, inst: &Instance, text: &str, edits: &str) -> Result<String, Fail> {
+    let Some(cert) = good(alloc, inst, text)? else {
+        return Ok(String::new(alloc));
+    };
+    if edits.len() > 1_000 {
+        return Ok(String::new(alloc));
+    }
+    let edits = read_edits(alloc, inst, edits.as_bytes())?;
+    if edits.len() > 1_000 {
+        return Ok(String::new(alloc));
+    }
+    let after = edited(alloc, inst, &edits)?;
+    let new = carry(alloc, inst, &edits, &after, &cert)?;
+    let edges = new.counts.map_or(0, |counts| counts.edges);
+    let sizes = format!(in alloc;
+        "{} {} {} {}",
+        new.plan.len(),
+        new.shores.len(),
+        new.sets.len(),
+        new.tree.len()
+    )?;
+    Ok(format!(in alloc; "{} {} {sizes} {edges}", new.cost, new.bound)?)
+}
+
+// The street of cost 3 is driven three times without service, each time for 2 more.
+#[test]
+fn a_dearer_street_costs_more(rt: HostRuntime) -> Result<(), Fail> {
+    let alloc = rt.alloc();
+    let inst = row(alloc)?;
+    assert!(rt; carried(alloc, &inst, ROW, "cost 1 2\n")?.as_str() == "26 20 2 2 1 1 2");
+    assert!(rt; carried(alloc, &inst, ROW, "")?.as_str() == "20 20 2 2 1 1 2");
+    Ok(())
+}
+
+#[test]
+fn a_heavier_street_cuts_its_tour(rt: HostRuntime) -> Result<(), Fail> {
+    let alloc = rt.alloc();
+    let inst = ring(alloc)?;
+    assert!(rt; carried(alloc, &inst, RING, "demand 1 2\n")?.as_str() == "67 45 3 2 1 1 4");
+    assert!(rt; carried(alloc, &inst, SPLIT_RING, "demand 1 2\n")?.as_str() == "67 45 3 2 1 1 4");
+    assert!(rt; carried(alloc, &inst, SPLIT_RING, "cost 2 0\n")?.as_str() == "45 45 2 2 1 3 4");
+    Ok(())
+}

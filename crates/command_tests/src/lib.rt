@@ -1,0 +1,22 @@
+//! Tests of the parts of a command: its words, its files, and what it writes (crates `command_words`,
+//! `refusal_texts`, `plan_print`, `command_files`, `edit_files`, `command_jobs` and `command_works`).
+//!
+//! They stand in a crate of their own, since a crate with tests is proved twice.
+#![tactic(auto)]
+
+#[cfg(test)]
+mod command_files_tests;
+#[cfg(test)]
+mod command_jobs_tests;
+#[cfg(test)]
+mod command_words_tests;
+#[cfg(test)]
+mod command_works_tests;
+#[cfg(test)]
+mod edit_files_tests;
+#[cfg(test)]
+mod plan_print_sheet_tests;
+#[cfg(test)]
+mod plan_print_tests;
+#[cfg(test)]
+mod refusal_texts_tests;

@@ -1,0 +1,123 @@
+ghost use Rattle.cut_pool.specs.Shores.{IsShore};
+
+use carp_base::{Fail as Refusal, Instance, RawEdge};
+use cut_pool::{PoolFull, Shore, ShorePool, need, required_crossings, touched};
+use std::alloc::Global;
+use std::process::Abort;
+use std::test::Fail;
+
+// An edge whose service costs what a crossing costs.
+fn edge(u: u64, v: u64, cost: u64, demand: u64) -> RawEdge {
+    RawEdge {
+        u,
+        v,
+        cost,
+        demand,
+        service: cost,
+    }
+}
+
+// So many required edges have one end among the vertices, and so much demand an end; so many deadheads are needed there.
+fn expect_border(
+    rt: &impl Abort,
+    alloc: Global,
+    inst: &Instance,
+    vertices: &[u32],
+    expected: (u64, u64, u64),
+) -> Result<(), Fail>
+    requires { IsShore vertices.now }
+{
+    let shore = Shore::from_list(alloc, vertices)?;
+    let belongs = shore.belongs(inst);
+    assert!(rt; belongs);
+    assert_eq!(rt; required_crossings(inst, &shore), expected.0);
+    assert_eq!(rt; touched(inst, &shore), expected.1);
+    assert_eq!(rt; need(inst, &shore), expected.2);
+    Ok(())
+}
+
+#[test]
+fn borders_need_vehicles_and_parity(rt: HostRuntime) -> Result<(), Fail> {
+    let alloc = rt.alloc();
+    let side_by_side = [edge(1, 2, 5, 3), edge(1, 2, 8, 3)];
+    let inst = Instance::build(alloc, 2, 1, 5, &side_by_side, &[])?;
+    expect_border(&rt, alloc, &inst, &[2], (2, 6, 2))?;
+
+    let street = [edge(1, 2, 3, 2), edge(2, 3, 4, 2)];
+    let inst = Instance::build(alloc, 3, 1, 2, &street, &[])?;
+    expect_border(&rt, alloc, &inst, &[2, 3], (1, 4, 3))?;
+    expect_border(&rt, alloc, &inst, &[3], (1, 2, 1))?;
+    expect_border(&rt, alloc, &inst, &[2], (2, 4, 2))
+}
+
+#[test]
+fn borders_of_other_edges_need_vehicles(rt: HostRuntime) -> Result<(), Fail> {
+    let alloc = rt.alloc();
+    let ring = [edge(2, 3, 1, 2), edge(3, 4, 1, 2), edge(4, 2, 1, 2)];
+    let inst = Instance::build(alloc, 4, 1, 5, &ring, &[edge(1, 2, 10, 0)])?;
+    expect_border(&rt, alloc, &inst, &[2, 3, 4], (0, 6, 4))?;
+    expect_border(&rt, alloc, &inst, &[3, 4], (2, 6, 2))?;
+
+    let star = [
+        edge(2, 3, 1, 2),
+        edge(2, 4, 1, 2),
+        edge(2, 5, 1, 2),
+        edge(2, 6, 1, 2),
+        edge(2, 7, 1, 2),
+    ];
+    let inst = Instance::build(alloc, 7, 1, 5, &star, &[edge(1, 2, 100, 0)])?;
+    expect_border(&rt, alloc, &inst, &[2, 3, 4, 5, 6, 7], (0, 10, 4))?;
+    expect_border(&rt, alloc, &inst, &[3], (1, 2, 1))
+}
+
+// Adding the set of one vertex gives this number.
+fn expect_number(
+    rt: &impl Abort,
+    alloc: Global,
+    pool: &mut ShorePool,
+    vertex: u32,
+    expected: u32,
+) -> Result<(), Fail> {
+    match pool.add(Shore::from_list(alloc, &[vertex])?) {
+        Ok(number) => assert_eq!(rt; number, expected),
+        Err(_) => panic!(rt; "{vertex} is refused"),
+    }
+    Ok(())
+}
+
+#[test]
+fn a_pool_numbers_in_the_order_of_discovery(rt: HostRuntime) -> Result<(), Fail> {
+    let alloc = rt.alloc();
+    let mut pool = ShorePool::new(alloc);
+    for place in 0..2000 {
+        expect_number(&rt, alloc, &mut pool, 3000 - place, place + 1)?;
+    }
+    expect_number(&rt, alloc, &mut pool, 2999, 2)?;
+    expect_number(&rt, alloc, &mut pool, 1001, 2000)?;
+    let refusal = pool.add(Shore::from_list(alloc, &[1000])?);
+    let full = matches!(refusal, Err(Refusal::Refused(PoolFull)));
+    assert!(rt; full);
+    assert_eq!(rt; pool.len(), 2000);
+    assert_eq!(rt; pool.shore(2).len(), 1);
+    assert_eq!(rt; pool.shore(2).vertex(0), 2999);
+    Ok(())
+}
+
+#[test]
+fn a_set_crosses_and_belongs(rt: HostRuntime) -> Result<(), Fail> {
+    let alloc = rt.alloc();
+    let street = [edge(1, 2, 3, 2), edge(2, 3, 4, 2)];
+    let inst = Instance::build(alloc, 3, 1, 2, &street, &[])?;
+    let shore = Shore::from_list(alloc, &[2, 3])?;
+    let crossing = [shore.crosses(&inst.edge(1)), shore.crosses(&inst.edge(2))];
+    assert_eq!(rt; crossing, [true, false]);
+    let with_depot = Shore::from_list(alloc, &[1, 2])?;
+    let past_the_last = Shore::from_list(alloc, &[3, 4])?;
+    let belong = [
+        shore.belongs(&inst),
+        with_depot.belongs(&inst),
+        past_the_last.belongs(&inst),
+    ];
+    assert_eq!(rt; belong, [true, false, false]);
+    Ok(())
+}

@@ -1,0 +1,90 @@
+// Odd components of small instances.
+use carp_base::{Instance, RawEdge};
+use cut_pool::Shore;
+use parity_cuts::find;
+use road_network::Network;
+use std::alloc::Global;
+use std::process::Abort;
+use std::test::Fail;
+
+fn edge(u: u64, v: u64) -> RawEdge {
+    RawEdge {
+        u,
+        v,
+        cost: 5,
+        demand: 1,
+        service: 5,
+    }
+}
+
+// Whether the shore has just these vertices.
+fn is_shore(shore: &Shore, vertices: &[u32]) -> bool {
+    if shore.len() != vertices.len() {
+        return false;
+    }
+    for i in 0..shore.len() {
+        if shore.vertex(i) != vertices[i] {
+            return false;
+        }
+    }
+    true
+}
+
+// The odd components of the edges with positive x are just these.
+fn expect_found(
+    rt: &impl Abort,
+    alloc: Global,
+    inst: &Instance,
+    x: &[u64],
+    expected: &[&[u32]],
+) -> Result<(), Fail> {
+    let net = Network::new(alloc, inst)?;
+    assert!(rt; x.len() == inst.edge_count() as usize);
+    let shores = find(alloc, inst, &net, x)?;
+    assert!(rt; shores.len() == expected.len());
+    for i in 0..shores.len() {
+        let same = is_shore(&shores[i], expected[i]);
+        assert!(rt; same);
+    }
+    Ok(())
+}
+
+#[test]
+fn a_street_without_a_way_back(rt: HostRuntime) -> Result<(), Fail> {
+    let alloc = rt.alloc();
+    let inst = Instance::build(alloc, 2, 1, 1, &[edge(1, 2)], &[])?;
+    expect_found(&rt, alloc, &inst, &[0], &[&[2]])?;
+    expect_found(&rt, alloc, &inst, &[1], &[])
+}
+
+// Of the required edges three meet at 2, four at 3, two at 4, and three each at 5 and 6, which two parallel streets join.
+#[test]
+fn odd_ones_alone(rt: HostRuntime) -> Result<(), Fail> {
+    let alloc = rt.alloc();
+    let required = [
+        edge(1, 2),
+        edge(2, 3),
+        edge(2, 3),
+        edge(3, 4),
+        edge(3, 5),
+        edge(5, 6),
+        edge(4, 6),
+        edge(5, 6),
+    ];
+    let inst = Instance::build(alloc, 6, 1, 9, &required, &[edge(4, 5)])?;
+    let x = [0, 2, 1, 0, 0, 0, 0, 0, 3];
+    expect_found(&rt, alloc, &inst, &x, &[&[2, 3], &[4, 5], &[6]])?;
+    let x = [1, 0, 0, 0, 0, 0, 0, 0, 3];
+    expect_found(&rt, alloc, &inst, &x, &[&[4, 5], &[6]])?;
+    let x = [0, 0, 0, 0, 0, 7, 0, 0, 0];
+    expect_found(&rt, alloc, &inst, &x, &[&[2]])?;
+    let x = [0, 0, 0, 0, 0, 0, 0, 0, 0];
+    expect_found(&rt, alloc, &inst, &x, &[&[2], &[5], &[6]])
+}
+
+#[test]
+fn no_vertex_but_the_depot(rt: HostRuntime) -> Result<(), Fail> {
+    let alloc = rt.alloc();
+    let inst = Instance::build(alloc, 1, 1, 1, &[], &[])?;
+    expect_found(&rt, alloc, &inst, &[], &[])
+}

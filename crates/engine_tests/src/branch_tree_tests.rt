@@ -1,0 +1,149 @@
+// Searches on small instances: one vertex, and a star of five streets behind a long way.
+ghost use Rattle.std.specs.Prelude.{◌≡◌, ◌≤◌, IfOk};
+ghost use Rattle.short_plans.specs.Shorts.{IsShortPlan};
+ghost use Rattle.branch_tree.specs.Searches.{IsSearch};
+
+use branch_tree::{Search, Turn};
+use carp_base::{Instance, Memory, RawEdge};
+use deadhead_paths::tidy;
+use plan_model::{JudgeRoom, Plan, Step, Verdict, Walk, judge, verdicts_are_exact};
+use std::alloc::Global;
+use std::test::Fail;
+use task_tours::cost_distances;
+
+fn street(u: u64, v: u64, cost: u64, demand: u64) -> RawEdge {
+    RawEdge {
+        u,
+        v,
+        cost,
+        demand,
+        service: cost,
+    }
+}
+
+fn one_vertex(alloc: Global) -> Result<Instance, Fail> {
+    Ok(Instance::build(alloc, 1, 1, 1, &[], &[])?)
+}
+
+// Five streets of cost 1 and demand 2 at vertex 2, to which a way of cost 100 leads; two of them fill a vehicle.
+fn star(alloc: Global) -> Result<Instance, Fail> {
+    let streets = [
+        street(2, 3, 1, 2),
+        street(2, 4, 1, 2),
+        street(2, 5, 1, 2),
+        street(2, 6, 1, 2),
+        street(2, 7, 1, 2),
+    ];
+    Ok(Instance::build(alloc, 7, 1, 5, &streets, &[street(1, 2, 100, 0)])?)
+}
+
+// The walk of these steps: an edge, whether forward, whether served.
+fn walk_of(alloc: Global, steps: &[(u32, bool, bool)]) -> Result<Walk, Memory> {
+    let mut walk = Walk::new(alloc);
+    for &(edge, forward, served) in steps {
+        if walk.len() < 10 {
+            walk.push(Step {
+                edge,
+                forward,
+                served,
+            })?;
+        }
+    }
+    Ok(walk)
+}
+
+// Serves two streets of the star.
+fn pair_of(alloc: Global, a: u32, b: u32) -> Result<Walk, Memory> {
+    let steps = [
+        (6, true, false),
+        (a, true, true),
+        (a, false, false),
+        (b, true, true),
+        (b, false, false),
+        (6, false, false),
+    ];
+    walk_of(alloc, &steps)
+}
+
+// Three tours of cost 204, 204 and 202.
+fn three_tours(alloc: Global) -> Result<Plan, Memory> {
+    let last = [
+        (6, true, false),
+        (5, true, true),
+        (5, false, false),
+        (6, false, false),
+    ];
+    let mut plan = Plan::new(alloc);
+    plan.push(pair_of(alloc, 1, 2)?)?;
+    plan.push(pair_of(alloc, 3, 4)?)?;
+    plan.push(walk_of(alloc, &last)?)?;
+    Ok(plan)
+}
+
+// The plan, joined by least paths, where it is lawful.
+fn short(alloc: Global, inst: &Instance, plan: &Plan) -> Result<Plan, Fail>
+    ensures { IfOk result (IsShortPlan inst.now) }
+{
+    verdicts_are_exact();
+    let mut room = JudgeRoom::new(alloc, inst)?;
+    match judge(inst, plan, &mut room) {
+        Verdict::Lawful { .. } => {
+            let dist = cost_distances(alloc, inst)?;
+            Ok(tidy(alloc, inst, &dist, plan)?)
+        }
+        _ => Err("the plan is not lawful")?,
+    }
+}
+
+// One step of a search that has turns left.
+fn step(inst: &Instance, search: &mut Search, turns: u64) -> Result<Turn, Fail>
+    requires search { IsSearch inst.now search.old }
+    requires turns { search.old.turns ≡ turns }
+    ensures { IsSearch inst.now search.new }
+{
+    if search.done() >= turns {
+        return Err("no turn is left")?;
+    }
+    Ok(search.step(inst)?)
+}
+
+// What a search shows after its first step: the turns before, what the step did, the turns then, and the bound.
+fn first_step(
+    alloc: Global,
+    inst: &Instance,
+    turns: u64,
+    plan: Plan,
+) -> Result<(u64, Turn, u64, u64), Fail>
+    requires some_turns { 1 ≤ turns }
+    requires turns_in_range { turns ≤ 1048576 }
+    requires short { IsShortPlan inst.now plan }
+{
+    let mut search = Search::begin(alloc, inst, turns, plan)?;
+    let before = search.done();
+    let turn = step(inst, &mut search, turns)?;
+    let after = search.done();
+    let found = search.finish(alloc, inst)?;
+    Ok((before, turn, after, found.bound))
+}
+
+#[test]
+fn nothing_to_serve_is_closed_from_the_start(rt: HostRuntime) -> Result<(), Fail> {
+    let alloc = rt.alloc();
+    let inst = one_vertex(alloc)?;
+    let plan = short(alloc, &inst, &Plan::new(alloc))?;
+    let seen = first_step(alloc, &inst, 2, plan)?;
+    assert_eq!(rt; seen, (1, Turn::Done, 1, 0));
+    Ok(())
+}
+
+// No set fits at the root with more than 510. The turns are then the split, and a child that shows the cost at once, if one does.
+#[test]
+fn a_star_is_split(rt: HostRuntime) -> Result<(), Fail> {
+    let alloc = rt.alloc();
+    let inst = star(alloc)?;
+    let plan = short(alloc, &inst, &three_tours(alloc)?)?;
+    let (before, turn, after, bound) = first_step(alloc, &inst, 2, plan)?;
+    assert_eq!(rt; (before, turn, bound), (0, Turn::Split, 510));
+    assert!(rt; after == 1 || after == 2);
+    Ok(())
+}

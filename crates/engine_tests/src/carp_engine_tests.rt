@@ -1,0 +1,97 @@
+// What is found without helpers.
+ghost use Rattle.std.specs.Prelude.{◌≤◌};
+
+use branch_rules::Node;
+use carp_base::{Instance, RawEdge};
+use carp_engine::{Solved, solve};
+use plan_model::Proposer;
+use std::alloc::Global;
+use std::test::Fail;
+
+fn street(u: u64, v: u64, cost: u64, demand: u64) -> RawEdge {
+    RawEdge {
+        u,
+        v,
+        cost,
+        demand,
+        service: cost,
+    }
+}
+
+// The streets 1-2, 2-3 and 1-3 of costs 5, 7 and 4: single tours cost 34, and one tour round them 16.
+fn triangle(alloc: Global) -> Result<Instance, Fail> {
+    let required = [street(1, 2, 5, 1), street(2, 3, 7, 1), street(1, 3, 4, 1)];
+    Ok(Instance::build(alloc, 3, 1, 3, &required, &[])?)
+}
+
+// The streets 1-2 and 2-3 of costs 3 and 4, each of which fills a vehicle: single tours cost 6 and 14, and each vehicle goes out
+// and comes back, so that no plan costs less.
+fn full_streets(alloc: Global) -> Result<Instance, Fail> {
+    let required = [street(1, 2, 3, 2), street(2, 3, 4, 2)];
+    Ok(Instance::build(alloc, 3, 1, 2, &required, &[])?)
+}
+
+// What is found by so many turns, without helpers.
+fn solved_by(alloc: Global, inst: &Instance, turns: u64) -> Result<Solved, Fail>
+    requires some_turns { 1 ≤ turns }
+    requires turns_in_range { turns ≤ 1048576 }
+{
+    let mut helpers: Vec<Box<dyn Proposer>> = Vec::new(alloc);
+    Ok(solve(alloc, inst, turns, 1, &mut helpers)?)
+}
+
+#[test]
+fn single_tours_stand_without_helpers(rt: HostRuntime) -> Result<(), Fail> {
+    let alloc = rt.alloc();
+    let solved = solved_by(alloc, &triangle(alloc)?, 1)?;
+    assert_eq!(rt;
+        (solved.cert.cost, solved.cert.bound, solved.cert.plan.len()),
+        (34, 16, 3)
+    );
+    Ok(())
+}
+
+#[test]
+fn one_price_set_proves_full_streets(rt: HostRuntime) -> Result<(), Fail> {
+    let alloc = rt.alloc();
+    let solved = solved_by(alloc, &full_streets(alloc)?, 64)?;
+    assert_eq!(rt;
+        (solved.cert.cost, solved.cert.bound, solved.turns),
+        (20, 20, 1)
+    );
+    assert_eq!(rt; (solved.cert.sets.len(), solved.cert.tree.len()), (1, 1));
+    assert_eq!(rt; solved.cert.tree.node(0), Node::Price { set: 1 });
+    Ok(())
+}
+
+// Five streets of cost 1 and demand 2 at the end of a way of cost 100, of which a vehicle serves two.
+fn star(alloc: Global) -> Result<Instance, Fail> {
+    let required = [
+        street(2, 3, 1, 2),
+        street(2, 4, 1, 2),
+        street(2, 5, 1, 2),
+        street(2, 6, 1, 2),
+        street(2, 7, 1, 2),
+    ];
+    Ok(Instance::build(alloc, 7, 1, 5, &required, &[street(1, 2, 100, 0)])?)
+}
+
+// The cost and the bound of the star by so many turns, without helpers.
+fn star_by(alloc: Global, turns: u64) -> Result<(u64, u64), Fail>
+    requires some_turns { 1 ≤ turns }
+    requires turns_in_range { turns ≤ 1048576 }
+{
+    let inst = star(alloc)?;
+    let solved = solved_by(alloc, &inst, turns)?;
+    Ok((solved.cert.cost, solved.cert.bound))
+}
+
+// One turn leaves single tours and what one price set shows. Where as many turns are asked for as no tree of five streets has, the search
+// finds three tours by itself, and shows that none cost less.
+#[test]
+fn turns_close_the_gap(rt: HostRuntime) -> Result<(), Fail> {
+    let alloc = rt.alloc();
+    assert_eq!(rt; star_by(alloc, 1)?, (1010, 510));
+    assert_eq!(rt; star_by(alloc, 32_768)?, (610, 610));
+    Ok(())
+}

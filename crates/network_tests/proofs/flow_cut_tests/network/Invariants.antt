@@ -1,0 +1,11 @@
+use Rattle.std.proofs.Common.{◌≡◌, length}
+use Rattle.std.specs.List.{All}
+use Rattle.flow_cut.specs.Flows.{HasEnds, HasFineRoom}
+use Rattle.network_tests.proofs.flow_cut_tests.network.Given as goal
+
+abbrev pub invariant-loop-row : goal.invariant-loop-row
+invariant-loop-row l = record {
+  long : length l.arcs.items ≡ l.row-index;
+  ends : All (HasEnds l.nodes) l.arcs.items;
+  rooms : All HasFineRoom l.arcs.items;
+}

@@ -1,0 +1,240 @@
+ghost use Rattle.std.specs.Prelude.{◌<◌, length};
+
+use carp_base::{Instance, Memory, RawEdge};
+use plan_model::{JudgeRoom, Plan, Step, Verdict, Walk, cost_of, judge, load_of};
+use std::alloc::Global;
+use std::process::Abort;
+use std::test::Fail;
+
+// An edge whose service costs what a crossing costs.
+fn edge(u: u64, v: u64, cost: u64, demand: u64) -> RawEdge {
+    RawEdge {
+        u,
+        v,
+        cost,
+        demand,
+        service: cost,
+    }
+}
+
+// The plan of these walks. A sign and a digit are a step on the edge of that number: `+` serves it forward, `-` serves
+// it backward, `>` crosses it forward and `<` backward. A semicolon ends each walk.
+fn plan_of(alloc: Global, text: &str) -> Result<Plan, Memory>
+    requires { length text.now < 1000 }
+{
+    let mut plan = Plan::new(alloc);
+    let mut walk = Walk::new(alloc);
+    let mut sign = b'>';
+    for &byte in text.as_bytes() {
+        match byte {
+            b'0'..=b'9' => walk.push(step_of(sign, byte - b'0'))?,
+            b';' => {
+                plan.push(walk)?;
+                walk = Walk::new(alloc);
+            }
+            _ => sign = byte,
+        }
+    }
+    Ok(plan)
+}
+
+fn step_of(sign: u8, edge: u8) -> Step {
+    Step {
+        edge: u32::from(edge),
+        forward: sign == b'+' || sign == b'>',
+        served: sign == b'+' || sign == b'-',
+    }
+}
+
+// The copy of each plan has this verdict, in one room.
+fn expect_verdicts(
+    rt: &impl Abort,
+    alloc: Global,
+    inst: &Instance,
+    rows: &[(&str, Verdict)],
+) -> Result<(), Fail> {
+    let mut room = JudgeRoom::new(alloc, inst)?;
+    for (text, verdict) in rows {
+        assert!(rt; text.len() < 1000);
+        let plan = plan_of(alloc, text)?.copy(alloc)?;
+        assert_eq!(rt; judge(inst, &plan, &mut room), *verdict, "{text}");
+    }
+    Ok(())
+}
+
+// The first walk of each lawful plan has this load and this cost.
+fn expect_totals(
+    rt: &impl Abort,
+    alloc: Global,
+    inst: &Instance,
+    rows: &[(&str, u128, u128)],
+) -> Result<(), Fail> {
+    let mut room = JudgeRoom::new(alloc, inst)?;
+    for (text, load, cost) in rows {
+        assert!(rt; text.len() < 1000);
+        let plan = plan_of(alloc, text)?;
+        let judged = judge(inst, &plan, &mut room);
+        assert!(rt; matches!(judged, Verdict::Lawful { .. }));
+        assert!(rt; plan.len() > 0);
+        assert_eq!(rt; load_of(inst, plan.walk(0)), *load);
+        assert_eq!(rt; cost_of(inst, plan.walk(0)), *cost);
+    }
+    Ok(())
+}
+
+#[test]
+fn plans_have_their_verdicts(rt: HostRuntime) -> Result<(), Fail> {
+    let alloc = rt.alloc();
+    let triangle = [edge(1, 2, 5, 1), edge(2, 3, 7, 1), edge(1, 3, 4, 1)];
+    let inst = Instance::build(alloc, 3, 1, 3, &triangle, &[])?;
+    expect_verdicts(
+        &rt,
+        alloc,
+        &inst,
+        &[
+            ("+1+2-3;", Verdict::Lawful { cost: 16 }),
+            ("", Verdict::NotServed { edge: 1 }),
+            ("+1<1;", Verdict::NotServed { edge: 2 }),
+            ("+3-3+1-1;", Verdict::ServedTwice { edge: 1 }),
+            ("+3;-2-1;", Verdict::NotAtDepot { tour: 1 }),
+            ("+1+2-3;", Verdict::Lawful { cost: 16 }),
+        ],
+    )?;
+
+    let street = [edge(1, 2, 3, 2), edge(2, 3, 4, 2)];
+    let inst = Instance::build(alloc, 3, 1, 2, &street, &[])?;
+    expect_verdicts(
+        &rt,
+        alloc,
+        &inst,
+        &[
+            ("+1<1;>1+2<2<1;", Verdict::Lawful { cost: 20 }),
+            ("+1-1;", Verdict::ServedTwice { edge: 1 }),
+            (">1+2-2<1;", Verdict::ServedTwice { edge: 2 }),
+            ("+1<1;>1-1+2<2<1;", Verdict::Broken { tour: 2, step: 3 }),
+            ("+1;", Verdict::NotAtDepot { tour: 1 }),
+            ("-1;", Verdict::NotAtDepot { tour: 1 }),
+            ("+2<2;", Verdict::NotAtDepot { tour: 1 }),
+            (";+1<1;>1;>1;", Verdict::NotAtDepot { tour: 3 }),
+            (";>1+2<2<1;", Verdict::NotServed { edge: 1 }),
+            ("+1<1;>1+2<2<2;", Verdict::Broken { tour: 2, step: 4 }),
+            ("+0;", Verdict::Broken { tour: 1, step: 1 }),
+            ("+1<1;>1+3;", Verdict::Broken { tour: 2, step: 2 }),
+            (">1>1<2;>9;", Verdict::Broken { tour: 1, step: 2 }),
+            ("+1+2<2<1;", Verdict::Overload { tour: 1, load: 4 }),
+            ("+1+2<2<1;>1>1;", Verdict::Broken { tour: 2, step: 2 }),
+            ("+1+2<2<1;>1;", Verdict::NotAtDepot { tour: 2 }),
+            ("+1<1;>1+2<2<1;", Verdict::Lawful { cost: 20 }),
+        ],
+    )?;
+
+    let parallel = [
+        edge(1, 2, 3, 1),
+        edge(1, 2, 3, 1),
+        edge(1, 2, 3, 1),
+        edge(1, 2, 3, 1),
+    ];
+    let inst = Instance::build(alloc, 2, 1, 1, &parallel, &[])?;
+    expect_verdicts(
+        &rt,
+        alloc,
+        &inst,
+        &[
+            ("+1-2;+3-4;", Verdict::Overload { tour: 1, load: 2 }),
+            ("+1<1;+2-3;+4<1;", Verdict::Overload { tour: 2, load: 2 }),
+            ("+1<1;+2-4;", Verdict::NotServed { edge: 3 }),
+            ("+4-3;+3-4;", Verdict::ServedTwice { edge: 3 }),
+        ],
+    )
+}
+
+#[test]
+fn other_edges_are_crossed_and_not_served(rt: HostRuntime) -> Result<(), Fail> {
+    let alloc = rt.alloc();
+    let ring = [edge(2, 3, 1, 2), edge(3, 4, 1, 2), edge(4, 2, 1, 2)];
+    let inst = Instance::build(alloc, 4, 1, 5, &ring, &[edge(1, 2, 10, 0)])?;
+    expect_verdicts(
+        &rt,
+        alloc,
+        &inst,
+        &[
+            ("+4+1+2>3<4;>4-3>3<4;", Verdict::ServesOther { edge: 4 }),
+            (">4+1+2>3<4;>4-3>3<4;", Verdict::Lawful { cost: 45 }),
+            (">4+1-1-4;", Verdict::ServesOther { edge: 4 }),
+        ],
+    )?;
+
+    let inst = Instance::build(alloc, 4, 1, 3, &ring, &[edge(1, 2, 10, 0)])?;
+    expect_verdicts(
+        &rt,
+        alloc,
+        &inst,
+        &[
+            (
+                ">4+1<1<4;>4>1+2>3<4;>4-3>3<4;",
+                Verdict::Lawful { cost: 67 },
+            ),
+            (
+                ">4+1+2>3<4;>4-3>3<4;",
+                Verdict::Overload { tour: 1, load: 4 },
+            ),
+            (">4+1+2>3<4;", Verdict::NotServed { edge: 3 }),
+        ],
+    )?;
+
+    let others = [edge(1, 3, 1, 0), edge(2, 3, 1, 0)];
+    let inst = Instance::build(alloc, 3, 1, 1, &[edge(1, 2, 1, 1)], &others)?;
+    expect_verdicts(
+        &rt,
+        alloc,
+        &inst,
+        &[
+            (">1+3-2;", Verdict::ServesOther { edge: 2 }),
+            ("+1+3<2;", Verdict::ServesOther { edge: 3 }),
+            ("+1>3<2;", Verdict::Lawful { cost: 3 }),
+        ],
+    )
+}
+
+#[test]
+fn nothing_need_be_served(rt: HostRuntime) -> Result<(), Fail> {
+    let alloc = rt.alloc();
+    let inst = Instance::build(alloc, 1, 1, 1, &[], &[])?;
+    expect_verdicts(
+        &rt,
+        alloc,
+        &inst,
+        &[
+            ("", Verdict::Lawful { cost: 0 }),
+            (";;", Verdict::Lawful { cost: 0 }),
+            (";>1;", Verdict::Broken { tour: 2, step: 1 }),
+        ],
+    )
+}
+
+#[test]
+fn walks_have_their_loads_and_costs(rt: HostRuntime) -> Result<(), Fail> {
+    let alloc = rt.alloc();
+    // A service that costs more than a crossing, and one that costs nothing.
+    let dear = RawEdge {
+        service: 9,
+        ..edge(1, 2, 5, 1)
+    };
+    let free = RawEdge {
+        service: 0,
+        ..edge(2, 3, 7, 2)
+    };
+    let inst = Instance::build(alloc, 3, 1, 3, &[dear, free], &[])?;
+    expect_totals(
+        &rt,
+        alloc,
+        &inst,
+        &[("+1+2<2<1;", 3, 21), (";", 0, 0), (">1-1;", 1, 14)],
+    )?;
+    expect_verdicts(
+        &rt,
+        alloc,
+        &inst,
+        &[("+1+2<2<1;", Verdict::Lawful { cost: 21 })],
+    )
+}

@@ -1,0 +1,85 @@
+// The values of proposed sets on small towns, worked out by hand.
+ghost use Rattle.std.specs.Prelude.{◌≡◌, ◌≤◌};
+
+use branch_rules::{Branch, Decision};
+use carp_base::{Instance, RawEdge};
+use cut_pool::{Shore, ShorePool};
+use road_network::Network;
+use shore_prices::shore_prices;
+use std::alloc::Global;
+use std::process::Abort;
+use std::test::Fail;
+
+fn street(u: u64, v: u64, cost: u64, demand: u64) -> RawEdge {
+    RawEdge {
+        u,
+        v,
+        cost,
+        demand,
+        service: cost,
+    }
+}
+
+// The set that is proposed without decisions has just this value, in units of cost, with weights on so many shores.
+fn expect_value(
+    rt: &impl Abort,
+    alloc: Global,
+    inst: &Instance,
+    rounds: u32,
+    expected: i128,
+    weights: usize,
+) -> Result<(), Fail> {
+    let net = Network::new(alloc, inst)?;
+    let mut pool = ShorePool::new(alloc);
+    let branch = Branch::new(alloc);
+    let set = shore_prices(alloc, inst, &net, &mut pool, &branch, rounds)?;
+    let value = branch.value_at(inst, &pool, &set);
+    assert_eq!(rt; set.unit(), 1_000_000);
+    assert_eq!(rt; value, Ok(expected.saturating_mul(1_000_000)));
+    assert_eq!(rt; (set.weights(), pool.len() as usize), (weights, weights));
+    Ok(())
+}
+
+// The whole row takes two vehicles, which cross the first street three times more, and its end is crossed once more: 7 and 9 and 4.
+#[test]
+fn two_streets_in_a_row(rt: HostRuntime) -> Result<(), Fail> {
+    let alloc = rt.alloc();
+    let streets = [street(1, 2, 3, 2), street(2, 3, 4, 2)];
+    let inst = Instance::build(alloc, 3, 1, 2, &streets, &[])?;
+    expect_value(&rt, alloc, &inst, 400, 20, 2)
+}
+
+// Each corner of the ring takes two vehicles and so two deadheads, and weights of a half pack: 3 and 40 and 3.
+#[test]
+fn a_ring_far_away(rt: HostRuntime) -> Result<(), Fail> {
+    let alloc = rt.alloc();
+    let ring = [street(2, 3, 1, 2), street(3, 4, 1, 2), street(4, 2, 1, 2)];
+    let inst = Instance::build(alloc, 4, 1, 3, &ring, &[street(1, 2, 10, 0)])?;
+    expect_value(&rt, alloc, &inst, 400, 46, 4)
+}
+
+#[test]
+fn nothing_to_serve(rt: HostRuntime) -> Result<(), Fail> {
+    let alloc = rt.alloc();
+    let inst = Instance::build(alloc, 2, 1, 3, &[], &[street(1, 2, 4, 0)])?;
+    expect_value(&rt, alloc, &inst, 400, 0, 0)
+}
+
+// Three deadheads are decided over the end of the street: 5 and 15.
+#[test]
+fn a_decision_demands_more(rt: HostRuntime) -> Result<(), Fail> {
+    let alloc = rt.alloc();
+    let inst = Instance::build(alloc, 2, 1, 1, &[street(1, 2, 5, 1)], &[])?;
+    let net = Network::new(alloc, &inst)?;
+    let mut pool = ShorePool::new(alloc);
+    let shore = Shore::from_list(alloc, &[2])?;
+    assert!(rt; shore.belongs(&inst));
+    let number = pool.add(shore)?;
+    assert_eq!(rt; number, 1);
+    let mut branch = Branch::new(alloc);
+    branch.push(Decision::High { shore: 1, k: 2 })?;
+    let set = shore_prices(alloc, &inst, &net, &mut pool, &branch, 400)?;
+    assert_eq!(rt; branch.value_at(&inst, &pool, &set), Ok(20_000_000));
+    assert_eq!(rt; pool.len(), 1);
+    Ok(())
+}

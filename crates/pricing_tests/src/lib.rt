@@ -1,0 +1,9 @@
+//! Tests of least relaxed tours (crates `pricing_grid` and `route_pricing`).
+//!
+//! They stand in a crate of their own, since a crate with tests is proved twice.
+#![tactic(auto)]
+
+#[cfg(test)]
+mod pricing_grid_tests;
+#[cfg(test)]
+mod route_pricing_tests;

@@ -1,0 +1,165 @@
+// The rows of small grids.
+ghost use Rattle.std.specs.Prelude.{◌≡◌, ◌+◌, ◌<◌, length, All, IfOk, IsTrue};
+ghost use Rattle.pricing_grid.specs.Partial.{AreFilled, IsGrid};
+ghost use Rattle.pricing_grid.specs.Pricing.{IsGridRoom, IsServicePrice};
+
+use carp_base::{Allowed, Instance, RawEdge};
+use deadhead_paths::{Distances, cost_prices, distances};
+use pricing_grid::{Grid, LIFT, NO_LABELS, UNREACHED};
+use road_network::Network;
+use std::alloc::Global;
+use std::process::Abort;
+use std::test::Fail;
+
+const LIMIT: i64 = 1_000_000_000_000_000;
+
+fn street(u: u64, v: u64, cost: u64, demand: u64) -> RawEdge {
+    RawEdge {
+        u,
+        v,
+        cost,
+        demand,
+        service: cost,
+    }
+}
+
+fn town(
+    rt: &impl Abort,
+    alloc: Global,
+    vertices: u64,
+    capacity: u64,
+    required: &[RawEdge],
+    others: &[RawEdge],
+) -> Instance {
+    assert!(rt; required.len() < 10 && others.len() < 10);
+    match Instance::build(alloc, vertices, 1, capacity, required, others) {
+        Ok(inst) => inst,
+        Err(_) => panic!(rt; "no instance"),
+    }
+}
+
+fn are_prices(services: &[i64]) -> bool
+    ensures { IsTrue result → All IsServicePrice services.now }
+{
+    services
+        .iter()
+        .all(|price| -LIMIT <= *price && *price <= LIMIT)
+}
+
+// The distances of an instance, with costs as the prices of deadheads.
+fn least_ways(alloc: Global, inst: &Instance) -> Result<Distances, Fail>
+    ensures { IfOk result (λ dist. dist.problem ≡ inst.now) }
+{
+    let net = Network::new(alloc, inst)?;
+    let prices = cost_prices(alloc, inst)?;
+    let dist = distances(alloc, inst, &net, &prices)?;
+    Ok(dist)
+}
+
+// The cells of a grid.
+fn cells_of(alloc: Global, inst: &Instance, grid: &Grid) -> Result<Vec<u128>, Fail>
+    requires room { IsGridRoom inst.now grid.now }
+    requires grid { IsGrid grid.now }
+    ensures { IfOk result (λ cells. AreFilled grid.now cells.items (grid.now.inst.capacity + 1) 0) }
+{
+    let size = (inst.capacity() as usize + 1) * grid.width();
+    let places = inst.vertices() as usize + 1;
+    let mut cells = vec![in alloc; 0u128; size]?;
+    let mut layer = vec![in alloc; NO_LABELS; places]?;
+    let mut marks = vec![in alloc; false; places]?;
+    grid.fill_by_labels(&mut cells, &mut layer, &mut marks);
+    Ok(cells)
+}
+
+// The grid of an instance, with the unit 1.
+fn grid_of(
+    rt: &impl Abort,
+    alloc: Global,
+    inst: &Instance,
+    services: &[i64],
+    allowed: &Allowed,
+) -> Result<Grid, Fail>
+    requires { allowed.now.size ≡ inst.now.required }
+    ensures room { IfOk result (IsGridRoom inst.now) }
+    ensures grid { IfOk result IsGrid }
+{
+    assert!(rt; services.len() == inst.required() as usize && are_prices(services));
+    let dist = least_ways(alloc, inst)?;
+    let mut grid = Grid::new(alloc, inst)?;
+    grid.copy_from(inst, &dist, 1, services, allowed);
+    Ok(grid)
+}
+
+// Two streets of demand 1, one at the depot and one behind it.
+fn two_streets(rt: &impl Abort, alloc: Global) -> Instance {
+    let required = [street(1, 2, 4, 1), street(2, 3, 1, 1)];
+    town(rt, alloc, 3, 2, &required, &[])
+}
+
+// The cells of two streets at prices with which services add nothing but their loads.
+fn expect_cells(
+    rt: &impl Abort,
+    alloc: Global,
+    inst: &Instance,
+    allowed: &Allowed,
+    want: &[u128],
+) -> Result<(), Fail>
+    requires { allowed.now.size ≡ inst.now.required }
+{
+    let grid = grid_of(rt, alloc, inst, &[4, 1], allowed)?;
+    let cells = cells_of(alloc, inst, &grid)?;
+    assert!(rt; cells[..] == want[..]);
+    Ok(())
+}
+
+const NONE: u128 = UNREACHED;
+
+// Rows of the loads 0, 1 and 2, with columns for the first street forward and backward and for the second.
+#[test]
+fn each_cell_of_two_streets(rt: HostRuntime) -> Result<(), Fail> {
+    let alloc = rt.alloc();
+    let inst = two_streets(&rt, alloc);
+    let allowed = Allowed::all(alloc, &inst)?;
+    let one = LIFT;
+    let two = 2 * LIFT;
+    let want = [
+        NONE,
+        NONE,
+        NONE,
+        NONE,
+        one,
+        one + 4,
+        one + 4,
+        one + 5,
+        two + 9,
+        two + 5,
+        two,
+        two + 1,
+    ];
+    expect_cells(&rt, alloc, &inst, &allowed, &want)
+}
+
+#[test]
+fn no_cell_after_an_excluded_edge(rt: HostRuntime) -> Result<(), Fail> {
+    let alloc = rt.alloc();
+    let inst = two_streets(&rt, alloc);
+    let mut allowed = Allowed::all(alloc, &inst)?;
+    assert!(&rt; inst.required() == 2);
+    allowed.exclude(2, 1);
+    let one = LIFT;
+    let want = [
+        NONE,
+        NONE,
+        NONE,
+        NONE,
+        one,
+        one + 4,
+        one + 4,
+        one + 5,
+        NONE,
+        NONE,
+        NONE,
+        NONE,
+    ];
+    expect_cells(&rt, alloc, &inst, &allowed, &want)
+}

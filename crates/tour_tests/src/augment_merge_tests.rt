@@ -1,0 +1,150 @@
+// Plans of small instances, worked by hand, and what the helper offers.
+use augment_merge::{Merger, augment_merge};
+use carp_base::{Instance, RawEdge};
+use deadhead_paths::single_tours;
+use plan_model::{Plan, Proposer, Step};
+use std::alloc::{AllocError, Global};
+use std::process::Abort;
+use std::test::Fail;
+use task_tours::{cost_distances, lawful_cost};
+
+// An edge whose service costs as much as a crossing.
+fn street(u: u64, v: u64, cost: u64, demand: u64) -> RawEdge {
+    RawEdge {
+        u,
+        v,
+        cost,
+        demand,
+        service: cost,
+    }
+}
+
+fn sign_of(step: Step) -> u8 {
+    match (step.served, step.forward) {
+        (true, true) => b'+',
+        (true, false) => b'-',
+        (false, true) => b'>',
+        (false, false) => b'<',
+    }
+}
+
+// A plan as text. A sign and a digit are a step on the edge of that number: `+` serves it forward, `-` serves it backward,
+// `>` crosses it forward and `<` backward. A semicolon ends each walk.
+fn text_of(alloc: Global, plan: &Plan) -> Result<Vec<u8>, AllocError> {
+    let mut text = Vec::new(alloc);
+    for i in 0..plan.len() {
+        let walk = plan.walk(i);
+        for j in 0..walk.len() {
+            let step = walk.step(j);
+            text.push(sign_of(step))?;
+            text.push(b'0' + (step.edge % 10) as u8)?;
+        }
+        text.push(b';')?;
+    }
+    Ok(text)
+}
+
+// The plan of an instance, as text, and its cost.
+fn expect(
+    rt: &impl Abort,
+    alloc: Global,
+    inst: &Instance,
+    text: &str,
+    cost: u128,
+) -> Result<(), Fail> {
+    let dist = cost_distances(alloc, inst)?;
+    let plan = augment_merge(alloc, inst, &dist)?;
+    assert_eq!(rt; text_of(alloc, &plan)?.as_slice(), text.as_bytes());
+    assert_eq!(rt; lawful_cost(alloc, inst, &plan)?, cost);
+    Ok(())
+}
+
+#[test]
+fn absorbs_what_fits(rt: HostRuntime) -> Result<(), Fail> {
+    let alloc = rt.alloc();
+    let required = [street(2, 3, 1, 2), street(3, 4, 1, 2), street(4, 2, 1, 2)];
+    let inst = Instance::build(alloc, 4, 1, 5, &required, &[street(1, 2, 10, 0)])?;
+    expect(&rt, alloc, &inst, ">4+1+2>3<4;>4<3+3<4;", 45)
+}
+
+#[test]
+fn absorbs_out_and_home(rt: HostRuntime) -> Result<(), Fail> {
+    let alloc = rt.alloc();
+    let required = [street(1, 2, 5, 1), street(2, 3, 7, 1), street(1, 3, 4, 1)];
+    let inst = Instance::build(alloc, 3, 1, 3, &required, &[])?;
+    expect(&rt, alloc, &inst, "+1+2-3;", 16)
+}
+
+#[test]
+fn drops_the_tour_of_what_is_absorbed(rt: HostRuntime) -> Result<(), Fail> {
+    let alloc = rt.alloc();
+    let required = [street(1, 2, 5, 1), street(2, 3, 7, 1)];
+    let inst = Instance::build(alloc, 3, 1, 2, &required, &[])?;
+    expect(&rt, alloc, &inst, "+1+2<2<1;", 24)
+}
+
+// Three streets out of the depot, and lanes between their ends.
+fn fork(alloc: Global, demands: [u64; 3], lane: u64) -> Result<Instance, Fail> {
+    let required = [
+        street(1, 2, 5, demands[0]),
+        street(1, 3, 5, demands[1]),
+        street(1, 4, 5, demands[2]),
+    ];
+    let lanes = [
+        street(2, 3, lane, 0),
+        street(3, 4, 6, 0),
+        street(2, 4, 6, 0),
+    ];
+    Ok(Instance::build(alloc, 4, 1, 2, &required, &lanes)?)
+}
+
+#[test]
+fn joins_the_earlier_pair(rt: HostRuntime) -> Result<(), Fail> {
+    let inst = fork(rt.alloc(), [1, 1, 1], 6)?;
+    expect(&rt, rt.alloc(), &inst, "+1>4-2;+3<3;", 26)
+}
+
+#[test]
+fn joins_no_more_than_a_load(rt: HostRuntime) -> Result<(), Fail> {
+    let inst = fork(rt.alloc(), [1, 2, 1], 1)?;
+    expect(&rt, rt.alloc(), &inst, "+1>6-3;+2<2;", 26)
+}
+
+#[test]
+fn joins_what_was_joined(rt: HostRuntime) -> Result<(), Fail> {
+    let alloc = rt.alloc();
+    let required = [street(2, 3, 1, 1), street(4, 5, 1, 1), street(6, 7, 1, 1)];
+    let others = [
+        street(1, 2, 10, 0),
+        street(1, 4, 10, 0),
+        street(1, 6, 10, 0),
+        street(3, 4, 2, 0),
+        street(5, 6, 2, 0),
+    ];
+    let all = Instance::build(alloc, 7, 1, 3, &required, &others)?;
+    expect(&rt, alloc, &all, ">4+1>7+2>8+3<3<6;", 28)?;
+    let two = Instance::build(alloc, 7, 1, 2, &required, &others)?;
+    expect(&rt, alloc, &two, ">4+1>7+2<2<5;>6+3<3<6;", 47)
+}
+
+#[test]
+fn has_no_tour_where_nothing_is_to_be_served(rt: HostRuntime) -> Result<(), Fail> {
+    let inst = Instance::build(rt.alloc(), 1, 1, 1, &[], &[])?;
+    expect(&rt, rt.alloc(), &inst, "", 0)
+}
+
+#[test]
+fn offers_the_plan(rt: HostRuntime) -> Result<(), Fail> {
+    let alloc = rt.alloc();
+    let inst = fork(alloc, [1, 1, 1], 6)?;
+    let best = single_tours(alloc, &inst, &cost_distances(alloc, &inst)?)?;
+    let mut helper = Merger::new(alloc, 5);
+    assert_eq!(rt; (helper.id(), helper.fouls()), (5, 0));
+    match helper.propose(alloc, &inst, &best)? {
+        Some(plan) => assert_eq!(rt; lawful_cost(alloc, &inst, &plan)?, 26),
+        None => panic!(rt; "it offers a plan"),
+    }
+    helper.reseed(7);
+    assert_eq!(rt; (helper.id(), helper.fouls()), (5, 0));
+    Ok(())
+}

@@ -1,0 +1,101 @@
+// Splits of small instances, worked by hand, and what the helper offers.
+use carp_base::{Instance, Memory, RawEdge};
+use deadhead_paths::single_tours;
+use giant_split::{Splitter, order_of, split};
+use plan_model::{JudgeRoom, Proposer, Verdict, judge};
+use std::alloc::Global;
+use std::test::Fail;
+use task_tours::{cost_distances, lawful_cost, plans_are_tours};
+
+// An edge whose service costs as much as a crossing.
+fn street(u: u64, v: u64, cost: u64, demand: u64) -> RawEdge {
+    RawEdge {
+        u,
+        v,
+        cost,
+        demand,
+        service: cost,
+    }
+}
+
+// How many tours the split of the required edges by their numbers, each forward, has, and what it costs.
+fn split_by_numbers(alloc: Global, inst: &Instance) -> Result<(usize, u128), Memory> {
+    plans_are_tours();
+    let dist = cost_distances(alloc, inst)?;
+    let order = order_of(alloc, &single_tours(alloc, inst, &dist)?)?;
+    let plan = split(alloc, inst, &dist, &order)?;
+    Ok((plan.len(), lawful_cost(alloc, inst, &plan)?))
+}
+
+// A triangle of three streets, far from the depot, of which two fit one vehicle.
+fn far_triangle(alloc: Global) -> Result<Instance, Fail> {
+    let required = [street(2, 3, 1, 2), street(3, 4, 1, 2), street(4, 2, 1, 2)];
+    Ok(Instance::build(alloc, 4, 1, 5, &required, &[street(1, 2, 10, 0)])?)
+}
+
+#[test]
+fn cuts_a_triangle(rt: HostRuntime) -> Result<(), Fail> {
+    let inst = far_triangle(rt.alloc())?;
+    let (tours, cost) = split_by_numbers(rt.alloc(), &inst)?;
+    assert!(rt; tours == 2 && cost == 45);
+    Ok(())
+}
+
+#[test]
+fn leaves_room_where_that_is_cheaper(rt: HostRuntime) -> Result<(), Fail> {
+    let required = [street(1, 2, 1, 1), street(1, 3, 5, 1), street(3, 4, 5, 1)];
+    let inst = Instance::build(rt.alloc(), 4, 1, 2, &required, &[])?;
+    let (tours, cost) = split_by_numbers(rt.alloc(), &inst)?;
+    assert!(rt; tours == 2 && cost == 22);
+    Ok(())
+}
+
+#[test]
+fn serves_nothing_by_no_tour(rt: HostRuntime) -> Result<(), Fail> {
+    let inst = Instance::build(rt.alloc(), 1, 1, 1, &[], &[])?;
+    let (tours, cost) = split_by_numbers(rt.alloc(), &inst)?;
+    assert!(rt; tours == 0 && cost == 0);
+    Ok(())
+}
+
+#[test]
+fn offers_a_split(rt: HostRuntime) -> Result<(), Fail> {
+    let inst = far_triangle(rt.alloc())?;
+    let dist = cost_distances(rt.alloc(), &inst)?;
+    let best = single_tours(rt.alloc(), &inst, &dist)?;
+    let mut helper = Splitter::new(rt.alloc(), 5);
+    let mut room = JudgeRoom::new(rt.alloc(), &inst)?;
+    match helper.propose(rt.alloc(), &inst, &best)? {
+        Some(plan) => {
+            assert!(rt; plan.len() == 2);
+            assert_eq!(rt;
+                judge(&inst, &plan, &mut room),
+                Verdict::Lawful { cost: 45 }
+            );
+        }
+        None => panic!(rt; "it offers a plan"),
+    }
+    assert!(rt; helper.id() == 5 && helper.fouls() == 0);
+    Ok(())
+}
+
+// A triangle at the depot, whose second street is against the way round.
+#[test]
+fn turns_services_by_draws(rt: HostRuntime) -> Result<(), Fail> {
+    let required = [street(1, 2, 1, 1), street(3, 2, 1, 1), street(3, 1, 1, 1)];
+    let inst = Instance::build(rt.alloc(), 3, 1, 3, &required, &[])?;
+    let (_, cost) = split_by_numbers(rt.alloc(), &inst)?;
+    assert!(rt; cost == 5);
+    let dist = cost_distances(rt.alloc(), &inst)?;
+    let best = single_tours(rt.alloc(), &inst, &dist)?;
+    let mut helper = Splitter::new(rt.alloc(), 1);
+    let mut room = JudgeRoom::new(rt.alloc(), &inst)?;
+    for seed in 0..100 {
+        helper.reseed(seed);
+        let offer = helper.propose(rt.alloc(), &inst, &best)?;
+        if offer.is_some_and(|plan| judge(&inst, &plan, &mut room) == Verdict::Lawful { cost: 3 }) {
+            return Ok(());
+        }
+    }
+    panic!(rt; "a draw turns the second street");
+}

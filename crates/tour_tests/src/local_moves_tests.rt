@@ -1,0 +1,190 @@
+// Plans that small changes make cheaper, worked by hand, and what the helper offers.
+use carp_base::{Instance, Memory, RawEdge};
+use local_moves::{Mover, settle};
+use plan_model::{JudgeRoom, Plan, Proposer, Step, Verdict, Walk, judge, verdicts_are_exact};
+use std::alloc::Global;
+use std::mem;
+use std::process::Abort;
+use std::test::Fail;
+use task_tours::{cost_distances, lawful_cost};
+
+// An edge whose service costs as much as a crossing.
+fn loaded(u: u64, v: u64, cost: u64, demand: u64) -> RawEdge {
+    RawEdge {
+        u,
+        v,
+        cost,
+        demand,
+        service: cost,
+    }
+}
+
+// The same with a demand of 1.
+fn street(u: u64, v: u64, cost: u64) -> RawEdge {
+    loaded(u, v, cost, 1)
+}
+
+// A plan from a text. A sign and a digit are a step on the edge of that number: `+` serves it forward, `-` serves it backward,
+// `>` crosses it forward and `<` backward. A semicolon ends each walk.
+fn plan_of(rt: &impl Abort, alloc: Global, text: &str) -> Result<Plan, Memory> {
+    let mut plan = Plan::new(alloc);
+    let mut walk = Walk::new(alloc);
+    let mut sign = b'+';
+    for &byte in text.as_bytes() {
+        match byte {
+            b';' => {
+                assert!(rt; plan.len() < 9);
+                plan.push(mem::replace(&mut walk, Walk::new(alloc)))?;
+            }
+            b'0'..=b'9' => {
+                assert!(rt; walk.len() < 99);
+                walk.push(Step {
+                    edge: u32::from(byte - b'0'),
+                    forward: sign == b'+' || sign == b'>',
+                    served: sign == b'+' || sign == b'-',
+                })?;
+            }
+            _ => sign = byte,
+        }
+    }
+    Ok(plan)
+}
+
+// What the plan costs that comes of settling one.
+fn settled_cost(
+    rt: &impl Abort,
+    alloc: Global,
+    inst: &Instance,
+    plan: &Plan,
+) -> Result<u128, Fail> {
+    verdicts_are_exact();
+    let mut room = JudgeRoom::new(alloc, inst)?;
+    let Verdict::Lawful { .. } = judge(inst, plan, &mut room) else {
+        panic!(rt; "it is lawful");
+    };
+    let dist = cost_distances(alloc, inst)?;
+    let settled = settle(alloc, inst, &dist, plan)?;
+    Ok(lawful_cost(alloc, inst, &settled)?)
+}
+
+// Settles the plan of each row, which ends with what it costs then.
+fn expect_settled(rt: &impl Abort, alloc: Global, inst: &Instance, rows: &str) -> Result<(), Fail> {
+    for row in rows.lines() {
+        let (text, cost) = row.split_once(' ').unwrap_or((row, ""));
+        let plan = plan_of(rt, alloc, text)?;
+        let settled = settled_cost(rt, alloc, inst, &plan)?;
+        assert!(rt; cost.parse::<u128>() == Ok(settled), "{row}: {settled}");
+    }
+    Ok(())
+}
+
+#[test]
+fn settles_tours_of_a_triangle(rt: HostRuntime) -> Result<(), Fail> {
+    let required = [street(1, 2, 5), street(2, 3, 7), street(1, 3, 4)];
+    let inst = Instance::build(rt.alloc(), 3, 1, 3, &required, &[])?;
+    // The best tour; three tours; two neighbours in the wrong order; and one service in the wrong direction.
+    let rows = "\
++1+2-3; 16
++1<1;>1+2<3;+3<3; 16
+>1+2<3+1>2-3; 16
++1>2-2>2-3; 16";
+    expect_settled(&rt, rt.alloc(), &inst, rows)
+}
+
+#[test]
+fn turns_a_service(rt: HostRuntime) -> Result<(), Fail> {
+    let required = [street(1, 2, 5), street(2, 3, 7)];
+    let inst = Instance::build(rt.alloc(), 3, 1, 2, &required, &[street(1, 3, 4)])?;
+    expect_settled(&rt, rt.alloc(), &inst, "+1>2-2<1; 16")
+}
+
+#[test]
+fn moves_a_service_where_it_fits(rt: HostRuntime) -> Result<(), Fail> {
+    let required = [street(1, 2, 5), street(2, 3, 5)];
+    let wide = Instance::build(rt.alloc(), 3, 1, 2, &required, &[])?;
+    expect_settled(&rt, rt.alloc(), &wide, "+1<1;>1+2<2<1; 20")?;
+    let narrow = Instance::build(rt.alloc(), 3, 1, 1, &required, &[])?;
+    expect_settled(&rt, rt.alloc(), &narrow, "+1<1;>1+2<2<1; 30")
+}
+
+#[test]
+fn swaps_services_of_full_tours(rt: HostRuntime) -> Result<(), Fail> {
+    let required = [
+        street(1, 2, 5),
+        street(2, 3, 5),
+        street(1, 4, 5),
+        street(4, 5, 5),
+    ];
+    let inst = Instance::build(rt.alloc(), 5, 1, 2, &required, &[])?;
+    expect_settled(&rt, rt.alloc(), &inst, "+1<1>3+4<4<3;+3<3>1+2<2<1; 40")
+}
+
+#[test]
+fn settles_a_plan_of_nothing(rt: HostRuntime) -> Result<(), Fail> {
+    let inst = Instance::build(rt.alloc(), 1, 1, 1, &[], &[])?;
+    expect_settled(&rt, rt.alloc(), &inst, " 0\n; 0")
+}
+
+#[test]
+fn offers_a_settled_plan(rt: HostRuntime) -> Result<(), Fail> {
+    let alloc = rt.alloc();
+    let required = [street(1, 2, 5), street(2, 3, 7), street(1, 3, 4)];
+    let inst = Instance::build(alloc, 3, 1, 3, &required, &[])?;
+    let best = plan_of(&rt, alloc, "+1<1;>1+2<3;+3<3;")?;
+    verdicts_are_exact();
+    let mut room = JudgeRoom::new(alloc, &inst)?;
+    let Verdict::Lawful { .. } = judge(&inst, &best, &mut room) else {
+        panic!(rt; "it is lawful");
+    };
+    let mut helper = Mover::new(alloc, 5);
+    assert_eq!(rt; (helper.id(), helper.fouls()), (5, 0));
+    match helper.propose(alloc, &inst, &best)? {
+        Some(plan) => {
+            assert_eq!(rt;
+                judge(&inst, &plan, &mut room),
+                Verdict::Lawful { cost: 16 }
+            );
+        }
+        None => panic!(rt; "it offers a plan"),
+    }
+    helper.reseed(7);
+    assert_eq!(rt; (helper.id(), helper.fouls()), (5, 0));
+    Ok(())
+}
+
+// Three dead ends at 2 and three at 3, both far from the depot, of which one each takes half a vehicle. Each tour of the best plan
+// goes to both, and each change of one or two services loads a vehicle too much or saves nothing.
+#[test]
+fn stirs_what_is_settled(rt: HostRuntime) -> Result<(), Fail> {
+    let alloc = rt.alloc();
+    let required = [
+        loaded(2, 4, 1, 2),
+        loaded(2, 5, 1, 1),
+        loaded(2, 6, 1, 1),
+        loaded(3, 7, 1, 1),
+        loaded(3, 8, 1, 1),
+        loaded(3, 9, 1, 2),
+    ];
+    let ways = [loaded(1, 2, 100, 0), loaded(1, 3, 100, 0)];
+    let inst = Instance::build(alloc, 9, 1, 4, &required, &ways)?;
+    let text = ">7+1<1<7>8+6<6<8;>7+2<2+3<3<7>8+4<4+5<5<8;";
+    let best = plan_of(&rt, alloc, text)?;
+    let settled = settled_cost(&rt, alloc, &inst, &best)?;
+    assert_eq!(rt; settled, 812);
+    verdicts_are_exact();
+    let mut room = JudgeRoom::new(alloc, &inst)?;
+    let Verdict::Lawful { .. } = judge(&inst, &best, &mut room) else {
+        panic!(rt; "it is lawful");
+    };
+    let mut helper = Mover::new(alloc, 5);
+    match helper.propose(alloc, &inst, &best)? {
+        Some(plan) => {
+            assert_eq!(rt;
+                judge(&inst, &plan, &mut room),
+                Verdict::Lawful { cost: 412 }
+            );
+        }
+        None => panic!(rt; "it offers a plan"),
+    }
+    Ok(())
+}

@@ -1,0 +1,5 @@
+use Rattle.tree_paths.specs.Paths.{IsPath}
+use Rattle.tree_tests.proofs.tree_paths_tests.ways_of.Given as goal
+
+abbrev pub invariant-loop-signs : goal.invariant-loop-signs
+invariant-loop-signs l = IsPath l.path
