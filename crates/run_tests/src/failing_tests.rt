@@ -11,9 +11,24 @@ const TRIANGLE: &str =
 const CERTIFICATE: &str =
     "carp-certificate 1~cost 16~bound 16~tours 1~tour 3 +1 +2 -3~shores 0~sets 1~prices 1 3 5 7 4~weights 0~nodes 1~price 1~end~";
 
-// The edits have 9 bytes. Each row: words, how many looks of 64 bytes they make (one more than the pieces of each file that they read), how many
+// Two streets in a row of which each fills a vehicle, in 114 bytes, and a certificate at the bound, in 167.
+const FULL: &str =
+    "VERTICES 3~ARISTAS_REQ 2~CAPACIDAD 2~LISTA_ARISTAS_REQ~(1,2) coste 3 demanda 2~(2,3) coste 4 demanda 2~DEPOSITO 1~";
+
+const FULL_CERTIFICATE: &str =
+    "carp-certificate 1~cost 20~bound 20~tours 2~tour 2 +1 <1~tour 4 >1 +2 <2 <1~shores 2~shore 2 2 3~shore 1 3~sets 1~prices 1 2 3 4~weights 2 1 3 2 4~nodes 1~price 1~end~";
+
+// A star of five streets behind a long one, in 238 bytes.
+const STAR: &str =
+    "VERTICES 7~ARISTAS_REQ 5~ARISTAS_NOREQ 1~CAPACIDAD 5~LISTA_ARISTAS_REQ~(2,3) coste 1 demanda 2~(2,4) coste 1 demanda 2~(2,5) coste 1 demanda 2~(2,6) coste 1 demanda 2~(2,7) coste 1 demanda 2~LISTA_ARISTAS_NOREQ~(1,2) coste 100~DEPOSITO 1~";
+
+// The edits have 9 bytes. Each row: words, behind the name of the instance where it is not the triangle, how many looks of 64 bytes they make (one more than the pieces of each file that they read), how many
 // keeps, the code of the answer where no call fails, and how the text begins.
 const ROWS: &str = "\
+    full: solve file cert | 3 | 1 | 0 | instance vertices 3 edges 2 required 2 capacity 2 demand 4~cost 20~bound 20~turns 1~proven~tours 2~\n\
+    full: check file cert | 7 | 0 | 0 | accepted~cost 20~bound 20~\n\
+    full: sheet file cert | 7 | 0 | 0 | tour 1 load 2 cost 6~1 serve 1 2 cost 3\n\
+    star: solve file cert --turns 1 | 5 | 1 | 1 | instance vertices 7 edges 6 required 5 capacity 5 demand 10~cost 1010~bound 510~\n\
     solve file cert --turns 1 | 4 | 1 | 1 | instance vertices 3 edges 3 required 3 capacity 3 demand 3~cost 34~bound 16~turns 1~open gap 18~tours 3~\n\
     check file cert | 7 | 0 | 0 | accepted~cost 16~bound 16~\n\
     sheet file cert | 7 | 0 | 0 | tour 1 load 3 cost 16~1 serve 1 2 cost 5\n\
@@ -31,11 +46,29 @@ struct Left {
     files: Vec<u8>,
 }
 
-// The files of a run, which fails at these calls; no call has the number 0.
+// The files of a run on the triangle, which fails at these calls; no call has the number 0.
 pub(crate) fn store(alloc: Global, look: u64, keep: u64) -> Result<MemShelf, Fail> {
-    let file = TRIANGLE.replace(alloc, "~", "\n")?;
+    store_of(alloc, (TRIANGLE, CERTIFICATE), look, keep)
+}
+
+// The instance and the certificate that a row is about, and its words.
+fn split_row(line: &str) -> ((&'static str, &'static str), &str) {
+    match line.split_once(": ") {
+        Some(("full", words)) => ((FULL, FULL_CERTIFICATE), words),
+        Some(("star", words)) => ((STAR, CERTIFICATE), words),
+        _ => ((TRIANGLE, CERTIFICATE), line),
+    }
+}
+
+fn store_of(
+    alloc: Global,
+    (file, cert): (&str, &str),
+    look: u64,
+    keep: u64,
+) -> Result<MemShelf, Fail> {
+    let file = file.replace(alloc, "~", "\n")?;
     let mut shelf = shelf_with(alloc, file.as_bytes(), 64, &[look], &[keep])?;
-    shelf.place("cert", CERTIFICATE.replace(alloc, "~", "\n")?.as_bytes())?;
+    shelf.place("cert", cert.replace(alloc, "~", "\n")?.as_bytes())?;
     shelf.place("edits", b"cost 2 2\n")?;
     for name in "new newfile newcert".split_ascii_whitespace() {
         shelf.ready(name, 65_536)?;
@@ -54,8 +87,9 @@ fn files_in(alloc: Global, shelf: &MemShelf) -> Result<Vec<u8>, Fail> {
 }
 
 // What a run leaves where these calls fail, with puts of 16 bytes.
-fn run_failing(alloc: Global, words: &str, look: u64, keep: u64, put: u64) -> Result<Left, Fail> {
-    let mut shelf = store(alloc, look, keep)?;
+fn run_failing(alloc: Global, line: &str, look: u64, keep: u64, put: u64) -> Result<Left, Fail> {
+    let (files, words) = split_row(line);
+    let mut shelf = store_of(alloc, files, look, keep)?;
     let mut out = MemSink::new(alloc, REPORT_ROOM, 16, [put].to_vec(alloc)?)?;
     let status = run_words(alloc, &words_in(alloc, words)?, &mut shelf, &mut out)?;
     Ok(Left {
@@ -136,7 +170,8 @@ fn calls_fail(
     keeps: u64,
     good: &Left,
 ) -> Result<bool, Fail> {
-    let before = files_in(alloc, &store(alloc, 0, 0)?)?;
+    let (files, _) = split_row(words);
+    let before = files_in(alloc, &store_of(alloc, files, 0, 0)?)?;
     Ok(
         looks_fail(alloc, words, looks, &before)?
             && (keeps == 0 || first_keep_fails(alloc, words, &before)?)
