@@ -92,8 +92,10 @@ fn turns_services_by_draws(rt: HostRuntime) -> Result<(), Fail> {
     let mut room = JudgeRoom::new(rt.alloc(), &inst)?;
     for seed in 0..100 {
         helper.reseed(seed);
-        let offer = helper.propose(rt.alloc(), &inst, &best)?;
-        if offer.is_some_and(|plan| judge(&inst, &plan, &mut room) == Verdict::Lawful { cost: 3 }) {
+        let Some(plan) = helper.propose(rt.alloc(), &inst, &best)? else {
+            continue;
+        };
+        if judge(&inst, &plan, &mut room) == (Verdict::Lawful { cost: 3 }) {
             return Ok(());
         }
     }
