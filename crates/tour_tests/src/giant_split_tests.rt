@@ -1,11 +1,15 @@
 // Splits of small instances, worked by hand, and what the helper offers.
+ghost use Rattle.std.specs.Prelude.{◌≡◌};
+ghost use Rattle.plan_model.specs.Plans.{IsLawful};
+
 use carp_base::{Instance, Memory, RawEdge};
 use deadhead_paths::single_tours;
 use giant_split::{Splitter, order_of, split};
-use plan_model::{JudgeRoom, Proposer, Verdict, judge};
+use plan_model::{JudgeRoom, Plan, Proposer, Verdict, judge};
 use std::alloc::Global;
 use std::test::Fail;
 use task_tours::{cost_distances, lawful_cost, plans_are_tours};
+use town_maker::town;
 
 // An edge whose service costs as much as a crossing.
 fn street(u: u64, v: u64, cost: u64, demand: u64) -> RawEdge {
@@ -100,4 +104,42 @@ fn turns_services_by_draws(rt: HostRuntime) -> Result<(), Fail> {
         }
     }
     panic!(rt; "a draw turns the second street");
+}
+
+// What the verdict on the first offer after a seed is.
+fn first_offer(
+    alloc: Global,
+    inst: &Instance,
+    best: &Plan,
+    room: &mut JudgeRoom,
+    seed: u64,
+) -> Result<Option<Verdict>, Memory>
+    requires lawful { IsLawful inst.now best.now }
+    requires room { room.old ≡ inst.now.required }
+    ensures room { room.new ≡ room.old }
+{
+    let mut helper = Splitter::new(alloc, 1);
+    helper.reseed(seed);
+    match helper.propose(alloc, inst, best)? {
+        Some(plan) => Ok(Some(judge(inst, &plan, room))),
+        None => Ok(None),
+    }
+}
+
+// One seed has the same offer twice, and some other seed another one.
+#[test]
+fn draws_follow_the_seed(rt: HostRuntime) -> Result<(), Fail> {
+    let inst = town(rt.alloc(), 1)?;
+    let dist = cost_distances(rt.alloc(), &inst)?;
+    let best = single_tours(rt.alloc(), &inst, &dist)?;
+    let mut room = JudgeRoom::new(rt.alloc(), &inst)?;
+    let first = first_offer(rt.alloc(), &inst, &best, &mut room, 1)?;
+    let again = first_offer(rt.alloc(), &inst, &best, &mut room, 1)?;
+    assert!(rt; first.is_some() && again == first);
+    for seed in 2..10 {
+        if first_offer(rt.alloc(), &inst, &best, &mut room, seed)? != first {
+            return Ok(());
+        }
+    }
+    panic!(rt; "a seed changes the draws");
 }
