@@ -391,3 +391,8 @@ fn agrees_with_all_matchings(rt: HostRuntime) {
     assert_eq!(rt; all_agree(alloc, 8), Ok(true));
     assert_eq!(rt; all_agree(alloc, 10), Ok(true));
 }
+
+#[test]
+fn limits_are_those_of_the_words(rt: HostRuntime) {
+    assert_eq!(rt; (MAX_MEMBERS, MAX_COST), (1_000, 1_000_000_000_000));
+}
