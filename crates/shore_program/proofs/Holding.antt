@@ -1,5 +1,5 @@
 -- The shores of cuts.
-use Rattle.std.proofs.Common.{◌≡◌, ℕ, ◌<◌, List, length, get_or, sym, ◌∙◌, arith}
+use Rattle.std.proofs.Common.{◌≡◌, ℕ, ◌+◌, ◌<◌, List, [], ◌∷◌, fold, length, get_or, sum_by, sym, ◌∙◌, arith, refl}
 use Rattle.std.specs.List.{Contains}
 use Rattle.std.proofs.lemmas.List.{length-map, get_or-map}
 use Rattle.shore_program.specs.declared.cuts.Cut.{Cut}
@@ -13,6 +13,15 @@ pub held_there : (cuts : List Cut) (shore : List ℕ) (k : ℕ) (d : Cut) → k 
     Contains (shores_of cuts) shore
 held_there cuts shore k d below same =
     (k, omega (arith, below, length-map cuts (λ (c : Cut). c.shore)), shore_at cuts k d shore below ∙ same)
+
+-- a sum over the shores of cuts is one over the cuts
+pub sum_by_shores : (f : List ℕ → ℕ) (cuts : List Cut) → sum_by f (shores_of cuts) ≡ sum_by (λ (c : Cut). f c.shore) cuts
+sum_by_shores f cuts = along 0 cuts
+  where
+    along : (so_far : ℕ) (rest : List Cut) →
+        fold (λ a x. a + f x) so_far (shores_of rest) ≡ fold (λ a (c : Cut). a + f c.shore) so_far rest
+    along so_far [] = refl
+    along so_far (cut ∷ rest) = along (so_far + f cut.shore) rest
 
 -- none is there
 pub not_held : (cuts : List Cut) (shore : List ℕ) → ((k : ℕ) (d : Cut) → k < length cuts → ¬ ((get_or cuts k d).shore ≡ shore)) →

@@ -1,17 +1,17 @@
 -- Shores that are laid out against what is left over the edges.
-use Rattle.std.proofs.Common.{◌≡◌, ℕ, zero, suc, All, length, ◌<◌, ◌≤◌, true, false, List, [], ◌∷◌, ◌++◌, pos, get_or, ap, sym, arith, subst, refl}
+use Rattle.std.proofs.Common.{◌≡◌, ℕ, zero, suc, ◌+◌, All, length, ◌<◌, ◌≤◌, true, false, List, [], ◌∷◌, ◌++◌, pos, get_or, take, ap, sym, arith, subst, refl}
 use Rattle.std.specs.Prelude.{if◌then◌else◌, nat_abs, Bool}
 use Rattle.std.proofs.lemmas.List.Elements.{All-push}
-use Rattle.std.proofs.lemmas.List.Sums.{sum_by_push}
+use Rattle.std.proofs.lemmas.List.Sums.{sum_by_more, sum_by_push, sum_by-take-le}
 use Rattle.carp_base.specs.declared.edge.Edge.{Edge}
 use Rattle.carp_base.specs.Problem.{Problem, no_edge}
 use Rattle.plan_model.specs.Plans.{crosses}
 use Rattle.cut_pool.specs.Shores.{Belongs, is_in}
 use Rattle.cut_pool.specs.declared.shore.Weighted.{Weighted}
-use Rattle.shore_program.specs.Programs.{IsWeighted, Packs}
+use Rattle.shore_program.specs.Programs.{IsWeighted, ListsNoMore, Packs}
 use Rattle.shore_program.specs.Tableaus.{AreWeighted, IsLaid, LeavesRoom, Takes, shores_of}
 use Rattle.shore_program.specs.declared.cuts.Cut.{Cut}
-use Rattle.shore_program.proofs.Holding.{held_there}
+use Rattle.shore_program.proofs.Holding.{held_there, sum_by_shores}
 
 -- a shore with a weight
 weighted : List ℕ → ℕ → Weighted
@@ -30,6 +30,7 @@ laid_push edges shore amount rooms rooms' shores takes some small = record {
   each = λ program held belongs all.
       All-push (IsWeighted program) shores (weighted shore amount) all
       (record { held = held; belongs = belongs; natural = refl; some = some; small = small });
+  once = λ f. omega (arith, sum_by_push (λ (s : Weighted). f s.shore) shores (weighted shore amount));
 }
 
 nothing : (b : Bool) → ◌≡◌ {A = ℕ} (if b then 0 else 0) 0
@@ -45,6 +46,7 @@ laid_not edges shore amount rooms rooms' shores takes none =
       long = takes'.long;
       same = λ e d below. omega (arith, takes'.each e d below, nothing (crosses (is_in shore) (get_or edges e d)));
       each = λ program held belongs all. all;
+      once = λ f. omega arith;
     }
 
 -- what is left after one more shore
@@ -63,6 +65,27 @@ weighted_after p cuts k cut rooms rooms' shores shores' belong below is weighted
     laid.each (record { problem = p; shores = shores_of cuts })
     (held_there cuts cut.shore k cut below (ap (λ (c : Cut). c.shore) (sym is)))
     (subst (λ (c : Cut). Belongs p c.shore) (sym is) (belong k cut below)) weighted
+
+-- one more cut, whose shore came at most once
+pub once_after : (edges : List Edge) (cuts : List Cut) (k : ℕ) (cut : Cut) (rooms rooms' : List ℕ) (shores shores' : List Weighted) →
+    k < length cuts → cut ≡ get_or cuts k cut → ListsNoMore (shores_of (take k cuts)) shores →
+    IsLaid edges cut.shore rooms rooms' shores shores' → ListsNoMore (shores_of (take (k + 1) cuts)) shores'
+once_after edges cuts k cut rooms rooms' shores shores' below is once laid = λ f.
+    let of_cut = λ (c : Cut). f c.shore in
+    omega (
+      arith,
+      once f,
+      laid.once f,
+      sum_by_shores f (take k cuts),
+      sum_by_shores f (take (k + 1) cuts),
+      sum_by_more of_cut cuts k cut below,
+      ap of_cut is,
+    )
+
+-- of the first cuts, and so of all
+pub once_of_all : (cuts : List Cut) (k : ℕ) (shores : List Weighted) → ListsNoMore (shores_of (take k cuts)) shores → ListsNoMore (shores_of cuts) shores
+once_of_all cuts k shores once = λ f.
+    omega (arith, once f, sum_by_shores f (take k cuts), sum_by_shores f cuts, sum_by-take-le (λ (c : Cut). f c.shore) cuts k)
 
 -- where something is left over each edge, the weights pack
 pub room_packs : (p : Problem) (rooms : List ℕ) (shores : List Weighted) → LeavesRoom p.edges rooms shores → Packs p shores

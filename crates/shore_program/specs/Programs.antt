@@ -44,9 +44,18 @@ IsOffered before shore least true after =
     (after ≡ record { problem = before.problem; shores = before.shores ++ shore ∷ [] }) × ¬ (GetsNoColumn before shore least)
 IsOffered before shore least false after = (after ≡ before) × GetsNoColumn before shore least
 
--- some shores were let go: of more than 800, at least 400 stay
+-- no shore is there that was not, and none more often than before
+abbrev pub HaveNoMore : List (List ℕ) → List (List ℕ) → Type 0
+HaveNoMore before after = (f : List ℕ → ℕ) → sum_by f after ≤ sum_by f before
+
+-- no shore is listed that is not held, and none more often than it is held
+abbrev pub ListsNoMore : List (List ℕ) → List Weighted → Type 0
+ListsNoMore held shores = (f : List ℕ → ℕ) → sum_by (λ s. f s.shore) shores ≤ sum_by f held
+
+-- some shores were let go, and none is held more often than before: of more than 800, at least 400 stay
 pub record IsTrimmed (before after : ShoreProgram) : Type 0 where
   pub problem : after.problem ≡ before.problem
   pub held : All (Contains before.shores) after.shores
+  pub no_more : HaveNoMore before.shores after.shores
   pub few : length before.shores ≤ 800 → after ≡ before
   pub enough : 800 < length before.shores → 400 ≤ length after.shores

@@ -1,5 +1,5 @@
 -- How the program is kept. No public contract speaks of this.
-use Rattle.std.specs.Prelude.{◌≡◌, ℕ, ◌+◌, ◌*◌, ◌<◌, ◌≤◌, List, All, map, length, pos, ◌≤ℤ◌, slice_index, slice_index_or, if◌then◌else◌}
+use Rattle.std.specs.Prelude.{◌≡◌, ℕ, ◌+◌, ◌*◌, ◌<◌, ◌≤◌, List, All, map, length, sum_by, pos, ◌≤ℤ◌, slice_index, slice_index_or, if◌then◌else◌}
 use Rattle.std.specs.List.{Contains}
 use Rattle.carp_base.specs.declared.edge.Edge.{Edge}
 use Rattle.carp_base.specs.Problem.{Problem}
@@ -46,14 +46,16 @@ pub record IsIdle (columns shores : ℕ) (x : Idle) : Type 0 where
   pub column : x.column < columns
   pub shore : x.shore < shores
 
--- at most so many cuts went
+-- at most so many cuts went, and none is there more often than before
 pub record Shrinks (count : ℕ) (before after : List Cut) : Type 0 where
   pub few : length before ≤ length after + count
   pub held : All (Contains before) after
+  pub no_more : (f : Cut → ℕ) → sum_by f after ≤ sum_by f before
 
--- none of at most 800 cuts went, and of more at least 400 stay
+-- none of at most 800 cuts went, of more at least 400 stay, and none is there more often than before
 pub record AreTrimmed (before after : List Cut) : Type 0 where
   pub held : All (Contains before) after
+  pub no_more : (f : Cut → ℕ) → sum_by f after ≤ sum_by f before
   pub few : length before ≤ 800 → after ≡ before
   pub enough : 800 < length before → 400 ≤ length after
 
@@ -68,13 +70,14 @@ pub record Takes (edges : List Edge) (shore : List ℕ) (amount : ℕ) (before a
   pub each : (e : ℕ) (d : Edge) → e < length edges →
       slice_index after e + (if crosses (is_in shore) (slice_index_or edges e d) then amount else 0) ≡ slice_index before e
 
--- a shore came to weighted ones with what was taken for it, if that is above 0
+-- a shore came once to weighted ones with what was taken for it, if that is above 0
 pub record IsLaid (edges : List Edge) (shore : List ℕ) (rooms rooms' : List ℕ) (shores shores' : List Weighted) : Type 0 where
   pub long : length rooms' ≡ length rooms
   pub same : (e : ℕ) (d : Edge) → e < length edges →
       weights_over shores' (slice_index_or edges e d) + slice_index rooms' e ≡ weights_over shores (slice_index_or edges e d) + slice_index rooms e
   pub each : (program : ShoreProgram) → Contains program.shores shore → Belongs program.problem shore →
       All (IsWeighted program) shores → All (IsWeighted program) shores'
+  pub once : (f : List ℕ → ℕ) → sum_by (λ s. f s.shore) shores' ≤ sum_by (λ s. f s.shore) shores + f shore
 
 -- the weights and what is left over each edge are at most its cost, in parts of one million
 pub record LeavesRoom (edges : List Edge) (rooms : List ℕ) (shores : List Weighted) : Type 0 where

@@ -1,6 +1,6 @@
 // Small data on which a fact that no call decides holds, and on which it does not.
 ghost use Rattle.std.specs.Prelude.{◌≡◌, [], ◌∷◌, true, false};
-ghost use Rattle.shore_program.specs.Programs.{AreDeadheads, IsOffered, IsTrimmed, IsWeighted, Packs, weights_over};
+ghost use Rattle.shore_program.specs.Programs.{AreDeadheads, HaveNoMore, IsOffered, IsTrimmed, IsWeighted, ListsNoMore, Packs, weights_over};
 ghost use Rattle.shore_program.specs.Examples.{no_shore, one_shore, one_street, street, weighted_end};
 
 fn a_weight()
@@ -27,6 +27,18 @@ fn a_shore_offered()
     ensures kept_out { IsOffered no_shore (2 ∷ []) 0 false no_shore }
     ensures nothing_demanded { ¬ (IsOffered no_shore (2 ∷ []) 0 true one_shore) }
     ensures no_cause { ¬ (IsOffered no_shore (2 ∷ []) 1 false no_shore) }
+{}
+
+fn shores_held_no_more()
+    ensures fewer { HaveNoMore ((2 ∷ []) ∷ []) [] }
+    ensures twice { ¬ (HaveNoMore ((2 ∷ []) ∷ []) ((2 ∷ []) ∷ (2 ∷ []) ∷ [])) }
+    ensures another { ¬ (HaveNoMore ((2 ∷ []) ∷ []) ((3 ∷ []) ∷ [])) }
+{}
+
+fn shores_listed_no_more()
+    ensures one { ListsNoMore one_shore.shores (weighted_end 5 ∷ []) }
+    ensures twice { ¬ (ListsNoMore one_shore.shores (weighted_end 5 ∷ weighted_end 7 ∷ [])) }
+    ensures of_none { ¬ (ListsNoMore no_shore.shores (weighted_end 5 ∷ [])) }
 {}
 
 fn a_program_trimmed()

@@ -1,8 +1,8 @@
 // Weights that are cut down until they pack, and raised by what is left.
 ghost use Rattle.std.specs.Prelude.{◌≡◌, ℕ, ◌<◌, [], All, IfOk, length};
 ghost use Rattle.cut_pool.specs.Shores.{Belongs};
-ghost use Rattle.shore_program.specs.Programs.{Packs};
-ghost use Rattle.shore_program.specs.Tableaus.{AreWeighted, LeavesRoom};
+ghost use Rattle.shore_program.specs.Programs.{ListsNoMore, Packs};
+ghost use Rattle.shore_program.specs.Tableaus.{AreWeighted, LeavesRoom, shores_of};
 
 use crate::cuts::Cut;
 use crate::reading::{Reading, weights_of};
@@ -148,6 +148,7 @@ fn lay_all(
     requires room { LeavesRoom inst.now.edges rooms.old [] }
     ensures weighted { IfOk result (λ shores. AreWeighted inst.now cuts.now shores.items) }
     ensures packs { IfOk result (λ shores. Packs inst.now shores.items) }
+    ensures once { IfOk result (λ shores. ListsNoMore (shores_of cuts.now) shores.items) }
 {
     let edges = inst.edges();
     let mut shores = Vec::new(alloc);
@@ -164,7 +165,7 @@ fn lay_all(
     Ok(shores)
 }
 
-/// The shores with a weight above 0. Each is given what is left for it, so that they pack whatever the weights are.
+/// The shores with a weight above 0, each once for its cut. Each is given what is left for it, so that they pack whatever the weights are.
 pub(crate) fn lay_out(
     alloc: Global,
     inst: &Instance,
@@ -175,6 +176,7 @@ pub(crate) fn lay_out(
     requires weights { length weights.now ≡ length cuts.now }
     ensures weighted { IfOk result (λ shores. AreWeighted inst.now cuts.now shores.items) }
     ensures packs { IfOk result (λ shores. Packs inst.now shores.items) }
+    ensures once { IfOk result (λ shores. ListsNoMore (shores_of cuts.now) shores.items) }
 {
     let mut rooms = rooms_of(alloc, inst.edges())?;
     lay_all(alloc, inst, &mut rooms, cuts, weights)

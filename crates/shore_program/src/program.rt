@@ -1,7 +1,7 @@
 // The program over shores.
 ghost use Rattle.std.specs.Prelude.{◌≡◌, [], All, IfOk, OnErr};
 ghost use Rattle.cut_pool.specs.Shores.{Belongs};
-ghost use Rattle.shore_program.specs.Programs.{AreDeadheads, IsOffered, IsTrimmed, IsWeighted, Packs};
+ghost use Rattle.shore_program.specs.Programs.{AreDeadheads, IsOffered, IsTrimmed, IsWeighted, ListsNoMore, Packs};
 
 use crate::adding::add_cut;
 use crate::cuts::{Cut, is_held};
@@ -83,6 +83,7 @@ impl Program {
     }
 
     /// Where more than 800 shores have weight 0 and a column of their own, lets those go that gain the least, but for 400.
+    /// No shore comes, and none is held more often than before.
     pub fn drop_idle(&mut self)
         ensures { IsTrimmed self.old self.new }
     {
@@ -106,13 +107,14 @@ impl Program {
         deadheads_of(alloc, self.inst.edges().len(), &self.tableau.columns)
     }
 
-    /// The shores with weights above 0, in parts of 1/1,000,000 of the unit of cost.
+    /// The shores with weights above 0, in parts of 1/1,000,000 of the unit of cost, each at most as often as it is held.
     ///
     /// The weights of this corner are cut down until they pack, and raised by what is left. It takes time in proportion to
     /// the number of shores times that of edges.
     pub fn weights(&self, alloc: Global) -> Result<Vec<Weighted>, Memory>
         ensures weighted { IfOk result (λ shores. All (IsWeighted self.now) shores.items) }
         ensures packs { IfOk result (λ shores. Packs self.now.problem shores.items) }
+        ensures once { IfOk result (λ shores. ListsNoMore self.now.shores shores.items) }
     {
         let weights = packed(alloc, self.inst.edges(), &self.cuts, &self.tableau)?;
         lay_out(alloc, &self.inst, &self.cuts, &weights)
