@@ -5,5 +5,6 @@ pub mod Falling
 pub mod Rising
 pub mod Tabled
 pub mod Climbing
+pub mod Keeping
 pub mod Passing
 pub mod Small

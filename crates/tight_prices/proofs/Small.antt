@@ -1,5 +1,5 @@
 -- The town of one street: no number of its prices can be raised.
-use Rattle.std.proofs.Common.{◌≡◌, ℕ, List, [], ◌∷◌, length, refl, ap, arith, lit≤, inl, inr, pos, ◌≤ℤ◌, length-append}
+use Rattle.std.proofs.Common.{◌≡◌, ℕ, ◌≤◌, List, [], ◌∷◌, length, refl, ap, subst, arith, lit≤, inl, inr, pos, ◌≤ℤ◌, length-append}
 use Rattle.std.specs.List.{AllByRecursion}
 use Rattle.std.proofs.lemmas.Int.{ints}
 use Rattle.carp_base.specs.declared.edge.Task.{Task}
@@ -11,7 +11,8 @@ use Rattle.decision_chains.specs.Exclusions.{Excluded}
 use Rattle.branch_rules.specs.Examples.{heavy_prices, light_prices, town_pool, town_prices}
 use Rattle.branch_rules.specs.Laws.{FitsBranch}
 use Rattle.branch_rules.specs.Prices.{Prices, crossing_prices, deadhead_price, signed_sum, task_adds}
-use Rattle.tight_prices.specs.Tight.{IsNoHigher, IsPriceTight, IsTight, IsWeightTight, with_price, with_weight}
+use Rattle.tight_prices.specs.Tight.{AreKept, IsNeededSingle, IsNoHigher, IsPriceTight, IsTight, IsWeightTight, with_price, with_weight}
+use Rattle.tight_prices.proofs.Weighed.{weight_else}
 
 only_task : (e : ℕ) → IsRequired town e → e ≡ 1
 only_task e required = omega (arith, required.from_one, required.in_range)
@@ -94,3 +95,21 @@ heavy_not is = omega (arith, ints, is.fits.fits.not_negative 1 (record { from_on
 
 pub lighter : IsNoHigher town_prices light_prices → ⊥
 lighter is = omega (arith, ints, is.weights 1)
+
+-- the first shores that are needed single vertices
+abbrev Held : ℕ → ℕ → Type 0
+Held held shore = (shore ≤ held) × IsNeededSingle town town_pool shore
+
+first_needed : IsNeededSingle town town_pool 1
+first_needed = record { number = record { from_one = lit≤ tt; in_range = lit≤ tt }; v = 2; single = refl; needed = lit≤ tt }
+
+first_held : (shore : ℕ) → 1 ≡ shore → Held 1 shore
+first_held shore is = subst (Held 1) is (lit≤ tt, first_needed)
+
+pub held_only : AreKept (Held 1) town_prices heavy_prices
+held_only shore not = weight_else 1 shore 1 town_prices.weights (λ is. not (first_held shore is))
+
+pub not_kept : AreKept (Held 0) town_prices heavy_prices → ⊥
+not_kept kept =
+    let same : pos 6 ≡ pos 5 = kept 1 (λ held. omega (arith, held.0)) in
+    omega (arith, ints, same)

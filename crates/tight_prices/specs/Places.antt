@@ -33,6 +33,11 @@ abbrev pub IsPlaceOn : Prices → Place → Type 0
 IsPlaceOn set (places.Edge e) = (1 ≤ e) × (e ≤ length set.services)
 IsPlaceOn set (places.Shore s) = Unit {0}
 
+-- the place is the weight on this shore
+abbrev pub IsOnShore : Place → ℕ → Type 0
+IsOnShore (places.Edge e) shore = ⊥
+IsOnShore (places.Shore s) shore = s ≡ shore
+
 -- any edge, or a shore of the pool
 abbrev pub IsNumbered : List (List ℕ) → Place → Type 0
 IsNumbered pool (places.Edge e) = Unit {0}

@@ -12,7 +12,7 @@ use Rattle.route_pricing.specs.declared.table.Table.{Table}
 use Rattle.tight_prices.specs.Fillings.{IsFilledFor}
 use Rattle.tight_prices.specs.Probes.{Ground}
 use Rattle.tight_prices.specs.Places.{IsBlocked, number_at}
-use Rattle.tight_prices.specs.Tight.{IsNeededSingle, IsWeightTight}
+use Rattle.tight_prices.specs.Tight.{IsNeededSingle, IsWeightTight, weight_on}
 use Rattle.tight_prices.specs.declared.place.Place.{Place}
 use Rattle.tight_prices.specs.declared.place.Place.TheVariants as places
 use Rattle.tight_prices.specs.declared.search.Search.{Search}
@@ -57,6 +57,18 @@ pub record IsOver (p : Problem) (shore prices : List ℕ) (least : ℕ) : Type 0
 pub record ArePriced (g : Ground) (x : PricedSet) : Type 0 where
   pub fitting : IsFitting g x.set
   pub prices : x.deadheads.items ≡ crossing_prices g.problem g.pool x.set
+
+-- the shore is a needed single vertex among the first so many of the pool
+abbrev pub IsHeldSingle : Ground → ℕ → ℕ → Type 0
+IsHeldSingle g held shore = (shore ≤ held) × IsNeededSingle g.problem g.pool shore
+
+-- the shore is this one, and a needed single vertex
+abbrev pub IsThisSingle : Ground → ℕ → ℕ → Type 0
+IsThisSingle g this shore = (this ≡ shore) × IsNeededSingle g.problem g.pool shore
+
+-- the two sets have the same weight on each shore
+abbrev pub HaveSameWeights : Prices → Prices → Type 0
+HaveSameWeights set other = (shore : ℕ) → weight_on other.weights shore ≡ weight_on set.weights shore
 
 -- the shore is none that counts, or its weight cannot be raised
 abbrev pub IsShoreTight : Ground → Prices → ℕ → Type 0

@@ -67,6 +67,10 @@ pub record IsTight (p : Problem) (pool : List (List ℕ)) (held : ℕ) (branch :
   pub prices : (e : ℕ) → IsRequired p e → IsPriceTight p pool branch set e
   pub weights : (shore : ℕ) → shore ≤ held → IsNeededSingle p pool shore → IsWeightTight p pool branch set shore
 
+-- the weights of the two sets are the same on each shore of which a property does not hold
+abbrev pub AreKept : (ℕ → Type 0) → Prices → Prices → Type 0
+AreKept Changes set other = (shore : ℕ) → ¬ (Changes shore) → weight_on other.weights shore ≡ weight_on set.weights shore
+
 -- no price and no weight of the first set is above that of the second, and they have the same denominator and as many prices
 pub record IsNoHigher (set other : Prices) : Type 0 where
   pub unit : set.unit ≡ other.unit

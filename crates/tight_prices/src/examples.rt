@@ -1,8 +1,8 @@
 // Small data on which a fact that no call decides holds, and on which it does not.
-ghost use Rattle.std.specs.Prelude.{◌≡◌, [], ◌∷◌, pos};
+ghost use Rattle.std.specs.Prelude.{◌≡◌, ◌≤◌, [], ◌∷◌, pos};
 ghost use Rattle.deadhead_paths.specs.Examples.{town};
 ghost use Rattle.branch_rules.specs.Examples.{heavy_prices, light_prices, town_pool, town_prices};
-ghost use Rattle.tight_prices.specs.Tight.{IsNeededSingle, IsNoHigher, IsTight, add_weight, weight_on, with_price, with_weight};
+ghost use Rattle.tight_prices.specs.Tight.{AreKept, IsNeededSingle, IsNoHigher, IsTight, add_weight, weight_on, with_price, with_weight};
 
 fn one_number_greater()
     ensures price { with_price town_prices 1 3 ≡ record { unit = 1; services = pos 10 ∷ []; weights = town_prices.weights } }
@@ -25,6 +25,11 @@ fn a_tight_set()
     ensures tight { IsTight town town_pool 1 [] town_prices }
     ensures price { ¬ (IsTight town town_pool 1 [] (record { unit = 1; services = pos 6 ∷ []; weights = town_prices.weights })) }
     ensures too_heavy { ¬ (IsTight town town_pool 1 [] heavy_prices) }
+{}
+
+fn weights_that_stay()
+    ensures held { AreKept (λ shore. (shore ≤ 1) × IsNeededSingle town town_pool shore) town_prices heavy_prices }
+    ensures not_held { ¬ (AreKept (λ shore. (shore ≤ 0) × IsNeededSingle town town_pool shore) town_prices heavy_prices) }
 {}
 
 fn sets_of_which_one_is_no_higher()

@@ -11,9 +11,10 @@ ghost use Rattle.decision_chains.specs.Pairs.{ArePairsIn};
 ghost use Rattle.route_pricing.specs.Tables.{IsRoom};
 ghost use Rattle.tight_prices.specs.Fillings.{IsFilledFor};
 ghost use Rattle.tight_prices.specs.Probes.{IsSetting, ground_of};
-ghost use Rattle.tight_prices.specs.Places.{Rises};
-ghost use Rattle.tight_prices.specs.Searches.{ArePriced, IsFitting, IsShoreTight};
-ghost use Rattle.tight_prices.specs.Tight.{IsNeededSingle, IsNoHigher, IsPriceTight, IsTight, IsWeightTight};
+ghost use Rattle.tight_prices.specs.Places.{IsOnShore, Rises};
+ghost use Rattle.tight_prices.specs.Searches.{ArePriced, HaveSameWeights, IsFitting, IsHeldSingle, IsShoreTight, IsThisSingle};
+ghost use Rattle.tight_prices.specs.Tight.{AreKept, IsNeededSingle, IsNoHigher, IsPriceTight, IsTight, IsWeightTight};
+ghost use Rattle.tight_prices.specs.declared.place.Place.TheVariants.{Shore};
 
 use crate::across::least_across;
 use crate::place::{Place, copy, room};
@@ -37,7 +38,7 @@ pub(crate) struct PricedSet {
 /// Raises the numbers of a price set that fits under a branch until none can be raised: first, in the order of the pool, the weights
 /// on those of its first `held` shores that are of one vertex over which some deadhead is needed (`cut_pool::need`), then, in the order
 /// of the edges, the prices of services. Each is raised as far as it goes, or to 10^15. No number becomes less, so the value does not
-/// either, and the denominator stays.
+/// either, and the denominator and the weights on all other shores stay.
 ///
 /// It asks for the network of the instance, a table that was made for it, a branch whose pairs are of required edges, and a pool whose
 /// shores belong to the instance. The one error is want of memory. Afterwards the table is filled for the set that is given.
@@ -65,6 +66,7 @@ pub fn tighten(
     requires held { held ≤ length pool.now }
     ensures tight { IfOk result (IsTight inst.now pool.now held branch.now) }
     ensures no_lower { IfOk result (IsNoHigher start.now) }
+    ensures others { IfOk result (AreKept (λ shore. (shore ≤ held) × IsNeededSingle inst.now pool.now shore) start.now) }
     ensures value { IfOk result (λ set. value_of (rules_of inst.now pool.now branch.now) start.now ≤ℤ value_of (rules_of inst.now pool.now branch.now) set) }
     ensures shores { IfOk result (λ set. All (λ w. IsShoreOf inst.now pool.now w.shore) set.weights) }
     ensures filled { IfOk result (λ set. IsFilledFor inst.now pool.now branch.now set table.new) }
@@ -103,6 +105,7 @@ fn tighten_weights(
     ensures room { IsRoom setting.now.inst.now table.new }
     ensures fitting { IfOk result (IsFitting (ground_of setting.now)) }
     ensures rises { IfOk result (Rises setting.now.inst.now setting.now.pool.now setting.now.branch.now set) }
+    ensures kept { IfOk result (AreKept (IsHeldSingle (ground_of setting.now) held) set) }
     ensures tight { IfOk result (λ heavier. (shore : ℕ) → shore ≤ held → IsShoreTight (ground_of setting.now) heavier shore) }
 {
     least_prices_are_there();
@@ -143,6 +146,7 @@ fn tighten_shore(
     ensures room { IsRoom setting.now.inst.now table.new }
     ensures priced { IfOk result (ArePriced (ground_of setting.now)) }
     ensures rises { IfOk result (λ next. Rises setting.now.inst.now setting.now.pool.now setting.now.branch.now priced.set next.set) }
+    ensures kept { IfOk result (λ next. AreKept (IsThisSingle (ground_of setting.now) shore) priced.set next.set) }
     ensures tight { IfOk result (λ next. IsShoreTight (ground_of setting.now) next.set shore) }
 {
     if is_needed_single(setting.inst, setting.pool, shore) {
@@ -156,7 +160,8 @@ fn tighten_shore(
 fn is_needed_single(inst: &Instance, pool: &ShorePool, number: u32) -> bool
     requires belong { All (Belongs inst.now) pool.now }
     requires number { IsShoreNumber pool.now number }
-    ensures { IsNeededSingle inst.now pool.now number → IsTrue result }
+    ensures yes { IsNeededSingle inst.now pool.now number → IsTrue result }
+    ensures only { IsTrue result → IsNeededSingle inst.now pool.now number }
 {
     let shore = pool.shore(number);
     if shore.len() != 1 {
@@ -180,6 +185,7 @@ fn raise_weight(
     ensures room { IsRoom setting.now.inst.now table.new }
     ensures priced { IfOk result (ArePriced (ground_of setting.now)) }
     ensures rises { IfOk result (λ next. Rises setting.now.inst.now setting.now.pool.now setting.now.branch.now priced.set next.set) }
+    ensures kept { IfOk result (λ next. AreKept (IsOnShore (Shore shore)) priced.set next.set) }
     ensures tight { IfOk result (λ next. IsWeightTight setting.now.inst.now setting.now.pool.now setting.now.branch.now next.set shore) }
 {
     let place = Place::Shore(shore);
@@ -217,6 +223,7 @@ fn tighten_prices(
     ensures room { IsRoom setting.now.inst.now table.new }
     ensures fitting { IfOk result (IsFitting (ground_of setting.now)) }
     ensures rises { IfOk result (Rises setting.now.inst.now setting.now.pool.now setting.now.branch.now set) }
+    ensures weights { IfOk result (HaveSameWeights set) }
     ensures filled { IfOk result (λ higher. IsFilledFor setting.now.inst.now setting.now.pool.now setting.now.branch.now higher table.new) }
     ensures tight { IfOk result (λ higher. (e : ℕ) → IsRequired setting.now.inst.now e → IsPriceTight setting.now.inst.now setting.now.pool.now setting.now.branch.now higher e) }
 {
@@ -245,6 +252,7 @@ fn raise_price(
     ensures room { IsRoom setting.now.inst.now table.new }
     ensures fitting { IfOk result (IsFitting (ground_of setting.now)) }
     ensures rises { IfOk result (Rises setting.now.inst.now setting.now.pool.now setting.now.branch.now set) }
+    ensures weights { IfOk result (HaveSameWeights set) }
     ensures filled { IfOk result (λ higher. IsFilledFor setting.now.inst.now setting.now.pool.now setting.now.branch.now higher table.new) }
     ensures tight { IfOk result (λ higher. IsPriceTight setting.now.inst.now setting.now.pool.now setting.now.branch.now higher e) }
 {

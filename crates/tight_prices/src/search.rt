@@ -2,8 +2,9 @@
 ghost use Rattle.std.specs.Prelude.{◌≡◌, ◌⊎◌, ◌-◌, ◌<◌, ◌≤◌, ◌≤ℤ◌, false, pos, IfOk};
 ghost use Rattle.route_pricing.specs.Tables.{IsReady, IsRoom};
 ghost use Rattle.tight_prices.specs.Probes.{IsSetting, ground_of};
-ghost use Rattle.tight_prices.specs.Places.{IsPlaceIn, Rises};
+ghost use Rattle.tight_prices.specs.Places.{IsOnShore, IsPlaceIn, Rises};
 ghost use Rattle.tight_prices.specs.Searches.{AreStillMost, IsEdgeOf, IsSearch};
+ghost use Rattle.tight_prices.specs.Tight.{AreKept};
 
 use crate::place::{Place, raise};
 use crate::probe::{Probe, Setting, try_set};
@@ -43,6 +44,7 @@ pub(crate) fn highest(
     ensures search { IfOk result (IsSearch (ground_of setting.now) place table.new) }
     ensures done { IfOk result (λ search. search.most ≡ 0) }
     ensures rises { IfOk result (λ search. Rises setting.now.inst.now setting.now.pool.now setting.now.branch.now start.set search.set) }
+    ensures kept { IfOk result (λ search. AreKept (IsOnShore place) start.set search.set) }
 {
     let mut search = start;
     while search.most > 0 {
@@ -68,6 +70,7 @@ fn step(
     ensures search { IfOk result (IsSearch (ground_of setting.now) place table.new) }
     ensures less { IfOk result (λ next. next.most < search.most) }
     ensures rises { IfOk result (λ next. Rises setting.now.inst.now setting.now.pool.now setting.now.branch.now search.set next.set) }
+    ensures kept { IfOk result (λ next. AreKept (IsOnShore place) search.set next.set) }
 {
     least_prices_are_there();
     let more = search.guess.max(1).min(search.most);

@@ -1,14 +1,14 @@
-use Rattle.std.proofs.Common.{ℕ, ◌≤ℤ◌, subst}
+use Rattle.std.proofs.Common.{ℕ, ◌∙◌, ◌≤ℤ◌, subst}
 use Rattle.std.proofs.lemmas.Result.{IfOk-weaker}
 use Rattle.carp_base.specs.Problem.{IsRequired}
 use Rattle.branch_rules.specs.Decisions.{rules_of}
 use Rattle.branch_rules.specs.Prices.{Prices, value_of}
 use Rattle.tight_prices.specs.Probes.{Ground}
 use Rattle.tight_prices.specs.Places.{Rises}
-use Rattle.tight_prices.specs.Searches.{IsFitting}
-use Rattle.tight_prices.specs.Tight.{IsPriceTight, IsTight}
+use Rattle.tight_prices.specs.Searches.{HaveSameWeights, IsFitting, IsHeldSingle}
+use Rattle.tight_prices.specs.Tight.{AreKept, IsNoHigher, IsPriceTight, IsTight}
 use Rattle.tight_prices.proofs.Passing.{three_ok, tightened}
-use Rattle.tight_prices.proofs.Rising.{rises_on}
+use Rattle.tight_prices.proofs.Rising.{no_higher, rises_on}
 use Rattle.tight_prices.proofs.passes.tighten.Goals as goal
 
 abbrev ground : (c : goal.After-drop-allowed-inside-2) → Ground
@@ -23,6 +23,22 @@ returns-clause-tight c =
     (λ set fitting rises prices.
     tightened c.least_prices_are_there.ensures.tasks g c.vertices.ensures.valid heavier set c.in_ok-heavier.ensures.fitting rises fitting.fine c.args.held c.in_ok-heavier.ensures.tight fitting prices)
     c.tighten_prices.ensures.fitting c.tighten_prices.ensures.rises c.tighten_prices.ensures.tight
+
+pub returns-clause-no_lower : goal.returns-clause-no_lower
+returns-clause-no_lower c =
+    let g = ground c in
+    let heavier = c.in_ok-heavier.heavier in
+    let first : Rises g.problem g.pool g.branch c.args.start.now heavier = subst (λ (s : Prices). Rises g.problem g.pool g.branch s heavier) c.in_ok-set.ensures c.in_ok-heavier.ensures.rises in
+    IfOk-weaker c.tighten_prices.result (Rises g.problem g.pool g.branch heavier) (IsNoHigher c.args.start.now) (λ set rises. no_higher (rises_on first rises)) c.tighten_prices.ensures.rises
+
+pub returns-clause-others : goal.returns-clause-others
+returns-clause-others c =
+    let g = ground c in
+    let heavier = c.in_ok-heavier.heavier in
+    let first : AreKept (IsHeldSingle g c.args.held) c.args.start.now heavier =
+    subst (λ (s : Prices). AreKept (IsHeldSingle g c.args.held) s heavier) c.in_ok-set.ensures c.in_ok-heavier.ensures.kept in
+    IfOk-weaker c.tighten_prices.result (HaveSameWeights heavier) (AreKept (IsHeldSingle g c.args.held) c.args.start.now) (λ set same shore not. same shore ∙ first shore not)
+    c.tighten_prices.ensures.weights
 
 pub returns-clause-value : goal.returns-clause-value
 returns-clause-value c =

@@ -1,4 +1,4 @@
-use Rattle.std.proofs.Common.{arith}
+use Rattle.std.proofs.Common.{◌∙◌, arith}
 use Rattle.tight_prices.specs.Probes.{ground_of}
 use Rattle.tight_prices.proofs.Passing.{next_prices}
 use Rattle.tight_prices.proofs.Rising.{rises_on}
@@ -12,6 +12,7 @@ loop-e-preserved c =
       room = c.raise_price.ensures.room;
       fitting = next.fitting;
       rises = rises_on is.rises next.rises;
+      weights = λ shore. next.weights shore ∙ is.weights shore;
       filled = next.filled;
       tight =
           next_prices c.least_prices_are_there.ensures.tasks (ground_of c.args.setting.now) c.requires.setting.valid c.loop-e.higher c.in_ok-higher.higher is.fitting next.rises next.fitting.fine c.loop-e.e

@@ -1,3 +1,5 @@
+use Rattle.tight_prices.specs.Places.{IsOnShore}
+use Rattle.tight_prices.proofs.Keeping.{kept_on}
 use Rattle.tight_prices.proofs.Rising.{rises_on}
 use Rattle.tight_prices.proofs.search.highest.Goals as goal
 
@@ -5,5 +7,6 @@ pub loop-search-preserved : goal.loop-search-preserved
 loop-search-preserved c = record {
   room = c.step.ensures.room;
   search = c.in_ok-search.ensures.search;
+  kept = kept_on (IsOnShore c.args.place) c.args.start.set c.loop-search.search.set c.in_ok-search.search.set c.loop-search.invariant.kept c.in_ok-search.ensures.kept;
   rises = rises_on c.loop-search.invariant.rises c.in_ok-search.ensures.rises;
 }

@@ -5,8 +5,10 @@ use Rattle.branch_rules.specs.Limits.{IsPriceSet}
 use Rattle.branch_rules.specs.Prices.{Prices}
 use Rattle.branch_rules.specs.declared.weight.Weight.{Weight}
 use Rattle.tight_prices.specs.Probes.{ground_of}
-use Rattle.tight_prices.specs.Places.{Rises}
+use Rattle.tight_prices.specs.Places.{IsOnShore, Rises}
+use Rattle.tight_prices.specs.Tight.{AreKept}
 use Rattle.tight_prices.proofs.Climbing.{climbed, heavy_not, lacks_not, raised_long, raised_numbers, stayed}
+use Rattle.tight_prices.proofs.Keeping.{kept_step}
 use Rattle.tight_prices.proofs.Rising.{rises_step}
 use Rattle.tight_prices.proofs.search.step.Goals as goal
 
@@ -32,6 +34,10 @@ returns-in-Pays-clause-rises c =
     let g = ground_of c.args.setting.now in
     subst (Rises g.problem g.pool g.branch c.args.search.set) (sym (c.accepted.ensures.set ∙ c.in_ok-trial.ensures))
     (rises_step g.problem g.pool g.branch c.args.search.set c.args.place c.min-more.result c.requires.search.fitting.fine)
+
+pub returns-in-Pays-clause-kept : goal.returns-in-Pays-clause-kept
+returns-in-Pays-clause-kept c =
+    subst (AreKept (IsOnShore c.args.place) c.args.search.set) (sym (c.accepted.ensures.set ∙ c.in_ok-trial.ensures)) (kept_step c.args.search.set c.args.place c.min-more.result)
 
 pub returns-in_ok-guess-in-Lacks-clause-search : goal.returns-in_ok-guess-in-Lacks-clause-search
 returns-in_ok-guess-in-Lacks-clause-search c =
