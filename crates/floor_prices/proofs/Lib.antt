@@ -1,6 +1,7 @@
 pub mod Sums
 pub mod Numbers
 pub mod Packed
+pub mod Made
 pub mod Nested
 pub mod Taking
 pub mod Ratios

@@ -55,6 +55,13 @@ costs_small p unit valid few e is =
     let one : unit * (edge_at p e).service ≤ unit * 1000000 = mul-le-mul_left unit cost in
     omega (arith, one, few)
 
+-- the services of such a set are at cost
+pub serves_at_cost : (p : Problem) (unit : ℕ) (shores : List Weighted) → IsValid p → ServesAtCost p (prices_of p unit shores)
+serves_at_cost p unit shores valid = record {
+  one_each = prices_long p unit 0 valid;
+  at_cost = λ e is. price_at p (prices_of p unit shores) unit 0 e valid refl is ∙ ap pos (omega arith);
+}
+
 -- the set is within its limits
 pub set_fine : (p : Problem) (unit : ℕ) (shores : List Weighted) → IsValid p → 1 ≤ unit → unit ≤ 1000000 → ArePlaceable p shores → IsPriceSet (prices_of p unit shores)
 set_fine p unit shores valid some few placeable = record {
@@ -75,18 +82,12 @@ module _ (p : Problem) (pool : List (List ℕ)) (unit : ℕ) (shores : List Weig
     belongs = each_weight (λ shore z. Belongs p shore) pool [] 1 shores held refl placeable.belong k d below;
   }
 
-  serves_at_cost : ServesAtCost p (prices_of p unit shores)
-  serves_at_cost = record {
-    one_each = prices_long p unit 0 valid;
-    at_cost = λ e is. price_at p (prices_of p unit shores) unit 0 e valid refl is ∙ ap pos (omega arith);
-  }
-
   none_negative : All (λ w. pos 0 ≤ℤ w.weight) (weights_from 1 shores)
   none_negative = each_weight (λ shore z. pos 0 ≤ℤ z) pool [] 1 shores held refl (All-weaker IsPositive (λ (s : Weighted). pos 0 ≤ℤ s.weight) (λ s is. omega (arith, ints, is.natural)) shores placeable.positive)
 
   pub shores_fit : ((e : ℕ) → IsEdgeNumber p e → sum_by (λ s. if crosses (is_in s.shore) (edge_at p e) then nat_abs s.weight else 0) shores ≤ unit * (edge_at p e).cost) →
       FitsAlways p pool (prices_of p unit shores)
-  shores_fit packs = packing_law p pool (prices_of p unit shores) serves_at_cost (record {
+  shores_fit packs = packing_law p pool (prices_of p unit shores) (serves_at_cost p unit shores valid) (record {
     none_negative = none_negative;
     packs = λ e number.
         omega (

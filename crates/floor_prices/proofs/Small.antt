@@ -5,22 +5,25 @@ use Rattle.std.specs.Prelude.{◌&&◌, ◌↔◌, IsTrue, nat_lt}
 use Rattle.std.proofs.lemmas.Bool.{false≢true, cases_lt, lt-ltb, le-ltb}
 use Rattle.std.proofs.lemmas.List.Elements.{All-nil, All-cons}
 use Rattle.std.proofs.lemmas.Int.{ints}
+use Rattle.std.proofs.lemmas.List.{length-map}
 use Rattle.std.proofs.lemmas.List.Sums.{sum_by-cons}
 use Rattle.carp_base.specs.declared.edge.Task.{Task}
 use Rattle.carp_base.specs.Problem.{IsEdgeNumber, IsFineEdge, IsFineTask, IsRequired, IsValid, IsVertex, edge_at, head_of, tail_of}
 use Rattle.plan_model.specs.Plans.{Leads}
 use Rattle.plan_model.specs.declared.step.Step.{Step}
-use Rattle.cut_pool.specs.Shores.{is_in}
+use Rattle.cut_pool.specs.Shores.{Belongs, IsShore, is_in}
+use Rattle.cut_pool.specs.declared.shore.Weighted.{Weighted}
 use Rattle.capacity_cuts.specs.Laws.{ShellsWeighTheirNeeds}
 use Rattle.capacity_cuts.specs.Levels.{IsBeyond, IsLevelSet, AreShells, AreLevelSets, needs_below, weighted_needs}
 use Rattle.deadhead_paths.specs.Examples.{town, forth, homeward, task}
 use Rattle.deadhead_paths.specs.Prices.{IsLeastPrice, price_of, costs_of}
-use Rattle.matching_duals.specs.Joins.{MakesEven, IsLeastJoin, join_cost}
+use Rattle.matching_duals.specs.Joins.{MakesEven, IsJoinBound, IsLeastJoin, IsOddShore, halves_over, join_cost}
 use Rattle.branch_rules.specs.Examples.{light_prices, town_pool, town_prices}
-use Rattle.branch_rules.specs.Prices.{no_weight}
-use Rattle.floor_prices.specs.Examples.{bare_prices, town_level, town_shells}
+use Rattle.branch_rules.specs.Prices.{Prices, no_weight, price_in}
+use Rattle.floor_prices.specs.Examples.{bare_prices, half_prices, no_town, shared_prices, town_halves, town_level, town_shells}
 use Rattle.floor_prices.specs.Floors.{IsFreeTour, HasDeadhead, IsLeastCostRatio, ReachesJoin, ReachesRatio, ReachesShell, plain_value, tour_load}
-use Rattle.floor_prices.specs.Laws.{WeightsPack}
+use Rattle.floor_prices.specs.Laws.{ServesAtCost, WeightsPack}
+use Rattle.floor_prices.specs.Sets.{IsJoinSet, IsRatioSet, IsShellSet, empty_set}
 
 abbrev q : ℕ → ℕ
 q e = price_of (costs_of town) e
@@ -193,11 +196,17 @@ shell_level s below v vertex = elim (one_or_two v vertex) [
 two_in : IsVertex town 2
 two_in = record { from_one = lit≤ tt; in_range = lit≤ tt }
 
+two_shore : IsShore (2 ∷ [])
+two_shore = record { some = λ none. omega (arith, ap length none); rising = λ k below. absurd (omega (arith, below)) }
+
+two_belongs : Belongs town (2 ∷ [])
+two_belongs = record { vertices = All-cons (IsVertex town) 2 [] two_in (All-nil (IsVertex town)); no_depot = refl }
+
 town_are_shells : AreShells town town_shells
 town_are_shells = (
   record {
-    is_shore = record { some = λ none. omega (arith, ap length none); rising = λ k below. absurd (omega (arith, below)) };
-    belongs = record { vertices = All-cons (IsVertex town) 2 [] two_in (All-nil (IsVertex town)); no_depot = refl };
+    is_shore = two_shore;
+    belongs = two_belongs;
     weight = refl;
     some = lit≤ tt;
     level = λ s low below. shell_level s (omega (arith, below));
@@ -253,6 +262,98 @@ module _ (weigh : ShellsWeighTheirNeeds) where
 
   pub shell_missed : ReachesShell town town_pool bare_prices → ⊥
   shell_missed = missed_at 1000000000 (lit≤ tt)
+
+-- Sets that are made.
+
+at_cost : (set : Prices) → length set.services ≡ 1 → price_in set 1 ≡ pos (set.unit * 7) → ServesAtCost town set
+at_cost set long one = record { one_each = long; at_cost = λ e is. each e (only_task e is) }
+  where
+    each : (e : ℕ) → e ≡ 1 → price_in set e ≡ pos (set.unit * (edge_at town e).service)
+    each e is = rw is one
+
+pub shell_made : IsShellSet town town_pool town_prices
+shell_made = record {
+  shells = town_shells;
+  are = town_are_shells;
+  weighs = record { denominator = refl; services = at_cost town_prices refl refl; held = refl; weights = refl };
+}
+
+pub shell_weightless : IsShellSet town town_pool bare_prices → ⊥
+shell_weightless is =
+    omega (
+      arith,
+      ap length is.weighs.held,
+      ap length is.weighs.weights,
+      length-map is.shells (λ (s : Weighted). s.shore),
+      length-map is.shells (λ (s : Weighted). s.weight),
+    )
+
+by_number : (Holds : ℕ → Type 0) → Holds zero → ((k : ℕ) → Holds (suc k)) → (e : ℕ) → Holds e
+by_number Holds first later zero = first
+by_number Holds first later (suc k) = later k
+
+halves_pack : (e : ℕ) → e ≡ 1 → halves_over town_halves (edge_at town e) ≤ 2 * (edge_at town e).cost
+halves_pack e is = rw is (lit≤ tt)
+
+town_bound : IsJoinBound town (1 ∷ []) town_halves 5
+town_bound = record {
+  makes_even = one_is_even;
+  once = by_number _ (omega arith) (by_number _ (omega arith) (λ k. omega arith));
+  costs = refl;
+  least = town_join;
+  odd =
+      All-cons (IsOddShore town) (record { shore = 2 ∷ []; weight = pos 10 }) []
+      (record { is_shore = two_shore; belongs = two_belongs; odd = refl; positive = refl; some = lit≤ tt }) (All-nil (IsOddShore town));
+  packs = λ e number. halves_pack e (only_edge e number);
+  twice = refl;
+  different = λ i j d i_in j_in same. omega (arith, i_in, j_in);
+  few = lit≤ tt;
+}
+
+pub join_made : IsJoinSet town town_pool half_prices
+join_made = record {
+  counts = 1 ∷ [];
+  shores = town_halves;
+  value = 5;
+  show = town_bound;
+  weighs = record { denominator = refl; services = at_cost half_prices refl refl; held = refl; weights = refl };
+}
+
+pub join_wholes : IsJoinSet town town_pool town_prices → ⊥
+join_wholes is = omega (arith, is.weighs.denominator)
+
+shared_price : (e : ℕ) → e ≡ 1 → price_in shared_prices e ≡ pos (1 * (edge_at town e).service + 5 * (edge_at town e).demand)
+shared_price e is = rw is refl
+
+pub ratio_made : IsRatioSet town shared_prices
+ratio_made = inr (record {
+  deadhead = 5;
+  load = 1;
+  least = town_ratio;
+  denominator = refl;
+  one_each = refl;
+  prices = λ e is. shared_price e (only_task e is);
+  no_weights = refl;
+})
+
+street_required : IsRequired town 1
+street_required = record { from_one = lit≤ tt; in_range = lit≤ tt }
+
+-- the deadhead of the only street is shared out
+pub ratio_unshared : IsRatioSet town bare_prices → ⊥
+ratio_unshared (inl (none, same)) = omega (arith, none)
+ratio_unshared (inr is) =
+    let least : 5 * tour_load town is.least.tasks ≤ is.deadhead * 1 = tour_least is.least.tasks is.deadhead is.least.tour is.least.joined in
+    let price : pos 7 ≡ pos (is.load * 7 + is.deadhead * 1) = is.prices 1 street_required in
+    let one : 1 ≡ is.load = is.denominator in
+    omega (arith, ints, least, price, one, is.least.loaded)
+
+pub nothing_made : IsRatioSet no_town empty_set
+nothing_made = inl (refl, refl)
+
+pub empty_not : IsRatioSet town empty_set → ⊥
+empty_not (inl (none, same)) = omega (arith, none)
+empty_not (inr is) = omega (arith, is.one_each)
 
 -- a weight is negative
 pub negative_weight : WeightsPack town town_pool light_prices → ⊥

@@ -2,6 +2,7 @@
 use Rattle.std.specs.Prelude.{ℕ, Bool, ◌&&◌, ◌==◌, nat_lt, List, [], ◌∷◌, pos}
 use Rattle.cut_pool.specs.declared.shore.Weighted.{Weighted}
 use Rattle.branch_rules.specs.Prices.{Prices}
+use Rattle.carp_base.specs.Problem.{Problem}
 
 -- a price of 8 for a service of cost 7
 abbrev pub dear_prices : Prices
@@ -15,9 +16,21 @@ bare_prices = record { unit = 1; services = pos 7 ∷ []; weights = [] }
 abbrev pub half_prices : Prices
 half_prices = record { unit = 2; services = pos 14 ∷ []; weights = record { shore = 1; weight = pos 10 } ∷ [] }
 
+-- the service cost and the deadhead of the only tour, and no weight
+abbrev pub shared_prices : Prices
+shared_prices = record { unit = 1; services = pos 12 ∷ []; weights = [] }
+
+-- a depot alone
+abbrev pub no_town : Problem
+no_town = record { vertices = 1; depot = 1; capacity = 1; required = 0; edges = [] }
+
 -- the vertex 2 is beyond the levels below 5
 abbrev pub town_level : ℕ → ℕ → Bool
 town_level t v = nat_lt t 5 && (v == 2)
 
 abbrev pub town_shells : List Weighted
 town_shells = record { shore = 2 ∷ []; weight = pos 5 } ∷ []
+
+-- the shore in halves, for the street gone back
+abbrev pub town_halves : List Weighted
+town_halves = record { shore = 2 ∷ []; weight = pos 10 } ∷ []

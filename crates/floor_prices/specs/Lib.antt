@@ -1,4 +1,5 @@
 pub mod Floors
 pub mod Laws
+pub mod Sets
 pub mod Pieces
 pub mod Examples

@@ -3,9 +3,10 @@ ghost use Rattle.std.specs.Prelude.{[], ◌∷◌};
 ghost use Rattle.deadhead_paths.specs.Examples.{town};
 ghost use Rattle.branch_rules.specs.Examples.{heavy_prices, light_prices, town_pool, town_prices};
 ghost use Rattle.matching_duals.specs.Joins.{IsLeastJoin};
-ghost use Rattle.floor_prices.specs.Examples.{bare_prices, dear_prices, half_prices};
+ghost use Rattle.floor_prices.specs.Examples.{bare_prices, dear_prices, half_prices, no_town, shared_prices};
 ghost use Rattle.floor_prices.specs.Floors.{IsLeastCostRatio, ReachesJoin, ReachesRatio, ReachesShell};
 ghost use Rattle.floor_prices.specs.Laws.{IsNoBetter, ServesAtCost, WeightsPack};
+ghost use Rattle.floor_prices.specs.Sets.{IsJoinSet, IsRatioSet, IsShellSet, empty_set};
 
 use capacity_cuts::shells_are_duals;
 
@@ -34,6 +35,17 @@ fn a_least_join()
     ensures least { IsLeastJoin town 5 }
     ensures reached { ReachesJoin town town_pool town_prices }
     ensures missed { ¬ (ReachesJoin town town_pool bare_prices) }
+{}
+
+fn sets_that_are_made()
+    ensures shell { IsShellSet town town_pool town_prices }
+    ensures weightless { ¬ (IsShellSet town town_pool bare_prices) }
+    ensures join { IsJoinSet town town_pool half_prices }
+    ensures wholes { ¬ (IsJoinSet town town_pool town_prices) }
+    ensures ratio { IsRatioSet town shared_prices }
+    ensures unshared { ¬ (IsRatioSet town bare_prices) }
+    ensures nothing { IsRatioSet no_town empty_set }
+    ensures empty { ¬ (IsRatioSet town empty_set) }
 {}
 
 fn a_level_set()

@@ -4,6 +4,7 @@ ghost use Rattle.cut_pool.specs.Shores.{Belongs};
 ghost use Rattle.deadhead_paths.specs.Prices.{costs_of};
 ghost use Rattle.branch_rules.specs.Limits.{IsShoreOf};
 ghost use Rattle.floor_prices.specs.Floors.{FitsAlways, HoldsJoinShores, ReachesJoin, WeighsEach};
+ghost use Rattle.floor_prices.specs.Sets.{IsJoinSet};
 
 use crate::placing::set_of_shores;
 use branch_rules::PriceSet;
@@ -40,6 +41,7 @@ pub fn join_prices(
     ensures shores { IfOk result (λ set. All (λ w. IsShoreOf inst.now pool.new w.shore) set.weights) }
     ensures held { OnOk result (HoldsJoinShores inst.now pool.new) }
     ensures weighed { IfOk result (WeighsEach pool.new) }
+    ensures made { IfOk result (IsJoinSet inst.now pool.new) }
     ensures belong { All (Belongs inst.now) pool.new }
 {
     let _ = inst.vertices();

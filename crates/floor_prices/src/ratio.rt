@@ -4,6 +4,7 @@ ghost use Rattle.deadhead_paths.specs.Prices.{costs_of};
 ghost use Rattle.route_pricing.specs.Tables.{IsRoom};
 ghost use Rattle.floor_prices.specs.Floors.{FitsAlways, IsLeastCostRatio, ReachesRatio};
 ghost use Rattle.floor_prices.specs.Pieces.{IsRatioIn, ratio_set};
+ghost use Rattle.floor_prices.specs.Sets.{IsRatioSet};
 
 use crate::services::service_prices;
 use branch_rules::PriceSet;
@@ -40,6 +41,7 @@ pub fn ratio_prices(
     ensures fits { IfOk result (λ set. (pool : List (List ℕ)) → FitsAlways inst.now pool set) }
     ensures reaches { IfOk result (λ set. (pool : List (List ℕ)) → ReachesRatio inst.now pool set) }
     ensures no_weights { IfOk result (λ set. set.weights ≡ []) }
+    ensures made { IfOk result (IsRatioSet inst.now) }
     ensures room { IsRoom inst.now table.new }
 {
     least_prices_are_there();

@@ -4,6 +4,7 @@ ghost use Rattle.cut_pool.specs.Shores.{Belongs};
 ghost use Rattle.deadhead_paths.specs.Prices.{costs_of};
 ghost use Rattle.branch_rules.specs.Limits.{IsShoreOf};
 ghost use Rattle.floor_prices.specs.Floors.{FitsAlways, HoldsShells, ReachesShell, WeighsEach};
+ghost use Rattle.floor_prices.specs.Sets.{IsShellSet};
 
 use crate::laws::packing_weights_fit;
 use crate::placing::set_of_shores;
@@ -38,6 +39,7 @@ pub fn shell_prices(
     ensures shores { IfOk result (λ set. All (λ w. IsShoreOf inst.now pool.new w.shore) set.weights) }
     ensures held { OnOk result (HoldsShells inst.now pool.new) }
     ensures weighed { IfOk result (WeighsEach pool.new) }
+    ensures made { IfOk result (IsShellSet inst.now pool.new) }
     ensures belong { All (Belongs inst.now) pool.new }
 {
     packing_weights_fit();

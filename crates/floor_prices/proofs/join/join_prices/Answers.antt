@@ -6,7 +6,9 @@ use Rattle.branch_rules.specs.Prices.{Prices}
 use Rattle.branch_rules.specs.declared.weight.Weight.{Weight}
 use Rattle.floor_prices.specs.Floors.{FitsAlways, ReachesJoin, WeighsEach, shores_of}
 use Rattle.floor_prices.specs.Pieces.{prices_of}
+use Rattle.floor_prices.specs.Sets.{IsJoinSet}
 use Rattle.floor_prices.proofs.Joined.{join_placeable, join_fits, join_reaches}
+use Rattle.floor_prices.proofs.Made.{weighs_shores}
 use Rattle.floor_prices.proofs.Packed.{pool_belongs}
 use Rattle.floor_prices.proofs.Shelled.{both_on_ok, first_belong}
 use Rattle.floor_prices.proofs.Weighed.{weighs_each}
@@ -72,3 +74,21 @@ returns-clause-weighed c =
     let shores = c.in_ok-bound.bound.shores.items in
     both_on_ok c.set_of_shores.result (λ set. set ≡ prices_of p 2 shores) (pool ≡ shores_of shores) (WeighsEach pool)
     (λ set is held. subst (WeighsEach pool) (sym is) (weighs_each p 2 shores pool held)) c.set_of_shores.ensures.value c.set_of_shores.ensures.ok
+
+pub returns-clause-made : goal.returns-clause-made
+returns-clause-made c =
+    let p = c.args.inst.now in
+    let pool = c.set_of_shores.new.pool in
+    let bound = c.in_ok-bound.bound in
+    let shores = bound.shores.items in
+    both_on_ok c.set_of_shores.result (λ set. set ≡ prices_of p 2 shores) (pool ≡ shores_of shores) (IsJoinSet p pool)
+    (λ set is held.
+    subst (IsJoinSet p pool) (sym is)
+    (record {
+      counts = bound.deadheads.items;
+      shores = shores;
+      value = bound.value;
+      show = c.in_ok-bound.ensures;
+      weighs = weighs_shores p 2 shores pool c.vertices.ensures.valid held;
+    }))
+    c.set_of_shores.ensures.value c.set_of_shores.ensures.ok

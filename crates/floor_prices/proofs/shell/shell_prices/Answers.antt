@@ -5,7 +5,9 @@ use Rattle.branch_rules.specs.Prices.{Prices}
 use Rattle.branch_rules.specs.declared.weight.Weight.{Weight}
 use Rattle.floor_prices.specs.Floors.{FitsAlways, ReachesShell, WeighsEach, shores_of}
 use Rattle.floor_prices.specs.Pieces.{prices_of}
+use Rattle.floor_prices.specs.Sets.{IsShellSet}
 use Rattle.floor_prices.proofs.Nested.{shells_placeable}
+use Rattle.floor_prices.proofs.Made.{weighs_shores}
 use Rattle.floor_prices.proofs.Packed.{pool_belongs}
 use Rattle.floor_prices.proofs.Shelled.{both_on_ok, first_belong, shell_fits, shell_reaches}
 use Rattle.floor_prices.proofs.Weighed.{weighs_each}
@@ -62,3 +64,12 @@ returns-clause-weighed c =
     let shores = c.in_ok-found.found.items in
     both_on_ok c.set_of_shores.result (λ set. set ≡ prices_of p 1 shores) (pool ≡ shores_of shores) (WeighsEach pool)
     (λ set is held. subst (WeighsEach pool) (sym is) (weighs_each p 1 shores pool held)) c.set_of_shores.ensures.value c.set_of_shores.ensures.ok
+
+pub returns-clause-made : goal.returns-clause-made
+returns-clause-made c =
+    let p = c.args.inst.now in
+    let pool = c.set_of_shores.new.pool in
+    let shells = c.in_ok-found.found.items in
+    both_on_ok c.set_of_shores.result (λ set. set ≡ prices_of p 1 shells) (pool ≡ shores_of shells) (IsShellSet p pool)
+    (λ set is held. subst (IsShellSet p pool) (sym is) (record { shells = shells; are = c.in_ok-found.ensures; weighs = weighs_shores p 1 shells pool c.vertices.ensures.valid held }))
+    c.set_of_shores.ensures.value c.set_of_shores.ensures.ok
