@@ -1,5 +1,4 @@
 // Splits of small instances, worked by hand, and what the helper offers.
-ghost use Rattle.std.specs.Prelude.{◌≡◌};
 ghost use Rattle.plan_model.specs.Plans.{IsLawful};
 
 use carp_base::{Instance, Memory, RawEdge};
@@ -93,9 +92,9 @@ fn turns_services_by_draws(rt: HostRuntime) -> Result<(), Fail> {
     let dist = cost_distances(rt.alloc(), &inst)?;
     let best = single_tours(rt.alloc(), &inst, &dist)?;
     let mut helper = Splitter::new(rt.alloc(), 1);
-    let mut room = JudgeRoom::new(rt.alloc(), &inst)?;
     for seed in 0..100 {
         helper.reseed(seed);
+        let mut room = JudgeRoom::new(rt.alloc(), &inst)?;
         let Some(plan) = helper.propose(rt.alloc(), &inst, &best)? else {
             continue;
         };
@@ -111,17 +110,15 @@ fn first_offer(
     alloc: Global,
     inst: &Instance,
     best: &Plan,
-    room: &mut JudgeRoom,
     seed: u64,
 ) -> Result<Option<Verdict>, Memory>
-    requires lawful { IsLawful inst.now best.now }
-    requires room { room.old ≡ inst.now.required }
-    ensures room { room.new ≡ room.old }
+    requires { IsLawful inst.now best.now }
 {
+    let mut room = JudgeRoom::new(alloc, inst)?;
     let mut helper = Splitter::new(alloc, 1);
     helper.reseed(seed);
     match helper.propose(alloc, inst, best)? {
-        Some(plan) => Ok(Some(judge(inst, &plan, room))),
+        Some(plan) => Ok(Some(judge(inst, &plan, &mut room))),
         None => Ok(None),
     }
 }
@@ -132,12 +129,11 @@ fn draws_follow_the_seed(rt: HostRuntime) -> Result<(), Fail> {
     let inst = town(rt.alloc(), 1)?;
     let dist = cost_distances(rt.alloc(), &inst)?;
     let best = single_tours(rt.alloc(), &inst, &dist)?;
-    let mut room = JudgeRoom::new(rt.alloc(), &inst)?;
-    let first = first_offer(rt.alloc(), &inst, &best, &mut room, 1)?;
-    let again = first_offer(rt.alloc(), &inst, &best, &mut room, 1)?;
+    let first = first_offer(rt.alloc(), &inst, &best, 1)?;
+    let again = first_offer(rt.alloc(), &inst, &best, 1)?;
     assert!(rt; first.is_some() && again == first);
     for seed in 2..10 {
-        if first_offer(rt.alloc(), &inst, &best, &mut room, seed)? != first {
+        if first_offer(rt.alloc(), &inst, &best, seed)? != first {
             return Ok(());
         }
     }
