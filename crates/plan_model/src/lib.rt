@@ -12,6 +12,8 @@ mod plan;
 mod proposer;
 mod served;
 mod step;
+#[cfg(test)]
+mod tests;
 mod totals;
 mod tours;
 mod verdict;

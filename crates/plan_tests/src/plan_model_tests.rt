@@ -1,7 +1,7 @@
 ghost use Rattle.std.specs.Prelude.{◌<◌, length};
 
 use carp_base::{Instance, Memory, RawEdge};
-use plan_model::{JudgeRoom, Plan, Step, Verdict, Walk, cost_of, judge, load_of};
+use plan_model::{JudgeRoom, Plan, Step, Verdict, Walk, judge};
 use std::alloc::Global;
 use std::process::Abort;
 use std::test::Fail;
@@ -58,26 +58,6 @@ fn expect_verdicts(
         assert!(rt; text.len() < 1000);
         let plan = plan_of(alloc, text)?.copy(alloc)?;
         assert_eq!(rt; judge(inst, &plan, &mut room), *verdict, "{text}");
-    }
-    Ok(())
-}
-
-// The first walk of each lawful plan has this load and this cost.
-fn expect_totals(
-    rt: &impl Abort,
-    alloc: Global,
-    inst: &Instance,
-    rows: &[(&str, u128, u128)],
-) -> Result<(), Fail> {
-    let mut room = JudgeRoom::new(alloc, inst)?;
-    for (text, load, cost) in rows {
-        assert!(rt; text.len() < 1000);
-        let plan = plan_of(alloc, text)?;
-        let judged = judge(inst, &plan, &mut room);
-        assert!(rt; matches!(judged, Verdict::Lawful { .. }));
-        assert!(rt; plan.len() > 0);
-        assert_eq!(rt; load_of(inst, plan.walk(0)), *load);
-        assert_eq!(rt; cost_of(inst, plan.walk(0)), *cost);
     }
     Ok(())
 }
@@ -213,7 +193,7 @@ fn nothing_need_be_served(rt: HostRuntime) -> Result<(), Fail> {
 }
 
 #[test]
-fn walks_have_their_loads_and_costs(rt: HostRuntime) -> Result<(), Fail> {
+fn services_have_costs_of_their_own(rt: HostRuntime) -> Result<(), Fail> {
     let alloc = rt.alloc();
     // A service that costs more than a crossing, and one that costs nothing.
     let dear = RawEdge {
@@ -225,12 +205,6 @@ fn walks_have_their_loads_and_costs(rt: HostRuntime) -> Result<(), Fail> {
         ..edge(2, 3, 7, 2)
     };
     let inst = Instance::build(alloc, 3, 1, 3, &[dear, free], &[])?;
-    expect_totals(
-        &rt,
-        alloc,
-        &inst,
-        &[("+1+2<2<1;", 3, 21), (";", 0, 0), (">1-1;", 1, 14)],
-    )?;
     expect_verdicts(
         &rt,
         alloc,
