@@ -1,5 +1,5 @@
-//! Tests of the parts of a command: its words, its files, and what it writes (crates `command_words`,
-//! `refusal_texts`, `plan_print`, `command_files`, `edit_files`, `command_jobs` and `command_works`).
+//! Tests of the parts of a command: its words, its files, and what it makes (crates `command_words`, `command_files`,
+//! `edit_files`, `command_jobs` and `command_works`).
 //!
 //! They stand in a crate of their own, since a crate with tests is proved twice.
 #![tactic(auto)]
@@ -14,9 +14,3 @@ mod command_words_tests;
 mod command_works_tests;
 #[cfg(test)]
 mod edit_files_tests;
-#[cfg(test)]
-mod plan_print_sheet_tests;
-#[cfg(test)]
-mod plan_print_tests;
-#[cfg(test)]
-mod refusal_texts_tests;

@@ -1,5 +1,5 @@
 // The commands for vehicles without a limit, for fleets and for made towns, by `run`.
-use crate::tests::{REPORT_ROOM, run_words};
+use crate::runs::{REPORT_ROOM, run_words};
 use carp_cli::Status;
 use carp_outside::{MemShelf, MemSink};
 use std::alloc::Global;

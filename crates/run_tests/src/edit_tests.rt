@@ -1,6 +1,6 @@
 // What an edit keeps, and what it leaves where its second file cannot be kept.
 use crate::failing_tests::store;
-use crate::tests::{REPORT_ROOM, run_words};
+use crate::runs::{REPORT_ROOM, run_words};
 use carp_outside::{MemShelf, MemSink};
 use std::alloc::Global;
 use std::test::Fail;

@@ -1,5 +1,5 @@
 // Every look, every keep and every put of a command fails in turn.
-use crate::tests::{REPORT_ROOM, run_words, shelf_with, words_in};
+use crate::runs::{REPORT_ROOM, run_words, shelf_with, words_in};
 use carp_outside::{MemShelf, MemSink};
 use std::alloc::Global;
 use std::test::Fail;

@@ -1,5 +1,5 @@
 // What is answered for the texts of files, valid and not.
-use crate::tests::{REPORT_ROOM, run_words, shelf_with};
+use crate::runs::{REPORT_ROOM, run_words, shelf_with};
 use carp_cli::Status;
 use carp_outside::MemSink;
 use std::alloc::Global;

@@ -3,10 +3,8 @@
 //! They stand in a crate of their own, since a crate with tests is proved twice.
 #![tactic(auto)]
 
-#[cfg(test)]
-mod carried_tests;
-#[cfg(test)]
-mod check_tests;
+pub mod runs;
+
 #[cfg(test)]
 mod command_tests;
 #[cfg(test)]

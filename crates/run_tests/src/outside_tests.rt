@@ -1,5 +1,5 @@
 // The shelf over files of the system, and the sink over a writer.
-use crate::tests::run_words;
+use crate::runs::run_words;
 use carp_cli::{DirShelf, StdSink};
 use carp_outside::put_all;
 use std::test::Fail;

@@ -1,26 +1,11 @@
 // Runs over files in memory.
 ghost use Rattle.std.specs.Prelude.{◌<◌};
 
-use carp_cli::{Status, run};
-use carp_outside::{MemShelf, MemSink, Shelf, Sink};
-use plan_model::Proposer;
+use crate::runs::{REPORT_ROOM, STREET, run_words, shelf_with, words_in};
+use carp_cli::Status;
+use carp_outside::{MemSink, Shelf};
 use std::alloc::Global;
 use std::test::Fail;
-
-pub(crate) const STREET: &str = "NOMBRE : carp
-COMENTARIO : none
-VERTICES : 2
-ARISTAS_REQ : 1
-ARISTAS_NOREQ : 0
-VEHICULOS : 1
-CAPACIDAD : 1
-TIPO_COSTES_ARISTAS : EXPLICITOS
-COSTE_TOTAL_REQ : 5
-LISTA_ARISTAS_REQ :
-( 1, 2) coste 5 demanda 1
-LISTA_ARISTAS_NOREQ :
-DEPOSITO : 1
-";
 
 const CERTIFICATE: &str = "carp-certificate 2
 instance 2 1 1 1 1
@@ -57,42 +42,6 @@ const USAGE: &str = "usage: carp solve FILE CERT [--turns N] [--seed N]
        carp fleet FILE [--turns N]
        carp edit FILE CERT EDITS NEWFILE NEWCERT
 ";
-
-// Room for any certificate and any report of these tests.
-const CERT_ROOM: usize = 16_777_216;
-
-pub(crate) const REPORT_ROOM: usize = 1_048_576;
-
-// A store with a file at `file` and room at `cert`, which fails at these looks and keeps.
-pub(crate) fn shelf_with(
-    alloc: Global,
-    file: &[u8],
-    piece: usize,
-    looks: &[u64],
-    keeps: &[u64],
-) -> Result<MemShelf, Fail>
-    requires { 0 < piece }
-{
-    let mut shelf = MemShelf::new(alloc, piece, looks.to_vec(alloc)?, keeps.to_vec(alloc)?);
-    shelf.place("file", file)?;
-    shelf.place("other", b"as it was")?;
-    shelf.ready("cert", CERT_ROOM)?;
-    Ok(shelf)
-}
-
-pub(crate) fn run_words<H: Shelf, O: Sink>(
-    alloc: Global,
-    words: &[&str],
-    shelf: &mut H,
-    out: &mut O,
-) -> Result<Status, Fail> {
-    let mut all = Vec::new(alloc);
-    for word in words {
-        all.push(String::from_str(alloc, word)?)?;
-    }
-    let mut helpers: Vec<Box<dyn Proposer>> = Vec::new(alloc);
-    Ok(run(alloc, &all, shelf, out, &mut helpers))
-}
 
 // Whether a file is solved with this code, this report and this certificate, and the other file stays, with files and output that
 // take pieces of this length.
@@ -270,15 +219,6 @@ const CALLS: &str = "\
     upgrade file cert file | | | | 3 | no | usage\n\
     upgrade file cert cert | | | | 3 | no | usage\n\
     upgrade file other cert | | | | 5 | no | bad certificate: ends before line 1 is complete~";
-
-// The words of a text.
-pub(crate) fn words_in(alloc: Global, text: &str) -> Result<Vec<&str>, Fail> {
-    let mut words = Vec::new(alloc);
-    for word in text.split_ascii_whitespace() {
-        words.push(if word == "_" { "" } else { word })?;
-    }
-    Ok(words)
-}
 
 // What is said to be written.
 fn text_of(alloc: Global, written: &str) -> Result<String, Fail> {

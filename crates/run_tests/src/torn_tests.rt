@@ -1,5 +1,5 @@
 // A keep that fails and leaves a front of the new contents.
-use crate::tests::{REPORT_ROOM, STREET, run_words, shelf_with};
+use crate::runs::{REPORT_ROOM, STREET, run_words, shelf_with};
 use carp_cli::Status;
 use carp_outside::{MemShelf, MemSink};
 use std::alloc::Global;

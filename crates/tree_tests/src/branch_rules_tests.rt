@@ -2,8 +2,8 @@ ghost use Rattle.std.specs.Prelude.{◌≢◌, ◌≤◌, All, IsTrue, pos};
 ghost use Rattle.branch_rules.specs.Limits.{IsPriceNumber, IsShoreOf};
 ghost use Rattle.cut_pool.specs.Pools.{IsShoreNumber};
 
-use crate::branch_rules_deciding_tests::{branch_of, is_shore_of};
 use branch_rules::{Branch, NoUpper, Node, PriceSet, TooHeavy, Tree, Weight};
+use branch_tests::signs::{branch_of, is_shore_of, one_street, other_vertex, triangle};
 use carp_base::{Fail as Refusal, Instance, Memory, RawEdge};
 use cut_pool::{Shore, ShorePool};
 use std::alloc::Global;
@@ -206,7 +206,7 @@ fn numbers_of(
 }
 
 // Under these decisions a shore has these numbers.
-pub(crate) fn expect_numbers(
+fn expect_numbers(
     rt: &impl Abort,
     alloc: Global,
     inst: &Instance,
@@ -251,7 +251,7 @@ fn the_last_decisions_are_taken_away(rt: HostRuntime) -> Result<(), Fail> {
 }
 
 // Under these decisions the price set has this value, or names a shore without an upper number.
-pub(crate) fn expect_value(
+fn expect_value(
     rt: &impl Abort,
     inst: &Instance,
     pool: &ShorePool,
@@ -317,4 +317,56 @@ fn a_tree_is_put_down_node_by_node(rt: HostRuntime) -> Result<(), Fail> {
     assert_eq!(&rt; node_at(&tree, 0), Some(Node::Cut { shore: 1, k: 4 }));
     assert_eq!(&rt; node_at(&tree, 1), Some(Node::Void));
     Ok(())
+}
+
+#[test]
+fn numbers_at_the_leaves(rt: HostRuntime) -> Result<(), Fail> {
+    let alloc = rt.alloc();
+    let inst = one_street(alloc)?;
+    let pool = other_vertex(&rt, alloc)?;
+    expect_numbers(&rt, alloc, &inst, &pool, "<12<11", 1, (1, Some(1)))?;
+    expect_numbers(&rt, alloc, &inst, &pool, "<12>11", 1, (3, Some(2)))?;
+    expect_numbers(&rt, alloc, &inst, &pool, ">12", 1, (3, None))
+}
+
+// A price and a weight of 5.
+fn fives(alloc: Global) -> Result<PriceSet, Memory> {
+    let weight = Weight {
+        shore: 1,
+        weight: 5,
+    };
+    PriceSet::new(alloc, 1, &[5], &[weight])
+}
+
+// Under these decisions a price and a weight of 5 have this value.
+fn expect_leaf(rt: &impl Abort, alloc: Global, decisions: &str, value: i128) -> Result<(), Fail> {
+    let inst = one_street(alloc)?;
+    let pool = other_vertex(rt, alloc)?;
+    let branch = branch_of(alloc, decisions)?;
+    expect_value(rt, &inst, &pool, &branch, &fives(alloc)?, Ok(value));
+    Ok(())
+}
+
+#[test]
+fn values_at_the_leaves(rt: HostRuntime) -> Result<(), Fail> {
+    let alloc = rt.alloc();
+    expect_leaf(&rt, alloc, "<12<11", 10)?;
+    expect_leaf(&rt, alloc, "<12>11", 20)?;
+    expect_leaf(&rt, alloc, ">12", 20)
+}
+
+// Under these decisions the costs of a triangle as prices have this value.
+fn expect_costs(rt: &impl Abort, alloc: Global, decisions: &str, value: i128) -> Result<(), Fail> {
+    let inst = triangle(alloc)?;
+    let set = PriceSet::new(alloc, 1, &[5, 7, 4], &[])?;
+    let branch = branch_of(alloc, decisions)?;
+    expect_value(rt, &inst, &ShorePool::new(alloc), &branch, &set, Ok(value));
+    Ok(())
+}
+
+#[test]
+fn a_pair_does_not_change_a_value(rt: HostRuntime) -> Result<(), Fail> {
+    let alloc = rt.alloc();
+    expect_costs(&rt, alloc, "+12", 16)?;
+    expect_costs(&rt, alloc, "-12", 16)
 }

@@ -1,15 +1,11 @@
-//! Tests of decisions, of the branches and trees that they make, and of the ways through these (crates
-//! `decision_chains`, `branch_rules` and `tree_paths`).
+//! Tests of decisions, of the numbers and values that they leave, and of the ways through trees (crates `decision_chains`,
+//! `branch_rules` and `tree_paths`).
 //!
 //! They stand in a crate of their own, since a crate with tests is proved twice.
 #![tactic(auto)]
 
 #[cfg(test)]
-mod branch_rules_deciding_tests;
-#[cfg(test)]
 mod branch_rules_tests;
-#[cfg(test)]
-mod branch_rules_tree_tests;
 #[cfg(test)]
 mod decision_chains_tests;
 #[cfg(test)]

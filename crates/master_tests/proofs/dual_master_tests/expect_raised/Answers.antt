@@ -1,7 +1,7 @@
 use Rattle.std.proofs.Common.{List, [], subst, sym}
 use Rattle.decision_chains.specs.declared.decision.Decision.{Decision}
 use Rattle.branch_rules.specs.Laws.{FitsBranch}
-use Rattle.price_tests.proofs.dual_master_tests.expect_raised.Goals as goal
+use Rattle.master_tests.proofs.dual_master_tests.expect_raised.Goals as goal
 
 pub raise-requires-clause-fits : goal.raise-requires-clause-fits
 raise-requires-clause-fits g c =

@@ -1,26 +1,16 @@
 // What small branches allow and settle, worked by hand.
-ghost use Rattle.std.specs.Prelude.{◌≤◌, IfSome, IsTrue};
+ghost use Rattle.std.specs.Prelude.IsTrue;
 ghost use Rattle.decision_chains.specs.Pairs.{ArePairsIn, HasPairWithin};
-ghost use Rattle.branch_rules.specs.Limits.{AreShoresIn, HasShoreOf, IsFineDecision, IsNodeIn, IsShoreOf};
+ghost use Rattle.branch_rules.specs.Limits.{AreShoresIn, HasShoreOf, IsNodeIn};
 
+use crate::signs::{branch_of, digit, is_shore_of, street, triangle};
 use branch_rules::{Branch, Decision, Node};
-use carp_base::{Instance, Memory, RawEdge};
+use carp_base::{Instance, Memory};
 use cut_pool::{Shore, ShorePool};
 use std::alloc::Global;
 use std::process::Abort;
 use std::test::Fail;
 use task_tours::{cost_distances, lawful_cost};
-
-// An edge whose service costs as much as a crossing.
-pub(crate) fn street(u: u64, v: u64, cost: u64, demand: u64) -> RawEdge {
-    RawEdge {
-        u,
-        v,
-        cost,
-        demand,
-        service: cost,
-    }
-}
 
 // Whether the pair of a decision is of two different edges among the first so many.
 fn is_pair_within(required: u32, decision: &Decision) -> bool
@@ -46,13 +36,6 @@ fn are_pairs_in(inst: &Instance, decisions: &[Decision]) -> bool
     true
 }
 
-// Whether a shore is in the pool and belongs to the instance.
-pub(crate) fn is_shore_of(inst: &Instance, pool: &ShorePool, shore: u32) -> bool
-    ensures { IsTrue result → IsShoreOf inst.now pool.now shore }
-{
-    1 <= shore && shore <= pool.len() && pool.shore(shore).belongs(inst)
-}
-
 // Whether the shore of a decision is in the pool and belongs to the instance.
 fn is_on_shore(inst: &Instance, pool: &ShorePool, decision: &Decision) -> bool
     ensures { IsTrue result → HasShoreOf inst.now pool.now decision.now }
@@ -75,46 +58,6 @@ fn are_shores_in(inst: &Instance, pool: &ShorePool, decisions: &[Decision]) -> b
         }
     }
     true
-}
-
-// The number of a digit.
-fn digit(sign: u8) -> u32
-    ensures { result ≤ 255 }
-{
-    u32::from(sign.saturating_sub(b'0'))
-}
-
-// A decision of three signs: `+12` is yes to the edges 1 and 2, `-12` no, `<13` at most 3 over the shore 1, `>13` more than 3.
-fn decision_of(kind: u8, a: u32, b: u32) -> Option<Decision>
-    requires { b ≤ 255 }
-    ensures { IfSome result IsFineDecision }
-{
-    let (shore, k) = (a, u64::from(b));
-    match kind {
-        b'+' => Some(Decision::Yes { a, b }),
-        b'-' => Some(Decision::No { a, b }),
-        b'<' => Some(Decision::Low { shore, k }),
-        b'>' => Some(Decision::High { shore, k }),
-        _ => None,
-    }
-}
-
-// Adds a decision of three signs.
-fn push_signs(branch: &mut Branch, signs: &[u8]) -> Result<(), Fail> {
-    let &[kind, first, second] = signs else {
-        return Err("three signs")?;
-    };
-    branch.push(decision_of(kind, digit(first), digit(second)).ok_or("a decision")?)?;
-    Ok(())
-}
-
-// The branch of a text of decisions.
-pub(crate) fn branch_of(alloc: Global, text: &str) -> Result<Branch, Fail> {
-    let mut branch = Branch::new(alloc);
-    for signs in text.as_bytes().chunks_exact(3) {
-        push_signs(&mut branch, signs)?;
-    }
-    Ok(branch)
 }
 
 // The three parts of a row between bars; a part that lacks is empty.
@@ -228,12 +171,6 @@ fn expect_far(
 fn pairs_above_the_capacity_are_excluded(rt: HostRuntime) -> Result<(), Fail> {
     expect_far(&rt, rt.alloc(), 3, "||f")?;
     expect_far(&rt, rt.alloc(), 5, "|12 13 23 |.\n+12|12 |f")
-}
-
-// A triangle of streets that one vehicle serves.
-pub(crate) fn triangle(alloc: Global) -> Result<Instance, Fail> {
-    let required = [street(1, 2, 5, 1), street(2, 3, 7, 1), street(1, 3, 4, 1)];
-    Ok(Instance::build(alloc, 3, 1, 3, &required, &[])?)
 }
 
 #[test]

@@ -1,9 +1,9 @@
 // Certificates by `run`, in files that give one byte, seven bytes, or all at a look.
 ghost use Rattle.std.specs.Prelude.{◌<◌};
 
-use crate::tests::{REPORT_ROOM, run_words, shelf_with};
 use carp_cli::Status;
 use carp_outside::{MemShelf, MemSink};
+use run_tests::runs::{REPORT_ROOM, run_words, shelf_with};
 use std::alloc::Global;
 use std::process::Abort;
 use std::test::Fail;

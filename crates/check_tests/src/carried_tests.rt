@@ -1,8 +1,8 @@
 // Certificates that are carried over to edited instances, and then checked.
 ghost use Rattle.std.specs.Prelude.{◌<◌};
 
-use crate::tests::{REPORT_ROOM, run_words};
 use carp_outside::{MemShelf, MemSink};
+use run_tests::runs::{REPORT_ROOM, run_words};
 use std::alloc::Global;
 use std::process::Abort;
 use std::test::Fail;

@@ -1,0 +1,11 @@
+//! Tests of what decisions exclude and settle, and of the trees that they make (crate `branch_rules`).
+//!
+//! They stand in a crate of their own, since a crate with tests is proved twice.
+#![tactic(auto)]
+
+pub mod signs;
+
+#[cfg(test)]
+mod branch_rules_deciding_tests;
+#[cfg(test)]
+mod branch_rules_tree_tests;

@@ -1,0 +1,9 @@
+//! Tests of the top call ([`carp_cli::run`]) over certificates: those that are checked, renewed, and carried over.
+//!
+//! They stand in a crate of their own, since a crate with tests is proved twice.
+#![tactic(auto)]
+
+#[cfg(test)]
+mod carried_tests;
+#[cfg(test)]
+mod check_tests;

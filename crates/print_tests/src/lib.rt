@@ -1,0 +1,11 @@
+//! Tests of the texts that are printed (crates `refusal_texts` and `plan_print`).
+//!
+//! They stand in a crate of their own, since a crate with tests is proved twice.
+#![tactic(auto)]
+
+#[cfg(test)]
+mod plan_print_sheet_tests;
+#[cfg(test)]
+mod plan_print_tests;
+#[cfg(test)]
+mod refusal_texts_tests;

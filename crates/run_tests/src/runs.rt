@@ -1,0 +1,71 @@
+//! Runs of the program over files and an output in memory.
+ghost use Rattle.std.specs.Prelude.{◌<◌};
+
+use carp_cli::{Status, run};
+use carp_outside::{MemShelf, Shelf, Sink};
+use plan_model::Proposer;
+use std::alloc::Global;
+use std::test::Fail;
+
+/// One street, which a vehicle serves, in the form in which it is written.
+pub const STREET: &str = "NOMBRE : carp
+COMENTARIO : none
+VERTICES : 2
+ARISTAS_REQ : 1
+ARISTAS_NOREQ : 0
+VEHICULOS : 1
+CAPACIDAD : 1
+TIPO_COSTES_ARISTAS : EXPLICITOS
+COSTE_TOTAL_REQ : 5
+LISTA_ARISTAS_REQ :
+( 1, 2) coste 5 demanda 1
+LISTA_ARISTAS_NOREQ :
+DEPOSITO : 1
+";
+
+// Room for any certificate of these tests.
+const CERT_ROOM: usize = 16_777_216;
+
+/// Room for any report of these tests.
+pub const REPORT_ROOM: usize = 1_048_576;
+
+/// Returns a store with a file at `file` and room at `cert`, which fails at these looks and keeps.
+pub fn shelf_with(
+    alloc: Global,
+    file: &[u8],
+    piece: usize,
+    looks: &[u64],
+    keeps: &[u64],
+) -> Result<MemShelf, Fail>
+    requires { 0 < piece }
+{
+    let mut shelf = MemShelf::new(alloc, piece, looks.to_vec(alloc)?, keeps.to_vec(alloc)?);
+    shelf.place("file", file)?;
+    shelf.place("other", b"as it was")?;
+    shelf.ready("cert", CERT_ROOM)?;
+    Ok(shelf)
+}
+
+/// Runs the program with these words and no helper.
+pub fn run_words<H: Shelf, O: Sink>(
+    alloc: Global,
+    words: &[&str],
+    shelf: &mut H,
+    out: &mut O,
+) -> Result<Status, Fail> {
+    let mut all = Vec::new(alloc);
+    for word in words {
+        all.push(String::from_str(alloc, word)?)?;
+    }
+    let mut helpers: Vec<Box<dyn Proposer>> = Vec::new(alloc);
+    Ok(run(alloc, &all, shelf, out, &mut helpers))
+}
+
+/// Returns the words of a text; `_` is the empty one.
+pub fn words_in(alloc: Global, text: &str) -> Result<Vec<&str>, Fail> {
+    let mut words = Vec::new(alloc);
+    for word in text.split_ascii_whitespace() {
+        words.push(if word == "_" { "" } else { word })?;
+    }
+    Ok(words)
+}
