@@ -3,10 +3,11 @@ ghost use Rattle.std.specs.Prelude.IsTrue;
 ghost use Rattle.decision_chains.specs.Pairs.{ArePairsIn, HasPairWithin};
 ghost use Rattle.branch_rules.specs.Limits.{AreShoresIn, HasShoreOf, IsNodeIn};
 
-use crate::signs::{branch_of, digit, is_shore_of, street, triangle};
+use crate::signs::{branch_of, digit, is_shore_of, triangle};
 use branch_rules::{Branch, Decision, Node};
 use carp_base::{Instance, Memory};
 use cut_pool::{Shore, ShorePool};
+use samples::street;
 use std::alloc::Global;
 use std::process::Abort;
 use std::test::Fail;

@@ -3,9 +3,8 @@
 //! They stand in a crate of their own, since a crate with tests is proved twice.
 #![tactic(auto)]
 
-pub mod signs;
-
 #[cfg(test)]
 mod branch_rules_deciding_tests;
 #[cfg(test)]
 mod branch_rules_tree_tests;
+pub mod signs;

@@ -3,22 +3,12 @@ ghost use Rattle.std.specs.Prelude.{◌≤◌, IfSome, IsTrue};
 ghost use Rattle.branch_rules.specs.Limits.{IsFineDecision, IsShoreOf};
 
 use branch_rules::{Branch, Decision};
-use carp_base::{Instance, RawEdge};
+use carp_base::Instance;
 use cut_pool::{Shore, ShorePool};
+use samples::street;
 use std::alloc::Global;
 use std::process::Abort;
 use std::test::Fail;
-
-/// An edge whose service costs as much as a crossing.
-pub fn street(u: u64, v: u64, cost: u64, demand: u64) -> RawEdge {
-    RawEdge {
-        u,
-        v,
-        cost,
-        demand,
-        service: cost,
-    }
-}
 
 /// A triangle of streets that one vehicle serves.
 pub fn triangle(alloc: Global) -> Result<Instance, Fail> {

@@ -1,28 +1,18 @@
 // `check` and `check_stream` on small certificates.
-use carp_base::{Instance, RawEdge};
+use carp_base::Instance;
 use carp_outside::MemShelf;
 use cert_checker::{Answer, Part, Reason, check, check_stream};
 use cert_format::read_cert;
 use cert_lines::read_is_spelled;
 use plan_model::Verdict;
+use samples::street;
 use std::alloc::Global;
 use std::process::Abort;
 use std::test::Fail;
 
-// An edge whose service costs what a crossing costs.
-fn edge(u: u64, v: u64, cost: u64, demand: u64) -> RawEdge {
-    RawEdge {
-        u,
-        v,
-        cost,
-        demand,
-        service: cost,
-    }
-}
-
 // Three streets around, for one vehicle of capacity 3.
 pub(crate) fn triangle(alloc: Global) -> Result<Instance, Fail> {
-    let required = [edge(1, 2, 5, 1), edge(2, 3, 7, 1), edge(1, 3, 4, 1)];
+    let required = [street(1, 2, 5, 1), street(2, 3, 7, 1), street(1, 3, 4, 1)];
     Ok(Instance::build(alloc, 3, 1, 3, &required, &[])?)
 }
 
@@ -42,7 +32,7 @@ end
 
 // Two streets in a row, each a load for a vehicle.
 pub(crate) fn row(alloc: Global) -> Result<Instance, Fail> {
-    let required = [edge(1, 2, 3, 2), edge(2, 3, 4, 2)];
+    let required = [street(1, 2, 3, 2), street(2, 3, 4, 2)];
     Ok(Instance::build(alloc, 3, 1, 2, &required, &[])?)
 }
 
@@ -65,7 +55,7 @@ end
 
 // One street.
 fn street(alloc: Global) -> Result<Instance, Fail> {
-    Ok(Instance::build(alloc, 2, 1, 1, &[edge(1, 2, 5, 1)], &[])?)
+    Ok(Instance::build(alloc, 2, 1, 1, &[street(1, 2, 5, 1)], &[])?)
 }
 
 const STREET: &str = "carp-certificate 1
@@ -89,8 +79,8 @@ end
 
 // A ring of three streets at the end of a long way, for vehicles of this capacity.
 fn ring(alloc: Global, capacity: u64) -> Result<Instance, Fail> {
-    let required = [edge(2, 3, 1, 2), edge(3, 4, 1, 2), edge(4, 2, 1, 2)];
-    Ok(Instance::build(alloc, 4, 1, capacity, &required, &[edge(1, 2, 10, 0)])?)
+    let required = [street(2, 3, 1, 2), street(3, 4, 1, 2), street(4, 2, 1, 2)];
+    Ok(Instance::build(alloc, 4, 1, capacity, &required, &[street(1, 2, 10, 0)])?)
 }
 
 const RING: &str = "carp-certificate 1
@@ -127,13 +117,13 @@ end
 // Five streets at the end of a long way, of which a vehicle takes two.
 fn star(alloc: Global) -> Result<Instance, Fail> {
     let required = [
-        edge(2, 3, 1, 2),
-        edge(2, 4, 1, 2),
-        edge(2, 5, 1, 2),
-        edge(2, 6, 1, 2),
-        edge(2, 7, 1, 2),
+        street(2, 3, 1, 2),
+        street(2, 4, 1, 2),
+        street(2, 5, 1, 2),
+        street(2, 6, 1, 2),
+        street(2, 7, 1, 2),
     ];
-    Ok(Instance::build(alloc, 7, 1, 5, &required, &[edge(1, 2, 100, 0)])?)
+    Ok(Instance::build(alloc, 7, 1, 5, &required, &[street(1, 2, 100, 0)])?)
 }
 
 const STAR: &str = "carp-certificate 1
@@ -164,8 +154,8 @@ end
 
 // Two streets at the end of a long way, of which one tour could serve the first twice.
 fn fork(alloc: Global) -> Result<Instance, Fail> {
-    let required = [edge(2, 3, 1, 1), edge(2, 4, 1, 1)];
-    Ok(Instance::build(alloc, 4, 1, 3, &required, &[edge(1, 2, 100, 0)])?)
+    let required = [street(2, 3, 1, 1), street(2, 4, 1, 1)];
+    Ok(Instance::build(alloc, 4, 1, 3, &required, &[street(1, 2, 100, 0)])?)
 }
 
 const FORK: &str = "carp-certificate 1

@@ -4,23 +4,14 @@ ghost use Rattle.cert_lines.specs.Spelling.{IsSpellable};
 ghost use Rattle.cert_format.specs.Certs.{certificate_in};
 ghost use Rattle.cert_format.specs.Good.{IsGood};
 
-use carp_base::{Instance, RawEdge};
+use carp_base::Instance;
 use cert_checker::{Answer, check};
 use cert_format::{Cert, read_cert};
 use cert_lines::read_is_spelled;
 use cert_transfer::{carry, edited, read_edits};
+use samples::street;
 use std::alloc::Global;
 use std::test::Fail;
-
-fn street(u: u64, v: u64, cost: u64, demand: u64) -> RawEdge {
-    RawEdge {
-        u,
-        v,
-        cost,
-        demand,
-        service: cost,
-    }
-}
 
 // Two streets in a row, each a load for a vehicle.
 fn row(alloc: Global) -> Result<Instance, Fail> {

@@ -3,16 +3,9 @@ use capacity_cuts::find_fractional;
 use carp_base::{Instance, RawEdge};
 use cut_pool::Shore;
 use edge_components::are_parts;
+use samples::draw;
 use std::alloc::Global;
 use std::test::Fail;
-
-// The next number of a generator, below a bound.
-fn draw(state: &mut u64, bound: u64) -> u64 {
-    *state = state
-        .wrapping_mul(6_364_136_223_846_793_005)
-        .wrapping_add(1_442_695_040_888_963_407);
-    (*state >> 33) % bound.max(1)
-}
 
 fn drawn_edge(state: &mut u64, u: u64, v: u64, capacity: u64) -> RawEdge {
     RawEdge {

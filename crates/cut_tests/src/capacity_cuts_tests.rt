@@ -1,29 +1,17 @@
 // Violated sets of small instances, and the level sets of their distances.
-ghost use Rattle.std.specs.Prelude.{◌≡◌};
-ghost use Rattle.deadhead_paths.specs.Prices.{costs_of};
-
 use capacity_cuts::{find_components, find_fractional, shells};
-use carp_base::{Instance, RawEdge};
-use cut_pool::{Shore, Weighted};
+use carp_base::Instance;
+use cut_pool::Shore;
 use deadhead_paths::{cost_prices, distances};
 use edge_components::are_parts;
 use road_network::Network;
+use samples::street;
 use std::alloc::Global;
 use std::process::Abort;
 use std::test::Fail;
 
-fn edge(u: u64, v: u64, cost: u64, demand: u64) -> RawEdge {
-    RawEdge {
-        u,
-        v,
-        cost,
-        demand,
-        service: cost,
-    }
-}
-
 // Whether the shore has just these vertices.
-fn is_shore(shore: &Shore, vertices: &[u32]) -> bool {
+pub(crate) fn is_shore(shore: &Shore, vertices: &[u32]) -> bool {
     if shore.len() != vertices.len() {
         return false;
     }
@@ -56,8 +44,8 @@ fn expect_shells(
 
 // Two streets of cost 3 and 4 in a row, of demand 2 each, and vehicles for one of them.
 fn row(alloc: Global) -> Result<Instance, Fail> {
-    let street = [edge(1, 2, 3, 2), edge(2, 3, 4, 2)];
-    Ok(Instance::build(alloc, 3, 1, 2, &street, &[])?)
+    let streets = [street(1, 2, 3, 2), street(2, 3, 4, 2)];
+    Ok(Instance::build(alloc, 3, 1, 2, &streets, &[])?)
 }
 
 #[test]
@@ -71,8 +59,8 @@ fn level_sets_of_a_row(rt: HostRuntime) -> Result<(), Fail> {
 #[test]
 fn level_sets_of_equal_distances(rt: HostRuntime) -> Result<(), Fail> {
     let alloc = rt.alloc();
-    let streets = [edge(1, 2, 3, 1), edge(1, 4, 3, 1), edge(1, 3, 0, 1)];
-    let inst = Instance::build(alloc, 6, 1, 2, &streets, &[edge(4, 6, 2, 0)])?;
+    let streets = [street(1, 2, 3, 1), street(1, 4, 3, 1), street(1, 3, 0, 1)];
+    let inst = Instance::build(alloc, 6, 1, 2, &streets, &[street(4, 6, 2, 0)])?;
     expect_shells(&rt, alloc, &inst, &[(&[2, 4, 6], 3), (&[6], 2)])?;
     let alone = Instance::build(alloc, 1, 1, 1, &[], &[])?;
     expect_shells(&rt, alloc, &alone, &[])
@@ -100,8 +88,8 @@ fn expect_fractional(
 #[test]
 fn a_ring_is_violated_as_a_whole(rt: HostRuntime) -> Result<(), Fail> {
     let alloc = rt.alloc();
-    let ring = [edge(2, 3, 1, 2), edge(3, 4, 1, 2), edge(4, 2, 1, 2)];
-    let inst = Instance::build(alloc, 4, 1, 5, &ring, &[edge(1, 2, 10, 0)])?;
+    let ring = [street(2, 3, 1, 2), street(3, 4, 1, 2), street(4, 2, 1, 2)];
+    let inst = Instance::build(alloc, 4, 1, 5, &ring, &[street(1, 2, 10, 0)])?;
     expect_fractional(&rt, alloc, &inst, &[0, 0, 0, 0], &[2, 3, 4])?;
     expect_fractional(&rt, alloc, &inst, &[0, 0, 0, 3], &[3, 4])?;
     expect_fractional(&rt, alloc, &inst, &[1, 0, 0, 3], &[])?;

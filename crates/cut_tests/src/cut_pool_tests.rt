@@ -1,21 +1,11 @@
 ghost use Rattle.cut_pool.specs.Shores.{IsShore};
 
-use carp_base::{Fail as Refusal, Instance, RawEdge};
+use carp_base::{Fail as Refusal, Instance};
 use cut_pool::{PoolFull, Shore, ShorePool, need, required_crossings, touched};
+use samples::street;
 use std::alloc::Global;
 use std::process::Abort;
 use std::test::Fail;
-
-// An edge whose service costs what a crossing costs.
-fn edge(u: u64, v: u64, cost: u64, demand: u64) -> RawEdge {
-    RawEdge {
-        u,
-        v,
-        cost,
-        demand,
-        service: cost,
-    }
-}
 
 // So many required edges have one end among the vertices, and so much demand an end; so many deadheads are needed there.
 fn expect_border(
@@ -39,12 +29,12 @@ fn expect_border(
 #[test]
 fn borders_need_vehicles_and_parity(rt: HostRuntime) -> Result<(), Fail> {
     let alloc = rt.alloc();
-    let side_by_side = [edge(1, 2, 5, 3), edge(1, 2, 8, 3)];
+    let side_by_side = [street(1, 2, 5, 3), street(1, 2, 8, 3)];
     let inst = Instance::build(alloc, 2, 1, 5, &side_by_side, &[])?;
     expect_border(&rt, alloc, &inst, &[2], (2, 6, 2))?;
 
-    let street = [edge(1, 2, 3, 2), edge(2, 3, 4, 2)];
-    let inst = Instance::build(alloc, 3, 1, 2, &street, &[])?;
+    let row = [street(1, 2, 3, 2), street(2, 3, 4, 2)];
+    let inst = Instance::build(alloc, 3, 1, 2, &row, &[])?;
     expect_border(&rt, alloc, &inst, &[2, 3], (1, 4, 3))?;
     expect_border(&rt, alloc, &inst, &[3], (1, 2, 1))?;
     expect_border(&rt, alloc, &inst, &[2], (2, 4, 2))
@@ -53,19 +43,19 @@ fn borders_need_vehicles_and_parity(rt: HostRuntime) -> Result<(), Fail> {
 #[test]
 fn borders_of_other_edges_need_vehicles(rt: HostRuntime) -> Result<(), Fail> {
     let alloc = rt.alloc();
-    let ring = [edge(2, 3, 1, 2), edge(3, 4, 1, 2), edge(4, 2, 1, 2)];
-    let inst = Instance::build(alloc, 4, 1, 5, &ring, &[edge(1, 2, 10, 0)])?;
+    let ring = [street(2, 3, 1, 2), street(3, 4, 1, 2), street(4, 2, 1, 2)];
+    let inst = Instance::build(alloc, 4, 1, 5, &ring, &[street(1, 2, 10, 0)])?;
     expect_border(&rt, alloc, &inst, &[2, 3, 4], (0, 6, 4))?;
     expect_border(&rt, alloc, &inst, &[3, 4], (2, 6, 2))?;
 
     let star = [
-        edge(2, 3, 1, 2),
-        edge(2, 4, 1, 2),
-        edge(2, 5, 1, 2),
-        edge(2, 6, 1, 2),
-        edge(2, 7, 1, 2),
+        street(2, 3, 1, 2),
+        street(2, 4, 1, 2),
+        street(2, 5, 1, 2),
+        street(2, 6, 1, 2),
+        street(2, 7, 1, 2),
     ];
-    let inst = Instance::build(alloc, 7, 1, 5, &star, &[edge(1, 2, 100, 0)])?;
+    let inst = Instance::build(alloc, 7, 1, 5, &star, &[street(1, 2, 100, 0)])?;
     expect_border(&rt, alloc, &inst, &[2, 3, 4, 5, 6, 7], (0, 10, 4))?;
     expect_border(&rt, alloc, &inst, &[3], (1, 2, 1))
 }
@@ -106,8 +96,8 @@ fn a_pool_numbers_in_the_order_of_discovery(rt: HostRuntime) -> Result<(), Fail>
 #[test]
 fn a_set_crosses_and_belongs(rt: HostRuntime) -> Result<(), Fail> {
     let alloc = rt.alloc();
-    let street = [edge(1, 2, 3, 2), edge(2, 3, 4, 2)];
-    let inst = Instance::build(alloc, 3, 1, 2, &street, &[])?;
+    let row = [street(1, 2, 3, 2), street(2, 3, 4, 2)];
+    let inst = Instance::build(alloc, 3, 1, 2, &row, &[])?;
     let shore = Shore::from_list(alloc, &[2, 3])?;
     let crossing = [shore.crosses(&inst.edge(1)), shore.crosses(&inst.edge(2))];
     assert_eq!(rt; crossing, [true, false]);

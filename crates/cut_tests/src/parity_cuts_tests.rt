@@ -1,6 +1,6 @@
 // Odd components of small instances.
+use crate::capacity_cuts_tests::is_shore;
 use carp_base::{Instance, RawEdge};
-use cut_pool::Shore;
 use parity_cuts::find;
 use road_network::Network;
 use std::alloc::Global;
@@ -15,19 +15,6 @@ fn edge(u: u64, v: u64) -> RawEdge {
         demand: 1,
         service: 5,
     }
-}
-
-// Whether the shore has just these vertices.
-fn is_shore(shore: &Shore, vertices: &[u32]) -> bool {
-    if shore.len() != vertices.len() {
-        return false;
-    }
-    for i in 0..shore.len() {
-        if shore.vertex(i) != vertices[i] {
-            return false;
-        }
-    }
-    true
 }
 
 // The odd components of the edges with positive x are just these.

@@ -2,6 +2,7 @@
 ghost use Rattle.std.specs.Prelude.{◌≡◌};
 ghost use Rattle.cut_pool.specs.Shores.{IsShore};
 
+use crate::capacity_cuts_tests::is_shore;
 use carp_base::{Instance, Memory, RawEdge};
 use cut_pool::Shore;
 use shore_program::Program;
@@ -48,19 +49,6 @@ fn offer(
         Ok(added) => Ok(added),
         Err(_) => Err(Memory),
     }
-}
-
-// Whether the shore has just these vertices.
-fn is_shore(shore: &Shore, vertices: &[u32]) -> bool {
-    if shore.len() != vertices.len() {
-        return false;
-    }
-    for i in 0..shore.len() {
-        if shore.vertex(i) != vertices[i] {
-            return false;
-        }
-    }
-    true
 }
 
 // The program gives these shores with these weights, in parts of one million.

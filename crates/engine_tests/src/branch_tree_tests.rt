@@ -4,22 +4,13 @@ ghost use Rattle.short_plans.specs.Shorts.{IsShortPlan};
 ghost use Rattle.branch_tree.specs.Searches.{IsSearch};
 
 use branch_tree::{Search, Turn};
-use carp_base::{Instance, Memory, RawEdge};
+use carp_base::{Instance, Memory};
 use deadhead_paths::tidy;
 use plan_model::{JudgeRoom, Plan, Step, Verdict, Walk, judge, verdicts_are_exact};
+use samples::street;
 use std::alloc::Global;
 use std::test::Fail;
 use task_tours::cost_distances;
-
-fn street(u: u64, v: u64, cost: u64, demand: u64) -> RawEdge {
-    RawEdge {
-        u,
-        v,
-        cost,
-        demand,
-        service: cost,
-    }
-}
 
 fn one_vertex(alloc: Global) -> Result<Instance, Fail> {
     Ok(Instance::build(alloc, 1, 1, 1, &[], &[])?)

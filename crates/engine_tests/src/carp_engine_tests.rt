@@ -2,21 +2,12 @@
 ghost use Rattle.std.specs.Prelude.{◌≤◌};
 
 use branch_rules::Node;
-use carp_base::{Instance, RawEdge};
+use carp_base::Instance;
 use carp_engine::{Solved, solve};
 use plan_model::Proposer;
+use samples::street;
 use std::alloc::Global;
 use std::test::Fail;
-
-fn street(u: u64, v: u64, cost: u64, demand: u64) -> RawEdge {
-    RawEdge {
-        u,
-        v,
-        cost,
-        demand,
-        service: cost,
-    }
-}
 
 // The streets 1-2, 2-3 and 1-3 of costs 5, 7 and 4: single tours cost 34, and one tour round them 16.
 fn triangle(alloc: Global) -> Result<Instance, Fail> {

@@ -4,19 +4,12 @@ use branch_rules::Branch;
 use carp_base::{Instance, RawEdge};
 use cut_pool::ShorePool;
 use floor_prices::shell_prices;
+use samples::draw;
 use std::alloc::Global;
 use std::test::Fail;
 
 // No distance is so far.
 const FAR: u64 = 1000;
-
-// The next number of a generator, below a bound.
-fn draw(state: &mut u64, bound: u64) -> u64 {
-    *state = state
-        .wrapping_mul(6_364_136_223_846_793_005)
-        .wrapping_add(1_442_695_040_888_963_407);
-    (*state >> 33) % bound.max(1)
-}
 
 // Streets between different vertices 1 to 6 that are drawn.
 fn drawn_streets(alloc: Global, state: &mut u64, count: u64) -> Result<Vec<RawEdge>, Fail> {

@@ -3,25 +3,16 @@ ghost use Rattle.std.specs.Prelude.{◌≡◌, IfOk};
 ghost use Rattle.deadhead_paths.specs.Prices.{costs_of};
 
 use branch_rules::Branch;
-use carp_base::{Instance, RawEdge};
+use carp_base::Instance;
 use cut_pool::ShorePool;
 use deadhead_paths::{Distances, cost_prices, distances};
 use floor_prices::{join_prices, ratio_prices, shell_prices};
 use road_network::Network;
 use route_pricing::Table;
+use samples::street;
 use std::alloc::Global;
 use std::process::Abort;
 use std::test::Fail;
-
-fn street(u: u64, v: u64, cost: u64, demand: u64) -> RawEdge {
-    RawEdge {
-        u,
-        v,
-        cost,
-        demand,
-        service: cost,
-    }
-}
 
 // The distances by cost.
 pub(crate) fn ways(alloc: Global, inst: &Instance) -> Result<Distances, Fail>

@@ -5,10 +5,11 @@ ghost use Rattle.plan_model.specs.declared.step.Step.{Step};
 ghost use Rattle.plan_model.specs.Offers.{AfterOffer};
 ghost use Rattle.plan_model.specs.Verdicts.{IsVerdict};
 
-use carp_base::{Instance, Memory, RawEdge};
+use carp_base::{Instance, Memory};
 use deadhead_paths::{single_tours, tidy};
 use helper_rounds::{Heard, ask_all, consult, dismiss};
 use plan_model::{JudgeRoom, Plan, Proposer, Step, Verdict, Walk, judge, verdicts_are_exact};
+use samples::street;
 use std::alloc::Global;
 use std::test::Fail;
 use task_tours::{Standing, cost_distances, lawful_cost};
@@ -121,16 +122,6 @@ fn plan_of(alloc: Global, services: &[(u32, bool)]) -> Result<Plan, Memory> {
     let mut plan = Plan::new(alloc);
     plan.push(walk)?;
     Ok(plan)
-}
-
-fn street(u: u64, v: u64, cost: u64, demand: u64) -> RawEdge {
-    RawEdge {
-        u,
-        v,
-        cost,
-        demand,
-        service: cost,
-    }
 }
 
 // The streets 1-2, 2-3 and 1-3 of costs 5, 7 and 4: single tours cost 34, and one tour round them 16.

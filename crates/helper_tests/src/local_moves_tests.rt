@@ -5,6 +5,7 @@ use carp_base::{Instance, Memory, RawEdge};
 use deadhead_paths::single_tours;
 use local_moves::{Mover, settle};
 use plan_model::{JudgeRoom, Plan, Proposer, Step, Verdict, Walk, judge, verdicts_are_exact};
+use samples::street;
 use std::alloc::Global;
 use std::mem;
 use std::process::Abort;
@@ -12,20 +13,9 @@ use std::test::Fail;
 use task_tours::{cost_distances, lawful_cost};
 use town_maker::town;
 
-// An edge whose service costs as much as a crossing.
-fn loaded(u: u64, v: u64, cost: u64, demand: u64) -> RawEdge {
-    RawEdge {
-        u,
-        v,
-        cost,
-        demand,
-        service: cost,
-    }
-}
-
 // The same with a demand of 1.
 fn street(u: u64, v: u64, cost: u64) -> RawEdge {
-    loaded(u, v, cost, 1)
+    street(u, v, cost, 1)
 }
 
 // A plan from a text. A sign and a digit are a step on the edge of that number: `+` serves it forward, `-` serves it backward,
@@ -162,14 +152,14 @@ fn offers_a_settled_plan(rt: HostRuntime) -> Result<(), Fail> {
 fn stirs_what_is_settled(rt: HostRuntime) -> Result<(), Fail> {
     let alloc = rt.alloc();
     let required = [
-        loaded(2, 4, 1, 2),
-        loaded(2, 5, 1, 1),
-        loaded(2, 6, 1, 1),
-        loaded(3, 7, 1, 1),
-        loaded(3, 8, 1, 1),
-        loaded(3, 9, 1, 2),
+        street(2, 4, 1, 2),
+        street(2, 5, 1, 1),
+        street(2, 6, 1, 1),
+        street(3, 7, 1, 1),
+        street(3, 8, 1, 1),
+        street(3, 9, 1, 2),
     ];
-    let ways = [loaded(1, 2, 100, 0), loaded(1, 3, 100, 0)];
+    let ways = [street(1, 2, 100, 0), street(1, 3, 100, 0)];
     let inst = Instance::build(alloc, 9, 1, 4, &required, &ways)?;
     let text = ">7+1<1<7>8+6<6<8;>7+2<2+3<3<7>8+4<4+5<5<8;";
     let best = plan_of(&rt, alloc, text)?;

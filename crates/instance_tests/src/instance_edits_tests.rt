@@ -6,19 +6,10 @@ ghost use Rattle.instance_edits.specs.Texts.{IsShort};
 
 use carp_base::{Fail as Refusal, Instance, RawEdge};
 use instance_edits::{Edit, edited, edits_are_unique, read_edits};
+use samples::street;
 use std::alloc::{AllocError, Global};
 use std::fmt::Write;
 use std::test::Fail;
-
-fn raw(u: u64, v: u64, cost: u64, demand: u64) -> RawEdge {
-    RawEdge {
-        u,
-        v,
-        cost,
-        demand,
-        service: cost,
-    }
-}
 
 fn built(alloc: Global, required: &[RawEdge], others: &[RawEdge]) -> Result<Instance, Fail>
     requires few_required { length required.now < 2 ^ 32 }
@@ -34,8 +25,8 @@ fn built(alloc: Global, required: &[RawEdge], others: &[RawEdge]) -> Result<Inst
 fn triangle(alloc: Global) -> Result<Instance, Fail> {
     built(
         alloc,
-        &[raw(2, 3, 1, 2), raw(3, 4, 1, 2), raw(4, 2, 1, 2)],
-        &[raw(1, 2, 10, 0)],
+        &[street(2, 3, 1, 2), street(3, 4, 1, 2), street(4, 2, 1, 2)],
+        &[street(1, 2, 10, 0)],
     )
 }
 
@@ -43,8 +34,8 @@ fn triangle(alloc: Global) -> Result<Instance, Fail> {
 fn two_ways(alloc: Global) -> Result<Instance, Fail> {
     built(
         alloc,
-        &[raw(2, 3, 1, 2)],
-        &[raw(1, 2, 10, 0), raw(1, 3, 20, 0)],
+        &[street(2, 3, 1, 2)],
+        &[street(1, 2, 10, 0), street(1, 3, 20, 0)],
     )
 }
 

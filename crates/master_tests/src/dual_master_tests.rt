@@ -3,26 +3,17 @@ ghost use Rattle.std.specs.Prelude.{◌≡◌, IfOk};
 ghost use Rattle.deadhead_paths.specs.Prices.{costs_of};
 
 use branch_rules::{Branch, PriceSet};
-use carp_base::{Instance, RawEdge};
+use carp_base::Instance;
 use cut_pool::{Shore, ShorePool};
 use deadhead_paths::{Distances, cost_prices, distances};
 use dual_master::{floors, raise};
 use road_network::Network;
 use route_pricing::Table;
+use samples::street;
 use std::alloc::Global;
 use std::process::Abort;
 use std::test::Fail;
 use tight_prices::fits;
-
-fn street(u: u64, v: u64, cost: u64, demand: u64) -> RawEdge {
-    RawEdge {
-        u,
-        v,
-        cost,
-        demand,
-        service: cost,
-    }
-}
 
 // The distances by cost.
 fn ways(alloc: Global, inst: &Instance, net: &Network) -> Result<Distances, Fail>

@@ -4,6 +4,7 @@ use cut_pool::required_crossings;
 use deadhead_paths::{cost_prices, distances};
 use matching_duals::{JoinBound, join_bound};
 use road_network::Network;
+use samples::draw;
 use std::alloc::Global;
 use std::process::Abort;
 use std::test::Fail;
@@ -208,14 +209,6 @@ fn a_ring_with_two_dead_ends(rt: HostRuntime) -> Result<(), Fail> {
     ];
     let inst = Instance::build(alloc, 5, 1, 5, &required, &[])?;
     expect(&rt, alloc, &inst, &[0, 0, 0, 1, 1], 12)
-}
-
-// The next number of a generator, below a bound.
-fn draw(state: &mut u64, bound: u64) -> u64 {
-    *state = state
-        .wrapping_mul(6_364_136_223_846_793_005)
-        .wrapping_add(1_442_695_040_888_963_407);
-    (*state >> 33) % bound.max(1)
 }
 
 // An instance of at most a hundred required edges and as many others, where that is lawful.

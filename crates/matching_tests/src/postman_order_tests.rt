@@ -1,16 +1,9 @@
 // Rounds of drawn instances beside all orders of their services.
 use crate::postman_tests::{instance_of, round_of};
 use carp_base::RawEdge;
+use samples::draw;
 use std::alloc::Global;
 use std::test::Fail as Failure;
-
-// The next number of a generator, below a bound.
-fn draw(state: &mut u64, bound: u64) -> u64 {
-    *state = state
-        .wrapping_mul(6_364_136_223_846_793_005)
-        .wrapping_add(1_442_695_040_888_963_407);
-    (*state >> 33) % bound.max(1)
-}
 
 // Streets between different vertices 1 to 5 that are drawn.
 fn drawn_streets(alloc: Global, state: &mut u64, count: u64) -> Result<Vec<RawEdge>, Failure> {

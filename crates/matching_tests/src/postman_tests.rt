@@ -2,9 +2,10 @@
 use carp_base::{Fail, Instance, RawEdge};
 use cut_pool::Weighted;
 use deadhead_paths::{cost_prices, distances};
-use plan_model::{Step, Walk};
+use plan_model::Walk;
 use postman::{Round, postman};
 use road_network::Network;
+use samples::walk_text;
 use std::alloc::{AllocError, Global};
 use std::process::Abort;
 use std::test::Fail as Failure;
@@ -49,27 +50,6 @@ fn halves(shores: &[Weighted]) -> i64 {
         sum = sum.saturating_add(s.weight);
     }
     sum
-}
-
-fn sign_of(step: Step) -> u8 {
-    match (step.served, step.forward) {
-        (true, true) => b'+',
-        (true, false) => b'-',
-        (false, true) => b'>',
-        (false, false) => b'<',
-    }
-}
-
-// A walk as text. A sign and a digit are a step on the edge of that number: `+` serves it forward, `-` serves it backward,
-// `>` crosses it forward and `<` backward.
-fn text_of(alloc: Global, walk: &Walk) -> Result<Vec<u8>, AllocError> {
-    let mut text = Vec::new(alloc);
-    for i in 0..walk.len() {
-        let step = walk.step(i);
-        text.push(sign_of(step))?;
-        text.push(b'0' + (step.edge % 10) as u8)?;
-    }
-    Ok(text)
 }
 
 pub(crate) fn round_of(alloc: Global, inst: &Instance) -> Result<Result<Round, String>, Failure> {
@@ -170,7 +150,7 @@ fn walks_out_and_back(rt: HostRuntime) -> Result<(), Failure> {
     let Ok(round) = round_of(alloc, &inst)? else {
         panic!(rt; "it is joined");
     };
-    let text = text_of(alloc, &round.walk)?;
+    let text = walk_text(alloc, &round.walk)?;
     let text = text.as_slice();
     assert!(rt; text == b"+1<1".as_slice() || text == b">1-1".as_slice());
     Ok(())

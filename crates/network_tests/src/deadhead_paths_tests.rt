@@ -6,6 +6,7 @@ use carp_base::{Instance, Memory, RawEdge};
 use deadhead_paths::{Distances, cost_prices, distances, single_tours, tidy};
 use plan_model::{JudgeRoom, Plan, Step, Verdict, Walk, judge};
 use road_network::Network;
+use samples::plan_text;
 use std::alloc::{AllocError, Global};
 use std::process::Abort;
 use std::test::Fail;
@@ -245,30 +246,6 @@ fn step_of(sign: u8, edge: u8) -> Step {
     }
 }
 
-fn sign_of(step: Step) -> u8 {
-    match (step.served, step.forward) {
-        (true, true) => b'+',
-        (true, false) => b'-',
-        (false, true) => b'>',
-        (false, false) => b'<',
-    }
-}
-
-// The text of a plan, read back from it.
-fn text_of(alloc: Global, plan: &Plan) -> Result<Vec<u8>, AllocError> {
-    let mut text = Vec::new(alloc);
-    for i in 0..plan.len() {
-        let walk = plan.walk(i);
-        for j in 0..walk.len() {
-            let step = walk.step(j);
-            text.push(sign_of(step))?;
-            text.push(b'0' + (step.edge % 10) as u8)?;
-        }
-        text.push(b';')?;
-    }
-    Ok(text)
-}
-
 // Three edges to serve, round a triangle, and a dead end.
 fn triangle(rt: &impl Abort, alloc: Global) -> Instance {
     let required = [street(1, 2, 5), street(2, 3, 7), street(1, 3, 4)];
@@ -308,7 +285,7 @@ fn expect_tidied(
     };
     assert_eq!(rt; cost, before.1);
     let tidied = tidy(alloc, &inst, &dist, &plan)?;
-    assert_eq!(rt; text_of(alloc, &tidied)?.as_slice(), after.0.as_bytes());
+    assert_eq!(rt; plan_text(alloc, &tidied)?.as_slice(), after.0.as_bytes());
     expect_lawful(rt, alloc, &inst, &tidied, after.1)
 }
 
@@ -332,7 +309,7 @@ fn serves_each_edge_in_a_tour(rt: HostRuntime) -> Result<(), Fail> {
     let dist = cost_table(alloc, &inst)?;
     let plan = single_tours(alloc, &inst, &dist)?;
     assert_eq!(rt;
-        text_of(alloc, &plan)?.as_slice(),
+        plan_text(alloc, &plan)?.as_slice(),
         b"+1<1;>1+2<3;+3<3;".as_slice()
     );
     expect_lawful(&rt, alloc, &inst, &plan, 34)

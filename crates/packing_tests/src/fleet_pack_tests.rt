@@ -1,22 +1,13 @@
 // `pack` on small instances, worked by hand or by trying all groupings.
 ghost use Rattle.std.specs.Prelude.{◌≡◌, ◌≤◌, length};
 
-use carp_base::{Instance, RawEdge};
+use carp_base::Instance;
 use fleet_pack::pack;
 use packing_trees::{PackAnswer, Packing, check_pack};
+use samples::street;
 use std::alloc::Global;
 use std::process::Abort;
 use std::test::Fail;
-
-fn street(u: u64, v: u64, cost: u64, demand: u64) -> RawEdge {
-    RawEdge {
-        u,
-        v,
-        cost,
-        demand,
-        service: cost,
-    }
-}
 
 // What is found within so many turns, where the check accepts it.
 fn accepted(alloc: Global, inst: &Instance, turns: u64) -> Result<Packing, Fail>

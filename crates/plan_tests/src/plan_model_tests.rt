@@ -2,20 +2,10 @@ ghost use Rattle.std.specs.Prelude.{◌<◌, length};
 
 use carp_base::{Instance, Memory, RawEdge};
 use plan_model::{JudgeRoom, Plan, Step, Verdict, Walk, judge};
+use samples::street;
 use std::alloc::Global;
 use std::process::Abort;
 use std::test::Fail;
-
-// An edge whose service costs what a crossing costs.
-fn edge(u: u64, v: u64, cost: u64, demand: u64) -> RawEdge {
-    RawEdge {
-        u,
-        v,
-        cost,
-        demand,
-        service: cost,
-    }
-}
 
 // The plan of these walks. A sign and a digit are a step on the edge of that number: `+` serves it forward, `-` serves
 // it backward, `>` crosses it forward and `<` backward. A semicolon ends each walk.
@@ -65,7 +55,7 @@ fn expect_verdicts(
 #[test]
 fn plans_have_their_verdicts(rt: HostRuntime) -> Result<(), Fail> {
     let alloc = rt.alloc();
-    let triangle = [edge(1, 2, 5, 1), edge(2, 3, 7, 1), edge(1, 3, 4, 1)];
+    let triangle = [street(1, 2, 5, 1), street(2, 3, 7, 1), street(1, 3, 4, 1)];
     let inst = Instance::build(alloc, 3, 1, 3, &triangle, &[])?;
     expect_verdicts(
         &rt,
@@ -81,8 +71,8 @@ fn plans_have_their_verdicts(rt: HostRuntime) -> Result<(), Fail> {
         ],
     )?;
 
-    let street = [edge(1, 2, 3, 2), edge(2, 3, 4, 2)];
-    let inst = Instance::build(alloc, 3, 1, 2, &street, &[])?;
+    let row = [street(1, 2, 3, 2), street(2, 3, 4, 2)];
+    let inst = Instance::build(alloc, 3, 1, 2, &row, &[])?;
     expect_verdicts(
         &rt,
         alloc,
@@ -109,10 +99,10 @@ fn plans_have_their_verdicts(rt: HostRuntime) -> Result<(), Fail> {
     )?;
 
     let parallel = [
-        edge(1, 2, 3, 1),
-        edge(1, 2, 3, 1),
-        edge(1, 2, 3, 1),
-        edge(1, 2, 3, 1),
+        street(1, 2, 3, 1),
+        street(1, 2, 3, 1),
+        street(1, 2, 3, 1),
+        street(1, 2, 3, 1),
     ];
     let inst = Instance::build(alloc, 2, 1, 1, &parallel, &[])?;
     expect_verdicts(
@@ -131,8 +121,8 @@ fn plans_have_their_verdicts(rt: HostRuntime) -> Result<(), Fail> {
 #[test]
 fn other_edges_are_crossed_and_not_served(rt: HostRuntime) -> Result<(), Fail> {
     let alloc = rt.alloc();
-    let ring = [edge(2, 3, 1, 2), edge(3, 4, 1, 2), edge(4, 2, 1, 2)];
-    let inst = Instance::build(alloc, 4, 1, 5, &ring, &[edge(1, 2, 10, 0)])?;
+    let ring = [street(2, 3, 1, 2), street(3, 4, 1, 2), street(4, 2, 1, 2)];
+    let inst = Instance::build(alloc, 4, 1, 5, &ring, &[street(1, 2, 10, 0)])?;
     expect_verdicts(
         &rt,
         alloc,
@@ -144,7 +134,7 @@ fn other_edges_are_crossed_and_not_served(rt: HostRuntime) -> Result<(), Fail> {
         ],
     )?;
 
-    let inst = Instance::build(alloc, 4, 1, 3, &ring, &[edge(1, 2, 10, 0)])?;
+    let inst = Instance::build(alloc, 4, 1, 3, &ring, &[street(1, 2, 10, 0)])?;
     expect_verdicts(
         &rt,
         alloc,
@@ -162,8 +152,8 @@ fn other_edges_are_crossed_and_not_served(rt: HostRuntime) -> Result<(), Fail> {
         ],
     )?;
 
-    let others = [edge(1, 3, 1, 0), edge(2, 3, 1, 0)];
-    let inst = Instance::build(alloc, 3, 1, 1, &[edge(1, 2, 1, 1)], &others)?;
+    let others = [street(1, 3, 1, 0), street(2, 3, 1, 0)];
+    let inst = Instance::build(alloc, 3, 1, 1, &[street(1, 2, 1, 1)], &others)?;
     expect_verdicts(
         &rt,
         alloc,
@@ -198,11 +188,11 @@ fn services_have_costs_of_their_own(rt: HostRuntime) -> Result<(), Fail> {
     // A service that costs more than a crossing, and one that costs nothing.
     let dear = RawEdge {
         service: 9,
-        ..edge(1, 2, 5, 1)
+        ..street(1, 2, 5, 1)
     };
     let free = RawEdge {
         service: 0,
-        ..edge(2, 3, 7, 2)
+        ..street(2, 3, 7, 2)
     };
     let inst = Instance::build(alloc, 3, 1, 3, &[dear, free], &[])?;
     expect_verdicts(

@@ -1,8 +1,9 @@
 // Tours of a triangle of streets, worked by hand, and the numbers of a helper.
 use carp_base::{Instance, RawEdge, Task};
 use deadhead_paths::single_tours;
-use plan_model::{Plan, Step, Walk};
-use std::alloc::{AllocError, Global};
+use plan_model::Plan;
+use samples::walk_text;
+use std::alloc::Global;
 use std::process::Abort;
 use std::test::Fail;
 use task_tours::{Standing, add_tour, cost_distances, ends, join, lawful_cost, least_cost};
@@ -27,27 +28,6 @@ fn task(edge: u32, forward: bool) -> Task {
     Task { edge, forward }
 }
 
-fn sign_of(step: Step) -> u8 {
-    match (step.served, step.forward) {
-        (true, true) => b'+',
-        (true, false) => b'-',
-        (false, true) => b'>',
-        (false, false) => b'<',
-    }
-}
-
-// A walk as text. A sign and a digit are a step on the edge of that number: `+` serves it forward, `-` serves it backward,
-// `>` crosses it forward and `<` backward.
-fn text_of(alloc: Global, walk: &Walk) -> Result<Vec<u8>, AllocError> {
-    let mut text = Vec::new(alloc);
-    for i in 0..walk.len() {
-        let step = walk.step(i);
-        text.push(sign_of(step))?;
-        text.push(b'0' + (step.edge % 10) as u8)?;
-    }
-    Ok(text)
-}
-
 fn expect_walk(
     rt: &impl Abort,
     alloc: Global,
@@ -60,7 +40,7 @@ fn expect_walk(
     assert!(rt; edges.contains(&first.edge) && edges.contains(&second.edge));
     let dist = cost_distances(alloc, inst)?;
     let walk = join(alloc, inst, &dist, &[first, second])?;
-    assert_eq!(rt; text_of(alloc, &walk)?.as_slice(), want.as_bytes());
+    assert_eq!(rt; walk_text(alloc, &walk)?.as_slice(), want.as_bytes());
     Ok(())
 }
 
@@ -131,11 +111,11 @@ fn adds_tours_to_a_plan(rt: HostRuntime) -> Result<(), Fail> {
     add_tour(alloc, &inst, &dist, &mut plan, &second)?;
     assert_eq!(rt; plan.len(), 2);
     assert_eq!(rt;
-        text_of(alloc, plan.walk(0))?.as_slice(),
+        walk_text(alloc, plan.walk(0))?.as_slice(),
         b">3-2-1".as_slice()
     );
     assert_eq!(rt;
-        text_of(alloc, plan.walk(1))?.as_slice(),
+        walk_text(alloc, plan.walk(1))?.as_slice(),
         b"+3<3".as_slice()
     );
     Ok(())

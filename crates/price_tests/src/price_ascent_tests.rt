@@ -6,24 +6,15 @@ ghost use Rattle.route_pricing.specs.Tables.{IsRoom};
 ghost use Rattle.shore_prices.specs.Proposals.{IsProposal};
 
 use branch_rules::{Branch, PriceSet};
-use carp_base::{Instance, Memory, RawEdge};
+use carp_base::{Instance, Memory};
 use cut_pool::ShorePool;
 use price_ascent::ascend;
 use road_network::Network;
 use route_pricing::Table;
+use samples::street;
 use std::alloc::Global;
 use std::test::Fail;
 use tight_prices::fits;
-
-fn street(u: u64, v: u64, cost: u64, demand: u64) -> RawEdge {
-    RawEdge {
-        u,
-        v,
-        cost,
-        demand,
-        service: cost,
-    }
-}
 
 // What is proposed from prices of 1 after up to so many fills.
 fn propose(

@@ -2,23 +2,14 @@
 ghost use Rattle.std.specs.Prelude.{◌≡◌, ◌≤◌};
 
 use branch_rules::{Branch, Decision};
-use carp_base::{Instance, RawEdge};
+use carp_base::Instance;
 use cut_pool::{Shore, ShorePool};
 use road_network::Network;
+use samples::street;
 use shore_prices::shore_prices;
 use std::alloc::Global;
 use std::process::Abort;
 use std::test::Fail;
-
-fn street(u: u64, v: u64, cost: u64, demand: u64) -> RawEdge {
-    RawEdge {
-        u,
-        v,
-        cost,
-        demand,
-        service: cost,
-    }
-}
 
 // The set that is proposed without decisions has just this value, in units of cost, with weights on so many shores.
 fn expect_value(

@@ -8,24 +8,15 @@ ghost use Rattle.decision_chains.specs.Pairs.{ArePairsIn};
 ghost use Rattle.decision_chains.specs.declared.decision.Decision.TheVariants.{No};
 
 use branch_rules::{Branch, Decision, PriceSet, Weight};
-use carp_base::{Instance, RawEdge};
+use carp_base::Instance;
 use cut_pool::{Shore, ShorePool};
 use road_network::Network;
 use route_pricing::Table;
+use samples::street;
 use std::alloc::Global;
 use std::process::Abort;
 use std::test::Fail;
 use tight_prices::{fits, tighten};
-
-fn street(u: u64, v: u64, cost: u64, demand: u64) -> RawEdge {
-    RawEdge {
-        u,
-        v,
-        cost,
-        demand,
-        service: cost,
-    }
-}
 
 // The row, with vehicles of a capacity.
 fn row(alloc: Global, capacity: u64) -> Result<Instance, Fail>

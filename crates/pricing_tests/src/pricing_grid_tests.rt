@@ -1,5 +1,5 @@
 // The rows of small grids.
-ghost use Rattle.std.specs.Prelude.{◌≡◌, ◌+◌, ◌<◌, length, All, IfOk, IsTrue};
+ghost use Rattle.std.specs.Prelude.{◌≡◌, ◌+◌, ◌<◌, All, IfOk, IsTrue};
 ghost use Rattle.pricing_grid.specs.Partial.{AreFilled, IsGrid};
 ghost use Rattle.pricing_grid.specs.Pricing.{IsGridRoom, IsServicePrice};
 
@@ -7,23 +7,14 @@ use carp_base::{Allowed, Instance, RawEdge};
 use deadhead_paths::{Distances, cost_prices, distances};
 use pricing_grid::{Grid, LIFT, NO_LABELS, UNREACHED};
 use road_network::Network;
+use samples::street;
 use std::alloc::Global;
 use std::process::Abort;
 use std::test::Fail;
 
 const LIMIT: i64 = 1_000_000_000_000_000;
 
-fn street(u: u64, v: u64, cost: u64, demand: u64) -> RawEdge {
-    RawEdge {
-        u,
-        v,
-        cost,
-        demand,
-        service: cost,
-    }
-}
-
-fn town(
+pub(crate) fn town(
     rt: &impl Abort,
     alloc: Global,
     vertices: u64,
@@ -38,7 +29,7 @@ fn town(
     }
 }
 
-fn are_prices(services: &[i64]) -> bool
+pub(crate) fn are_prices(services: &[i64]) -> bool
     ensures { IsTrue result → All IsServicePrice services.now }
 {
     services
@@ -47,7 +38,7 @@ fn are_prices(services: &[i64]) -> bool
 }
 
 // The distances of an instance, with costs as the prices of deadheads.
-fn least_ways(alloc: Global, inst: &Instance) -> Result<Distances, Fail>
+pub(crate) fn least_ways(alloc: Global, inst: &Instance) -> Result<Distances, Fail>
     ensures { IfOk result (λ dist. dist.problem ≡ inst.now) }
 {
     let net = Network::new(alloc, inst)?;

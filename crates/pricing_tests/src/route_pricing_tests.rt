@@ -1,63 +1,18 @@
 // Least tours of small towns, and tours of drawn ones, judged by distances alone.
-ghost use Rattle.std.specs.Prelude.{◌≡◌, ◌<◌, ◌≤◌, All, IfOk, IsTrue};
+ghost use Rattle.std.specs.Prelude.{◌≡◌, ◌<◌, ◌≤◌, IfOk};
 ghost use Rattle.route_pricing.specs.Tables.{IsReady, IsRoom};
-ghost use Rattle.pricing_grid.specs.Pricing.{IsServicePrice};
 
+use crate::pricing_grid_tests::{are_prices, least_ways, town};
 use carp_base::{Allowed, Edge, Instance, RawEdge, Task};
-use deadhead_paths::{Distances, cost_prices, distances};
-use road_network::Network;
+use deadhead_paths::Distances;
 use route_pricing::{Rate, Ratio, Table};
+use samples::street;
 use std::alloc::Global;
 use std::process::Abort;
 use std::test::Fail;
 
-const LIMIT: i64 = 1_000_000_000_000_000;
-
 // By itself the value, not a rate.
 const NOTHING: Rate = Rate { value: 0, load: 1 };
-
-fn street(u: u64, v: u64, cost: u64, demand: u64) -> RawEdge {
-    RawEdge {
-        u,
-        v,
-        cost,
-        demand,
-        service: cost,
-    }
-}
-
-fn town(
-    rt: &impl Abort,
-    alloc: Global,
-    vertices: u64,
-    capacity: u64,
-    required: &[RawEdge],
-    others: &[RawEdge],
-) -> Instance {
-    assert!(rt; required.len() < 10 && others.len() < 10);
-    match Instance::build(alloc, vertices, 1, capacity, required, others) {
-        Ok(inst) => inst,
-        Err(_) => panic!(rt; "no instance"),
-    }
-}
-
-fn are_prices(services: &[i64]) -> bool
-    ensures { IsTrue result → All IsServicePrice services.now }
-{
-    services
-        .iter()
-        .all(|price| -LIMIT <= *price && *price <= LIMIT)
-}
-
-// The distances of an instance, with costs as the prices of deadheads.
-fn least_ways(alloc: Global, inst: &Instance) -> Result<Distances, Fail>
-    ensures { IfOk result (λ dist. dist.problem ≡ inst.now) }
-{
-    let net = Network::new(alloc, inst)?;
-    let prices = cost_prices(alloc, inst)?;
-    let dist = distances(alloc, inst, &net, &prices)?;
-    Ok(dist)
-}
 
 // The table of an instance, with the unit 1.
 fn filled_by(

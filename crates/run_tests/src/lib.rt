@@ -3,8 +3,6 @@
 //! They stand in a crate of their own, since a crate with tests is proved twice.
 #![tactic(auto)]
 
-pub mod runs;
-
 #[cfg(test)]
 mod command_tests;
 #[cfg(test)]
@@ -15,6 +13,7 @@ mod failing_tests;
 mod file_tests;
 #[cfg(test)]
 mod outside_tests;
+pub mod runs;
 #[cfg(test)]
 mod tests;
 #[cfg(test)]

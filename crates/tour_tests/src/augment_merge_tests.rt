@@ -1,48 +1,13 @@
 // Plans of small instances, worked by hand, and what the helper offers.
 use augment_merge::{Merger, augment_merge};
-use carp_base::{Instance, RawEdge};
+use carp_base::Instance;
 use deadhead_paths::single_tours;
-use plan_model::{Plan, Proposer, Step};
-use std::alloc::{AllocError, Global};
+use plan_model::Proposer;
+use samples::{plan_text, street};
+use std::alloc::Global;
 use std::process::Abort;
 use std::test::Fail;
 use task_tours::{cost_distances, lawful_cost};
-
-// An edge whose service costs as much as a crossing.
-fn street(u: u64, v: u64, cost: u64, demand: u64) -> RawEdge {
-    RawEdge {
-        u,
-        v,
-        cost,
-        demand,
-        service: cost,
-    }
-}
-
-fn sign_of(step: Step) -> u8 {
-    match (step.served, step.forward) {
-        (true, true) => b'+',
-        (true, false) => b'-',
-        (false, true) => b'>',
-        (false, false) => b'<',
-    }
-}
-
-// A plan as text. A sign and a digit are a step on the edge of that number: `+` serves it forward, `-` serves it backward,
-// `>` crosses it forward and `<` backward. A semicolon ends each walk.
-fn text_of(alloc: Global, plan: &Plan) -> Result<Vec<u8>, AllocError> {
-    let mut text = Vec::new(alloc);
-    for i in 0..plan.len() {
-        let walk = plan.walk(i);
-        for j in 0..walk.len() {
-            let step = walk.step(j);
-            text.push(sign_of(step))?;
-            text.push(b'0' + (step.edge % 10) as u8)?;
-        }
-        text.push(b';')?;
-    }
-    Ok(text)
-}
 
 // The plan of an instance, as text, and its cost.
 fn expect(
@@ -54,7 +19,7 @@ fn expect(
 ) -> Result<(), Fail> {
     let dist = cost_distances(alloc, inst)?;
     let plan = augment_merge(alloc, inst, &dist)?;
-    assert_eq!(rt; text_of(alloc, &plan)?.as_slice(), text.as_bytes());
+    assert_eq!(rt; plan_text(alloc, &plan)?.as_slice(), text.as_bytes());
     assert_eq!(rt; lawful_cost(alloc, inst, &plan)?, cost);
     Ok(())
 }

@@ -1,25 +1,15 @@
 // Splits of small instances, worked by hand, and what the helper offers.
 ghost use Rattle.plan_model.specs.Plans.{IsLawful};
 
-use carp_base::{Instance, Memory, RawEdge};
+use carp_base::{Instance, Memory};
 use deadhead_paths::single_tours;
 use giant_split::{Splitter, order_of, split};
 use plan_model::{JudgeRoom, Plan, Proposer, Verdict, judge};
+use samples::street;
 use std::alloc::Global;
 use std::test::Fail;
 use task_tours::{cost_distances, lawful_cost, plans_are_tours};
 use town_maker::town;
-
-// An edge whose service costs as much as a crossing.
-fn street(u: u64, v: u64, cost: u64, demand: u64) -> RawEdge {
-    RawEdge {
-        u,
-        v,
-        cost,
-        demand,
-        service: cost,
-    }
-}
 
 // How many tours the split of the required edges by their numbers, each forward, has, and what it costs.
 fn split_by_numbers(alloc: Global, inst: &Instance) -> Result<(usize, u128), Memory> {

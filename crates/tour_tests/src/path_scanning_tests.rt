@@ -2,47 +2,12 @@
 use carp_base::{Instance, RawEdge};
 use deadhead_paths::single_tours;
 use path_scanning::{Rule, Scanner, scan};
-use plan_model::{JudgeRoom, Plan, Proposer, Step, Verdict, judge};
-use std::alloc::{AllocError, Global};
+use plan_model::{JudgeRoom, Plan, Proposer, Verdict, judge};
+use samples::{plan_text, street};
+use std::alloc::Global;
 use std::process::Abort;
 use std::test::Fail;
 use task_tours::cost_distances;
-
-// An edge whose service costs as much as a crossing.
-fn street(u: u64, v: u64, cost: u64, demand: u64) -> RawEdge {
-    RawEdge {
-        u,
-        v,
-        cost,
-        demand,
-        service: cost,
-    }
-}
-
-fn sign_of(step: Step) -> u8 {
-    match (step.served, step.forward) {
-        (true, true) => b'+',
-        (true, false) => b'-',
-        (false, true) => b'>',
-        (false, false) => b'<',
-    }
-}
-
-// A plan as text. A sign and a digit are a step on the edge of that number: `+` serves it forward, `-` serves it backward,
-// `>` crosses it forward and `<` backward. A semicolon ends each walk.
-fn text_of(alloc: Global, plan: &Plan) -> Result<Vec<u8>, AllocError> {
-    let mut text = Vec::new(alloc);
-    for i in 0..plan.len() {
-        let walk = plan.walk(i);
-        for j in 0..walk.len() {
-            let step = walk.step(j);
-            text.push(sign_of(step))?;
-            text.push(b'0' + (step.edge % 10) as u8)?;
-        }
-        text.push(b';')?;
-    }
-    Ok(text)
-}
 
 // The scans of an instance by some rules.
 fn expect_scans(
@@ -55,7 +20,7 @@ fn expect_scans(
     for &(rule, want) in wants {
         let plan = scan(alloc, inst, &dist, rule)?;
         assert_eq!(rt;
-            text_of(alloc, &plan)?.as_slice(),
+            plan_text(alloc, &plan)?.as_slice(),
             want.as_bytes(),
             "by {rule:?}"
         );
@@ -186,7 +151,7 @@ fn offers_the_cheapest_scan(rt: HostRuntime) -> Result<(), Fail> {
     match helper.propose(alloc, &inst, &best)? {
         Some(plan) => {
             assert_eq!(rt;
-                text_of(alloc, &plan)?.as_slice(),
+                plan_text(alloc, &plan)?.as_slice(),
                 b"+1+2<2<1;+3<3;".as_slice()
             );
             assert_eq!(rt; cost(&rt, alloc, &inst, &plan)?, 28);
