@@ -54,7 +54,7 @@ end
 ";
 
 // One street.
-fn street(alloc: Global) -> Result<Instance, Fail> {
+fn one_street(alloc: Global) -> Result<Instance, Fail> {
     Ok(Instance::build(alloc, 2, 1, 1, &[street(1, 2, 5, 1)], &[])?)
 }
 
@@ -231,7 +231,7 @@ fn good_certificates_are_accepted(rt: HostRuntime) -> Result<(), Fail> {
     let good = Answer::Accepted;
     expect(&rt, alloc, &triangle(alloc)?, TRIANGLE, AS_IT_IS, good)?;
     expect(&rt, alloc, &row(alloc)?, ROW, AS_IT_IS, good)?;
-    expect(&rt, alloc, &street(alloc)?, STREET, AS_IT_IS, good)?;
+    expect(&rt, alloc, &one_street(alloc)?, STREET, AS_IT_IS, good)?;
     expect(&rt, alloc, &ring(alloc, 3)?, RING, AS_IT_IS, good)?;
     expect(&rt, alloc, &ring(alloc, 5)?, WIDE_RING, AS_IT_IS, good)?;
     expect(&rt, alloc, &star(alloc)?, STAR, AS_IT_IS, good)?;
@@ -386,7 +386,14 @@ fn void_and_fixed_leaves_are_tested(rt: HostRuntime) -> Result<(), Fail> {
     let not_void = Answer::Rejected(Reason::NotVoid { node: 1 });
     expect(&rt, alloc, &inst, TRIANGLE, (11, "void"), not_void)?;
     let not_void = Answer::Rejected(Reason::NotVoid { node: 5 });
-    expect(&rt, alloc, &street(alloc)?, STREET, (16, "void"), not_void)?;
+    expect(
+        &rt,
+        alloc,
+        &one_street(alloc)?,
+        STREET,
+        (16, "void"),
+        not_void,
+    )?;
     let inst = ring(alloc, 3)?;
     let low = Reason::LeafLow {
         node: 1,

@@ -1,7 +1,7 @@
 // Plans that small changes make cheaper, worked by hand, and what the helper offers.
 ghost use Rattle.plan_model.specs.Plans.{IsLawful};
 
-use carp_base::{Instance, Memory, RawEdge};
+use carp_base::{Instance, Memory};
 use deadhead_paths::single_tours;
 use local_moves::{Mover, settle};
 use plan_model::{JudgeRoom, Plan, Proposer, Step, Verdict, Walk, judge, verdicts_are_exact};
@@ -12,11 +12,6 @@ use std::process::Abort;
 use std::test::Fail;
 use task_tours::{cost_distances, lawful_cost};
 use town_maker::town;
-
-// The same with a demand of 1.
-fn street(u: u64, v: u64, cost: u64) -> RawEdge {
-    street(u, v, cost, 1)
-}
 
 // A plan from a text. A sign and a digit are a step on the edge of that number: `+` serves it forward, `-` serves it backward,
 // `>` crosses it forward and `<` backward. A semicolon ends each walk.
@@ -74,7 +69,7 @@ fn expect_settled(rt: &impl Abort, alloc: Global, inst: &Instance, rows: &str) -
 
 #[test]
 fn settles_tours_of_a_triangle(rt: HostRuntime) -> Result<(), Fail> {
-    let required = [street(1, 2, 5), street(2, 3, 7), street(1, 3, 4)];
+    let required = [street(1, 2, 5, 1), street(2, 3, 7, 1), street(1, 3, 4, 1)];
     let inst = Instance::build(rt.alloc(), 3, 1, 3, &required, &[])?;
     // The best tour; three tours; two neighbours in the wrong order; and one service in the wrong direction.
     let rows = "\
@@ -87,14 +82,14 @@ fn settles_tours_of_a_triangle(rt: HostRuntime) -> Result<(), Fail> {
 
 #[test]
 fn turns_a_service(rt: HostRuntime) -> Result<(), Fail> {
-    let required = [street(1, 2, 5), street(2, 3, 7)];
-    let inst = Instance::build(rt.alloc(), 3, 1, 2, &required, &[street(1, 3, 4)])?;
+    let required = [street(1, 2, 5, 1), street(2, 3, 7, 1)];
+    let inst = Instance::build(rt.alloc(), 3, 1, 2, &required, &[street(1, 3, 4, 1)])?;
     expect_settled(&rt, rt.alloc(), &inst, "+1>2-2<1; 16")
 }
 
 #[test]
 fn moves_a_service_where_it_fits(rt: HostRuntime) -> Result<(), Fail> {
-    let required = [street(1, 2, 5), street(2, 3, 5)];
+    let required = [street(1, 2, 5, 1), street(2, 3, 5, 1)];
     let wide = Instance::build(rt.alloc(), 3, 1, 2, &required, &[])?;
     expect_settled(&rt, rt.alloc(), &wide, "+1<1;>1+2<2<1; 20")?;
     let narrow = Instance::build(rt.alloc(), 3, 1, 1, &required, &[])?;
@@ -104,10 +99,10 @@ fn moves_a_service_where_it_fits(rt: HostRuntime) -> Result<(), Fail> {
 #[test]
 fn swaps_services_of_full_tours(rt: HostRuntime) -> Result<(), Fail> {
     let required = [
-        street(1, 2, 5),
-        street(2, 3, 5),
-        street(1, 4, 5),
-        street(4, 5, 5),
+        street(1, 2, 5, 1),
+        street(2, 3, 5, 1),
+        street(1, 4, 5, 1),
+        street(4, 5, 5, 1),
     ];
     let inst = Instance::build(rt.alloc(), 5, 1, 2, &required, &[])?;
     expect_settled(&rt, rt.alloc(), &inst, "+1<1>3+4<4<3;+3<3>1+2<2<1; 40")
@@ -122,7 +117,7 @@ fn settles_a_plan_of_nothing(rt: HostRuntime) -> Result<(), Fail> {
 #[test]
 fn offers_a_settled_plan(rt: HostRuntime) -> Result<(), Fail> {
     let alloc = rt.alloc();
-    let required = [street(1, 2, 5), street(2, 3, 7), street(1, 3, 4)];
+    let required = [street(1, 2, 5, 1), street(2, 3, 7, 1), street(1, 3, 4, 1)];
     let inst = Instance::build(alloc, 3, 1, 3, &required, &[])?;
     let best = plan_of(&rt, alloc, "+1<1;>1+2<3;+3<3;")?;
     verdicts_are_exact();
