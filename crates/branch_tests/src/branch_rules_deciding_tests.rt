@@ -1,5 +1,5 @@
 // What small branches allow and settle, worked by hand.
-ghost use Rattle.std.specs.Prelude.IsTrue;
+ghost use Rattle.std.specs.Prelude.{IsTrue};
 ghost use Rattle.decision_chains.specs.Pairs.{ArePairsIn, HasPairWithin};
 ghost use Rattle.branch_rules.specs.Limits.{AreShoresIn, HasShoreOf, IsNodeIn};
 
