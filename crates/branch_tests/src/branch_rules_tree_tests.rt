@@ -30,7 +30,7 @@ fn no_pair_of_a_fixed_branch_may_be_split(rt: HostRuntime) -> Result<(), Fail> {
 fn a_shore_is_cut_twice(rt: HostRuntime) -> Result<(), Fail> {
     let alloc = rt.alloc();
     let inst = one_street(alloc)?;
-    let pool = other_vertex(&rt, alloc)?;
+    let pool = other_vertex(alloc)?;
     expect_nodes(&rt, alloc, &inst, &pool, "|c12|yes\n<12|c11|yes")?;
     expect_rows(&rt, alloc, &inst, &pool, "<12<11||f\n<12>11||v\n>12||f")
 }

@@ -7,7 +7,6 @@ use carp_base::Instance;
 use cut_pool::{Shore, ShorePool};
 use samples::street;
 use std::alloc::Global;
-use std::process::Abort;
 use std::test::Fail;
 
 /// A triangle of streets that one vehicle serves.
@@ -22,11 +21,11 @@ pub fn one_street(alloc: Global) -> Result<Instance, Fail> {
 }
 
 /// The pool of the shore of the other vertex of [`one_street`].
-pub fn other_vertex(rt: &impl Abort, alloc: Global) -> Result<ShorePool, Fail> {
+pub fn other_vertex(alloc: Global) -> Result<ShorePool, Fail> {
     let mut pool = ShorePool::new(alloc);
-    let number = pool.add(Shore::from_list(alloc, &[2])?);
-    let first = matches!(number, Ok(1));
-    assert!(rt; first);
+    let Ok(1) = pool.add(Shore::from_list(alloc, &[2])?) else {
+        return Err("the first shore")?;
+    };
     Ok(pool)
 }
 

@@ -323,7 +323,7 @@ fn a_tree_is_put_down_node_by_node(rt: HostRuntime) -> Result<(), Fail> {
 fn numbers_at_the_leaves(rt: HostRuntime) -> Result<(), Fail> {
     let alloc = rt.alloc();
     let inst = one_street(alloc)?;
-    let pool = other_vertex(&rt, alloc)?;
+    let pool = other_vertex(alloc)?;
     expect_numbers(&rt, alloc, &inst, &pool, "<12<11", 1, (1, Some(1)))?;
     expect_numbers(&rt, alloc, &inst, &pool, "<12>11", 1, (3, Some(2)))?;
     expect_numbers(&rt, alloc, &inst, &pool, ">12", 1, (3, None))
@@ -341,7 +341,7 @@ fn fives(alloc: Global) -> Result<PriceSet, Memory> {
 // Under these decisions a price and a weight of 5 have this value.
 fn expect_leaf(rt: &impl Abort, alloc: Global, decisions: &str, value: i128) -> Result<(), Fail> {
     let inst = one_street(alloc)?;
-    let pool = other_vertex(rt, alloc)?;
+    let pool = other_vertex(alloc)?;
     let branch = branch_of(alloc, decisions)?;
     expect_value(rt, &inst, &pool, &branch, &fives(alloc)?, Ok(value));
     Ok(())
