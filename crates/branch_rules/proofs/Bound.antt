@@ -13,9 +13,11 @@ use Rattle.plan_model.specs.Laws.{ServedOnceByNumber}
 use Rattle.plan_model.specs.Sums.{sum_to}
 use Rattle.decision_chains.specs.Neighbours.{served_edges}
 use Rattle.deadhead_paths.specs.Tours.{IsFollowed}
+use Rattle.branch_rules.specs.Bonds.{bond_weight, plan_bonds}
 use Rattle.branch_rules.specs.Prices.{weigh, KeepsRules, Prices, signed_sum, crosses_shore, price_in, task_adds, deadhead_price, Rules, weight_value, value_of}
 use Rattle.branch_rules.specs.declared.weight.Weight.{Weight}
 use Rattle.branch_rules.proofs.Signed.{signed_sum-append, signed_sum-none, signed_sum-split, product_up, product_down, sum_by-same}
+use Rattle.branch_rules.proofs.Bonding.{bonds_paid}
 use Rattle.std.proofs.lemmas.List.{take_all}
 
 module _ (p : Problem) (pool : List (List ℕ)) (set : Prices) where
@@ -123,13 +125,13 @@ module _ (p : Problem) (pool : List (List ℕ)) (set : Prices) where
             (λ sign. within_upper (rules.upper w.shore) _ (some.0 sign) keeps.0.most),
       )
 
-  -- a lawful walk whose services are allowed pays for them
+  -- a lawful walk whose services are allowed pays for them, with what its bonds weigh
   abbrev pub Pays : (ℕ → ℕ → Type 0) → Type 0
-  Pays allowed = (walk : List Step) → IsLawfulWalk p walk → ((a b : ℕ) → IsFollowed (served_edges walk) a b → allowed a b) → pos 0 ≤ℤ tour_price walk
+  Pays allowed = (walk : List Step) → IsLawfulWalk p walk → ((a b : ℕ) → IsFollowed (served_edges walk) a b → allowed a b) → pos 0 ≤ℤ (tour_price walk +ℤ pos (bond_weight set.groups (served_edges walk)))
 
   pub walks_paid : (allowed : ℕ → ℕ → Type 0) → Pays allowed →
       (plan : List (List Step)) → AllByRecursion (IsLawfulWalk p) plan → AllByRecursion (λ walk. (a b : ℕ) → IsFollowed (served_edges walk) a b → allowed a b) plan →
-      pos 0 ≤ℤ tour_price (steps_of plan)
+      pos 0 ≤ℤ (tour_price (steps_of plan) +ℤ pos (sum_by (λ walk. bond_weight set.groups (served_edges walk)) plan))
   walks_paid allowed pays [] lawful follow = omega (arith, ints)
   walks_paid allowed pays (walk ∷ plan) lawful follow =
       omega (
@@ -137,6 +139,7 @@ module _ (p : Problem) (pool : List (List ℕ)) (set : Prices) where
         ints,
         walks_paid allowed pays plan lawful.1 follow.1,
         signed_sum-append step_price walk (steps_of plan),
+        sum_by-cons (λ w. bond_weight set.groups (served_edges w)) walk plan,
         pays walk lawful.0 follow.0,
       )
 
@@ -146,8 +149,9 @@ module _ (p : Problem) (pool : List (List ℕ)) (set : Prices) where
       (plan : List (List Step)) → IsLawful p plan →
       AllByRecursion (λ walk. (a b : ℕ) → IsFollowed (served_edges walk) a b → allowed a b) plan →
       AllByRecursion (λ w. KeepsRules rules w.shore (count_by (deadheads_at w.shore) (steps_of plan))) set.weights →
+      ((group : List ℕ) → plan_bonds group plan ≤ rules.room group) →
       value_of rules set ≤ℤ pos (set.unit * plan_cost p plan)
-  value_le served_once rules allowed pays has_upper long plan lawful follow keeps =
+  value_le served_once rules allowed pays has_upper long plan lawful follow keeps rooms =
       omega (
         arith,
         ints,
@@ -155,4 +159,5 @@ module _ (p : Problem) (pool : List (List ℕ)) (set : Prices) where
         services_paid served_once plan lawful long,
         shores_paid rules set.weights (steps_of plan) has_upper keeps,
         walks_paid allowed pays plan lawful.walks follow,
+        bonds_paid set.groups plan rules.room rooms,
       )

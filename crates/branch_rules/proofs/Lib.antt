@@ -18,3 +18,4 @@ pub mod Turns
 pub mod Small
 pub mod SmallTrees
 pub mod Voiding
+pub mod Bonding

@@ -15,6 +15,7 @@ use Rattle.deadhead_paths.specs.Prices.{price_of}
 use Rattle.deadhead_paths.specs.Tidy.{served_steps, serves_some}
 use Rattle.deadhead_paths.specs.Tours.{IsFollowed, IsTaskTour, task_of, tasks_of, dead_price}
 use Rattle.decision_chains.specs.Neighbours.{served_edges}
+use Rattle.branch_rules.specs.Bonds.{bond_weight}
 use Rattle.branch_rules.specs.Prices.{signed_sum, Prices, PaysAtLeast, task_adds, deadhead_price, crossing_prices}
 use Rattle.branch_rules.proofs.Services.{map-cond}
 use Rattle.branch_rules.proofs.Bound.{tour_price, Pays}
@@ -75,7 +76,7 @@ module _ (p : Problem) (pool : List (List ℕ)) (set : Prices) (least : (e : ℕ
       }
 
   pub each_pays : IsValid p → WalkIsTaskTour → LeastDeadheadIsThere → LeastDeadheadIsLeast → (allowed : ℕ → ℕ → Type 0) →
-      PaysAtLeast p allowed (task_adds p set) crossing_price → Pays p pool set allowed
+      PaysAtLeast p allowed (task_adds p set) crossing_price set.groups → Pays p pool set allowed
   each_pays valid is_tour there below allowed pays walk lawful follow = elim (cases_Bool (serves_some walk)) [
     | inl serves ↦
         let tour = allowed_tour is_tour allowed walk lawful serves follow in
@@ -85,6 +86,7 @@ module _ (p : Problem) (pool : List (List ℕ)) (set : Prices) (least : (e : ℕ
           ints,
           price_splits p.depot p.depot walk lawful.leads,
           pays (tasks_of walk) deadhead.0 tour deadhead.1,
+          ap (bond_weight set.groups) (edges_of (served_steps walk)),
           below p crossing_price p.depot p.depot walk deadhead.0 lawful.leads deadhead.1,
         )
     | inr none ↦

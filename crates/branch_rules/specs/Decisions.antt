@@ -9,6 +9,7 @@ use Rattle.cut_pool.specs.Shores.{is_in, need, required_crossings}
 use Rattle.cut_pool.specs.Pools.{shore_at}
 use Rattle.decision_chains.specs.Neighbours.{AreNeighbours}
 use Rattle.decision_chains.specs.Exclusions.{IsYes, HasTwoOthers, Detour, IsHeavy, IsDetermined}
+use Rattle.branch_rules.specs.Bonds.{room}
 use Rattle.branch_rules.specs.Prices.{Rules}
 use Rattle.decision_chains.specs.declared.decision.Decision.{Decision}
 use Rattle.decision_chains.specs.declared.decision.Decision.TheVariants.{Yes, No, Low, High}
@@ -51,9 +52,9 @@ lower_of p pool branch shore =
     let inside = is_in (shore_at pool shore) in
     to_parity (required_crossings p inside) (max (need p inside) (highest shore branch))
 
--- the lower and upper numbers under a branch
+-- the lower and upper numbers under a branch, and the room of groups, which is the same under each
 abbrev pub rules_of : Problem → List (List ℕ) → List Decision → Rules
-rules_of p pool branch = record { lower = lower_of p pool branch; upper = λ shore. lowest shore branch }
+rules_of p pool branch = record { lower = lower_of p pool branch; upper = λ shore. lowest shore branch; room = room p }
 
 -- why no lawful plan meets the branch: an edge has three yes neighbours or more; yes pairs form a cycle; a chain is above the
 -- capacity; or the upper number of a shore is below its lower number

@@ -2,6 +2,7 @@
 use Rattle.std.specs.Prelude.{ℕ, pos, negsuc, Bool, true, false, List, [], ◌∷◌}
 use Rattle.plan_model.specs.declared.step.Step.{Step}
 use Rattle.deadhead_paths.specs.Examples.{town, serve, homeward}
+use Rattle.branch_rules.specs.Bonds.{GroupWeight}
 use Rattle.branch_rules.specs.Prices.{Prices}
 use Rattle.branch_rules.specs.Trees.{Support}
 
@@ -30,15 +31,26 @@ town_plan = (serve ∷ homeward ∷ []) ∷ []
 
 -- a price of 7 for the service, and a weight of 5 on the shore
 abbrev pub town_prices : Prices
-town_prices = record { unit = 1; services = pos 7 ∷ []; weights = record { shore = 1; weight = pos 5 } ∷ [] }
+town_prices = record { unit = 1; services = pos 7 ∷ []; weights = record { shore = 1; weight = pos 5 } ∷ []; groups = [] }
 
 -- the weight is above what it costs to cross the street
 abbrev pub heavy_prices : Prices
-heavy_prices = record { unit = 1; services = pos 7 ∷ []; weights = record { shore = 1; weight = pos 6 } ∷ [] }
+heavy_prices = record { unit = 1; services = pos 7 ∷ []; weights = record { shore = 1; weight = pos 6 } ∷ []; groups = [] }
 
 -- the weight is negative
 abbrev pub light_prices : Prices
-light_prices = record { unit = 1; services = pos 7 ∷ []; weights = record { shore = 1; weight = negsuc 0 } ∷ [] }
+light_prices = record { unit = 1; services = pos 7 ∷ []; weights = record { shore = 1; weight = negsuc 0 } ∷ []; groups = [] }
+
+-- a group of two streets, and a weight of 3 on its bonds
+abbrev pub row : List ℕ
+row = 1 ∷ 2 ∷ []
+
+abbrev pub row_weights : List GroupWeight
+row_weights = record { edges = row; weight = 3 } ∷ []
+
+-- a price of 4 for each of the two streets
+abbrev pub row_prices : Prices
+row_prices = record { unit = 1; services = pos 4 ∷ pos 4 ∷ []; weights = []; groups = row_weights }
 
 abbrev pub town_support : Support
 town_support = record { problem = town; pool = town_pool; sets = town_prices ∷ [] }

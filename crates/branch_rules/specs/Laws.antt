@@ -5,7 +5,8 @@ use Rattle.carp_base.specs.Problem.{Problem, IsValid}
 use Rattle.plan_model.specs.Plans.{IsLawful, plan_cost, deadheads_over}
 use Rattle.plan_model.specs.Laws.{IsLowerBound}
 use Rattle.plan_model.specs.declared.step.Step.{Step}
-use Rattle.cut_pool.specs.Shores.{is_in}
+use Rattle.cut_pool.specs.Shores.{is_in, vehicles}
+use Rattle.branch_rules.specs.Bonds.{GroupWeight, IsApart, bond_weight, group_demand, plan_bonds, surcharge, surcharges}
 use Rattle.decision_chains.specs.Neighbours.{AreNeighbours}
 use Rattle.branch_rules.specs.Prices.{Prices, Fits, KeepsRules, value_of}
 use Rattle.cut_pool.specs.Pools.{shore_at}
@@ -25,6 +26,23 @@ pub record IsMet (p : Problem) (pool : List (List ℕ)) (branch : List Decision)
   pub no_depot : NoDepot p pool
   pub lawful : IsLawful p plan
   pub meets : MeetsAll p pool plan branch
+
+-- no lawful plan has more bonds in a group than there is room for; so it is of any list of edges
+abbrev pub BondsAreBounded : Type 0
+BondsAreBounded = (p : Problem) (group : List ℕ) (plan : List (List Step)) →
+    IsValid p → IsLawful p plan → plan_bonds group plan + vehicles p (group_demand p group) ≤ length group
+
+-- what the bonds of a tour weigh is the sum of the surcharges of its edges that follow each other
+abbrev pub SurchargesAreBondWeights : Type 0
+SurchargesAreBondWeights = (groups : List GroupWeight) (es : List ℕ) → bond_weight groups es ≡ surcharges (surcharge groups) es
+
+-- a surcharge is the same in either order
+abbrev pub SurchargeIsSymmetric : Type 0
+SurchargeIsSymmetric = (groups : List GroupWeight) (e f : ℕ) → surcharge groups e f ≡ surcharge groups f e
+
+-- an edge of no group has no surcharge
+abbrev pub ApartHasNoSurcharge : Type 0
+ApartHasNoSurcharge = (groups : List GroupWeight) (e f : ℕ) → IsApart groups e → surcharge groups e f ≡ 0
 
 -- no excluded pair are neighbours in a lawful plan that meets the branch
 abbrev pub ExcludedAreApart : Type 0

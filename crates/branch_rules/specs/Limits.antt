@@ -6,6 +6,7 @@ use Rattle.carp_base.specs.Problem.{Problem}
 use Rattle.cut_pool.specs.Pools.{IsShoreNumber, shore_at}
 use Rattle.cut_pool.specs.Shores.{Belongs}
 use Rattle.decision_chains.specs.Pairs.{IsPairWithin}
+use Rattle.branch_rules.specs.Bonds.{GroupWeight}
 use Rattle.branch_rules.specs.Prices.{Prices}
 use Rattle.branch_rules.specs.declared.weight.Weight.{Weight}
 use Rattle.decision_chains.specs.declared.decision.Decision.{Decision}
@@ -24,7 +25,15 @@ pub record IsFineWeight (w : Weight) : Type 0 where
   pub some : w.weight ≢ pos 0
   pub within : IsPriceNumber w.weight
 
--- a unit from 1 to 1,000,000, at most 600 prices, and at most 2,000 weights on shores of rising numbers
+-- a weight from 1 to 10^15, on a group of two to 600 edges
+pub record IsFineGroup (w : GroupWeight) : Type 0 where
+  pub two : 2 ≤ length w.edges
+  pub few : length w.edges ≤ 600
+  pub rising : IsStrictlyIncreasing w.edges
+  pub some : 1 ≤ w.weight
+  pub small : w.weight ≤ 1000000000000000
+
+-- a unit from 1 to 1,000,000, at most 600 prices, at most 2,000 weights on shores of rising numbers, and at most 2,000 on groups
 pub record IsPriceSet (set : Prices) : Type 0 where
   pub some_unit : 1 ≤ set.unit
   pub unit_in : set.unit ≤ 1000000
@@ -33,6 +42,8 @@ pub record IsPriceSet (set : Prices) : Type 0 where
   pub few_weights : length set.weights ≤ 2000
   pub weights : All IsFineWeight set.weights
   pub rising : IsStrictlyIncreasing (map (λ w. w.shore) set.weights)
+  pub few_groups : length set.groups ≤ 2000
+  pub groups : All IsFineGroup set.groups
 
 -- the number of a cut is at most 1,000,000
 abbrev pub IsFineDecision : Decision → Type 0

@@ -45,7 +45,7 @@ pub record Support : Type 0 where
 
 -- what stands where there is no price set
 abbrev pub no_prices : Prices
-no_prices = record { unit = 0; services = []; weights = [] }
+no_prices = record { unit = 0; services = []; weights = []; groups = [] }
 
 -- the price set of a number from 1; 0 and the numbers past the last one are of no set
 abbrev pub set_at : Support → ℕ → Prices

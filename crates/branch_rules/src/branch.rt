@@ -1,5 +1,5 @@
 // The decisions on the way to a node.
-ghost use Rattle.std.specs.Prelude.{◌≡◌, ◌-◌, ◌+◌, ◌<◌, ◌≤◌, ◌++◌, ◌∷◌, [], length, take, pos, neg_ℤ, ◌*ℤ◌, ◌≤ℤ◌, All, OnOk, OnErr, IfOk, IfErr, IfSome};
+ghost use Rattle.std.specs.Prelude.{◌≡◌, ◌-◌, ◌+◌, ◌<◌, ◌≤◌, ◌++◌, ◌∷◌, [], length, take, pos, neg_ℤ, ◌+ℤ◌, ◌-ℤ◌, ◌*ℤ◌, ◌≤ℤ◌, All, OnOk, OnErr, IfOk, IfErr, IfSome};
 ghost use Rattle.branch_rules.specs.Decisions.{lower_of, lowest, highest, rules_of};
 ghost use Rattle.branch_rules.specs.Limits.{IsFineDecision, IsPriceNumber, IsShoreOf};
 ghost use Rattle.branch_rules.specs.Prices.{signed_sum, value_of, weight_value};
@@ -7,6 +7,7 @@ ghost use Rattle.branch_rules.specs.Refusals.{HasUpper, IsWithoutUpper};
 ghost use Rattle.branch_rules.specs.Signs.{LacksUpper};
 ghost use Rattle.plan_model.specs.Offers.{smaller};
 
+use crate::group::rooms_weigh;
 use crate::{Decision, PriceSet, Weight};
 use carp_base::{Instance, Memory};
 use cut_pool::{ShorePool, need, required_crossings};
@@ -108,7 +109,8 @@ impl Branch {
     }
 
     /// The value of a price set under the decisions, in parts of its denominator: the sum of the prices, plus each positive
-    /// weight times the lower number of its shore, less the size of each negative weight times the upper number.
+    /// weight times the lower number of its shore, less the size of each negative weight times the upper number, and less the weight of
+    /// each group times its room.
     ///
     /// It is refused exactly where the shore of a negative weight has no upper number. It takes no memory; with m required
     /// edges, d decisions and k weights it takes time in proportion to (m + d) k.
@@ -128,7 +130,7 @@ impl Branch {
         for weight in set.shore_weights() {
             sum += self.weight_value(inst, pool, weight)?;
         }
-        Ok(prices + sum)
+        Ok(net(prices, sum, rooms_weigh(inst, set.groups())))
     }
 
     // What a weight adds to the value of a price set.
@@ -154,6 +156,20 @@ impl Branch {
             Ok(times(weight, self.lower(inst, pool, shore)))
         }
     }
+}
+
+// What prices and weights come to, less what bonds can weigh.
+fn net(prices: i128, weights: i128, rooms: u128) -> i128
+    requires prices_low { neg_ℤ (pos 600000000000000000) ≤ℤ prices }
+    requires prices_high { prices ≤ℤ pos 600000000000000000 }
+    requires weights_low { neg_ℤ (pos 80000000000000000000000000) ≤ℤ weights }
+    requires weights_high { weights ≤ℤ pos 80000000000000000000000000 }
+    requires rooms { rooms ≤ 1200000000000000000000 }
+    ensures value { result ≡ (prices +ℤ weights) -ℤ pos rooms }
+    ensures low { neg_ℤ (pos 100000000000000000000000000) ≤ℤ result }
+    ensures high { result ≤ℤ pos 100000000000000000000000000 }
+{
+    prices + weights - rooms as i128
 }
 
 // The sum of prices.

@@ -4,6 +4,7 @@ ghost use Rattle.deadhead_paths.specs.Examples.{town};
 ghost use Rattle.cut_pool.specs.Examples.{in_a_row};
 ghost use Rattle.carp_base.specs.Problem.{edge_at};
 ghost use Rattle.decision_chains.specs.Neighbours.{AreNeighbours};
+ghost use Rattle.branch_rules.specs.Bonds.{IsGroup, bond_weight, bonds, plan_bonds, room, surcharge};
 ghost use Rattle.branch_rules.specs.Prices.{KeepsRules, deadhead_price, task_adds, value_of};
 ghost use Rattle.decision_chains.specs.Exclusions.{Excluded};
 ghost use Rattle.branch_rules.specs.Decisions.{IsFixed, IsVoid, Meets, MeetsAll, Spells, cuts_of, lower_of, lowest, rules_of};
@@ -14,7 +15,7 @@ ghost use Rattle.branch_rules.specs.Limits.{AreShoresIn, IsNodeIn};
 ghost use Rattle.branch_rules.specs.Trees.{HasTurns, IsLean, IsLeanNode, IsSoundSupport, NodesShow, PairsIn, Shows, Tree, cut, fixed, pair, preorder, price, void};
 ghost use Rattle.decision_chains.specs.declared.decision.Decision.TheVariants.{High, Low, No, Yes};
 ghost use Rattle.branch_rules.specs.declared.node.Node.TheVariants.{Cut, Fixed, Pair, Price};
-ghost use Rattle.branch_rules.specs.Examples.{heavy_prices, light_prices, one_row_tour, town_plan, town_pool, town_prices, town_support, two_row_tours};
+ghost use Rattle.branch_rules.specs.Examples.{heavy_prices, light_prices, one_row_tour, row, row_prices, row_weights, town_plan, town_pool, town_prices, town_support, two_row_tours};
 
 use crate::fixed_value_bounds;
 use decision_chains::{distinct_edges_sum_to_no_more, yes_pairs_join};
@@ -94,6 +95,22 @@ fn a_price_set()
     ensures fits { FitsBranch town town_pool [] town_prices }
     ensures too_heavy { ¬ (FitsBranch town town_pool [] heavy_prices) }
     ensures no_upper { ¬ (FitsBranch town town_pool [] light_prices) }
+{}
+
+fn bonds_of_a_group()
+    ensures group { IsGroup (in_a_row 3) row }
+    ensures one_edge { ¬ (IsGroup (in_a_row 3) (1 ∷ [])) }
+    ensures twice { bonds row (1 ∷ 2 ∷ 1 ∷ []) ≡ 2 }
+    ensures between { bonds row (1 ∷ 3 ∷ 2 ∷ []) ≡ 0 }
+    ensures one_tour { plan_bonds row one_row_tour ≡ 1 }
+    ensures two_tours { plan_bonds row two_row_tours ≡ 0 }
+    ensures one_vehicle { room (in_a_row 3) row ≡ 1 }
+    ensures two_vehicles { room (in_a_row 2) row ≡ 0 }
+    ensures weigh { bond_weight row_weights (1 ∷ 2 ∷ 1 ∷ []) ≡ 6 }
+    ensures surcharge { surcharge row_weights 2 1 ≡ 3 }
+    ensures none { surcharge row_weights 2 3 ≡ 0 }
+    ensures value { value_of (rules_of (in_a_row 3) [] []) row_prices ≡ pos 5 }
+    ensures full { value_of (rules_of (in_a_row 2) [] []) row_prices ≡ pos 8 }
 {}
 
 fn a_tree_that_shows_a_bound()

@@ -1,11 +1,26 @@
 // Laws over branches, price sets and trees, as functions whose contract is the law.
-ghost use Rattle.branch_rules.specs.Laws.{ExcludedAreApart, VoidIsMetByNone, NumbersAreKept, FixedValueBounds, FixedBranchBounds, ValueIsBelow, PricesBound, TreeBounds, LeanIsSmall, NodesShowTree};
+ghost use Rattle.branch_rules.specs.Laws.{ApartHasNoSurcharge, BondsAreBounded, SurchargeIsSymmetric, SurchargesAreBondWeights, ExcludedAreApart, VoidIsMetByNone, NumbersAreKept, FixedValueBounds, FixedBranchBounds, ValueIsBelow, PricesBound, TreeBounds, LeanIsSmall, NodesShowTree};
 ghost use Rattle.decision_chains.specs.Laws.{ExcludedIsSymmetric};
 
 use cut_pool::need_is_met;
 use deadhead_paths::{least_prices_are_there, walks_are_task_tours};
 use decision_chains::{distinct_edges_sum_to_no_more, excluded_is_symmetric, yes_pairs_join};
 use plan_model::required_edges_are_served_once;
+
+/// A lawful plan has at most so many bonds in a group as the group has edges, less the vehicles that its demand takes.
+pub fn bonds_are_bounded()
+    ensures { BondsAreBounded }
+{
+    required_edges_are_served_once();
+}
+
+/// What the bonds of a tour weigh is the sum of the surcharges of its edges that follow each other; a surcharge is the same in either
+/// order, and an edge of no group has none.
+pub fn surcharges_are_bond_weights()
+    ensures sum { SurchargesAreBondWeights }
+    ensures symmetric { SurchargeIsSymmetric }
+    ensures apart { ApartHasNoSurcharge }
+{}
 
 /// No excluded pair are neighbours in a lawful plan that meets the branch. An excluded pair is excluded in either order.
 pub fn excluded_pairs_are_apart()

@@ -1,14 +1,14 @@
 // Prices of services and weights of shores.
-ghost use Rattle.std.specs.Prelude.{◌≡◌, ◌-◌, ◌*◌, ◌+◌, ◌<◌, ◌≤◌, pos, neg_ℤ, ◌-ℤ◌, ◌≤ℤ◌, length, IfErr, IfOk, OnOk, All};
+ghost use Rattle.std.specs.Prelude.{◌≡◌, ◌-◌, ◌*◌, ◌+◌, ◌<◌, ◌≤◌, pos, neg_ℤ, ◌-ℤ◌, ◌≤ℤ◌, [], length, IfErr, IfOk, OnOk, All};
 ghost use Rattle.carp_base.specs.declared.edge.Edge.{Edge};
 ghost use Rattle.cut_pool.specs.Pools.{IsShoreNumber};
 ghost use Rattle.deadhead_paths.specs.Prices.{ArePrices};
-ghost use Rattle.branch_rules.specs.Limits.{IsFineWeight, IsPriceNumber, IsPriceSet};
+ghost use Rattle.branch_rules.specs.Limits.{IsFineGroup, IsFineWeight, IsPriceNumber, IsPriceSet};
 ghost use Rattle.branch_rules.specs.Prices.{Prices, crossing_prices, crossing_weight, deadhead_price, price_in, signed_sum, weight_at};
 ghost use Rattle.branch_rules.specs.Refusals.{NoneTooHeavy, RefusesHeavy};
 ghost use Rattle.branch_rules.specs.Signs.{IsBelowNothing};
 
-use crate::Weight;
+use crate::{Weight, WeightedGroup};
 use carp_base::{Edge, Fail, Instance, Memory};
 use cut_pool::ShorePool;
 use std::alloc::Global;
@@ -34,6 +34,7 @@ pub struct PriceSet {
     unit: u64,
     services: Vec<i64>,
     weights: Vec<Weight>,
+    groups: Vec<WeightedGroup>,
 }
 
 impl Model for PriceSet {
@@ -42,9 +43,9 @@ impl Model for PriceSet {
 
     ghost Value = { Prices };
 
-    ghost view = { λ s. record { unit = s.unit; services = s.services.items; weights = s.weights.items } };
+    ghost view = { λ s. record { unit = s.unit; services = s.services.items; weights = s.weights.items; groups = s.groups.items } };
 
-    ghost invariant = { λ s. IsPriceSet (record { unit = s.unit; services = s.services.items; weights = s.weights.items }) };
+    ghost invariant = { λ s. IsPriceSet (record { unit = s.unit; services = s.services.items; weights = s.weights.items; groups = s.groups.items }) };
 }
 
 impl PriceSet {
@@ -56,14 +57,29 @@ impl PriceSet {
         services: &[i64],
         weights: &[Weight],
     ) -> Result<PriceSet, Memory>
-        requires { IsPriceSet (record { unit = unit; services = services.now; weights = weights.now }) }
-        ensures { IfOk result (λ set. set ≡ record { unit = unit; services = services.now; weights = weights.now }) }
+        requires { IsPriceSet (record { unit = unit; services = services.now; weights = weights.now; groups = [] }) }
+        ensures { IfOk result (λ set. set ≡ record { unit = unit; services = services.now; weights = weights.now; groups = [] }) }
     {
         Ok(PriceSet {
             unit,
             services: Vec::from_slice(alloc, services)?,
             weights: Vec::from_slice(alloc, weights)?,
+            groups: Vec::new(alloc),
         })
+    }
+
+    /// The same prices and weights on shores, with these weights on the bonds of groups in place of what it had.
+    pub fn with_groups(self, groups: Vec<WeightedGroup>) -> PriceSet
+        requires few { length groups.items ≤ 2000 }
+        requires fine { All IsFineGroup groups.items }
+        ensures { result ≡ record { unit = self.unit; services = self.services; weights = self.weights; groups = groups.items } }
+    {
+        PriceSet {
+            unit: self.unit,
+            services: self.services,
+            weights: self.weights,
+            groups,
+        }
     }
 
     /// The denominator, 1 to 1,000,000.
@@ -151,6 +167,51 @@ impl PriceSet {
         ensures fine { IsPriceSet self.now }
     {
         &self.weights
+    }
+
+    /// The weights on the bonds of groups, in order.
+    pub fn groups(&self) -> &[WeightedGroup]
+        ensures value { result.now ≡ self.now.groups }
+        ensures fine { IsPriceSet self.now }
+    {
+        &self.groups
+    }
+
+    /// The weights on the bonds of groups, as a list of its own.
+    pub fn copy_groups(&self, alloc: Global) -> Result<Vec<WeightedGroup>, Memory>
+        ensures { IfOk result (λ groups. groups.items ≡ self.now.groups) }
+    {
+        let mut groups = Vec::with_capacity(alloc, self.groups.len())?;
+        for i in 0..self.groups.len() {
+            groups.push(self.groups[i].copy(alloc)?)?;
+        }
+        Ok(groups)
+    }
+
+    /// A set of other prices and of other weights on shores, with the same denominator and the same weights on groups. The one error
+    /// is want of memory.
+    pub fn rebuilt(
+        &self,
+        alloc: Global,
+        services: &[i64],
+        weights: &[Weight],
+    ) -> Result<PriceSet, Memory>
+        requires { IsPriceSet (record { unit = self.now.unit; services = services.now; weights = weights.now; groups = self.now.groups }) }
+        ensures { IfOk result (λ set. set ≡ record { unit = self.now.unit; services = services.now; weights = weights.now; groups = self.now.groups }) }
+    {
+        Ok(PriceSet {
+            unit: self.unit,
+            services: Vec::from_slice(alloc, services)?,
+            weights: Vec::from_slice(alloc, weights)?,
+            groups: self.copy_groups(alloc)?,
+        })
+    }
+
+    /// The same set. The one error is want of memory.
+    pub fn copy(&self, alloc: Global) -> Result<PriceSet, Memory>
+        ensures { IfOk result (λ set. set ≡ self.now) }
+    {
+        self.rebuilt(alloc, &self.services, &self.weights)
     }
 
     // The price of crossing an edge without service; as an error, where it is negative.

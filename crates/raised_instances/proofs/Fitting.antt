@@ -98,7 +98,7 @@ module _ (pool : List (List ℕ)) (set : Prices) where
           omega (arith, first, rest, one.4, other.4)
 
       pays_there : LeastDeadheadIsThere → (before after : ℕ → ℕ → Type 0) → ((a b : ℕ) → after a b → before a b) →
-          PaysAtLeast old before (task_adds old set) (price_of (crossing_prices old pool set)) → PaysAtLeast new after (task_adds new set) (price_of (crossing_prices new pool set))
+          PaysAtLeast old before (task_adds old set) (price_of (crossing_prices old pool set)) set.groups → PaysAtLeast new after (task_adds new set) (price_of (crossing_prices new pool set)) set.groups
       pays_there found before after also pays tasks n tour deadhead =
           let old_tour : IsTaskTour old before tasks = record {
             some = tour.some;

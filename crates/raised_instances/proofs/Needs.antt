@@ -68,7 +68,7 @@ module _ (inside : ℕ → Bool) where
     demand_less xs ys less.1,
   )
 
-ceil_less : (a b q : ℕ) → 1 ≤ q → a ≤ b → div_ceil a q ≤ div_ceil b q
+pub ceil_less : (a b q : ℕ) → 1 ≤ q → a ≤ b → div_ceil a q ≤ div_ceil b q
 ceil_less a b q some less = elim (cases_lt (div_ceil b q) (div_ceil a q)) [
   | inl fewer ↦
       let more : q * (div_ceil b q + 1) ≤ q * div_ceil a q = mul-le-mul_left q (omega (arith, fewer)) in

@@ -5,7 +5,8 @@ use Rattle.cut_pool.specs.Shores.{need, required_crossings}
 use Rattle.decision_chains.specs.declared.decision.Decision.{Decision}
 use Rattle.decision_chains.specs.Exclusions.{IsYes, Excluded}
 use Rattle.chain_plans.specs.FixedValue.{HasFixedValue}
-use Rattle.branch_rules.specs.Prices.{Prices, Fits}
+use Rattle.branch_rules.specs.Bonds.{GroupWeight, room}
+use Rattle.branch_rules.specs.Prices.{Prices, Fits, room_weight}
 use Rattle.branch_rules.specs.Decisions.{lowest, rules_of}
 use Rattle.branch_rules.specs.Refusals.{NoneTooHeavy}
 use Rattle.instance_edits.specs.declared.edit.Edit.{Edit}
@@ -23,6 +24,15 @@ pub record IsNoLessNeeded (old new : Problem) (inside : ℕ → Bool) : Type 0 w
 
 abbrev pub NeedsRise : Type 0
 NeedsRise = (old new : Problem) → IsValid old → IsValid new → IsRaised old new → (inside : ℕ → Bool) → IsNoLessNeeded old new inside
+
+-- a group has no more room than it had; so it is of any list of edges
+abbrev pub RoomsFall : Type 0
+RoomsFall = (old new : Problem) → IsValid old → IsValid new → IsRaised old new → (group : List ℕ) → room new group ≤ room old group
+
+-- the bonds of a price set can weigh no more than they could, so that its value is no lower on their account
+abbrev pub RoomWeightsFall : Type 0
+RoomWeightsFall = (old new : Problem) (pool : List (List ℕ)) (before after : List Decision) → IsValid old → IsValid new → IsRaised old new →
+    (groups : List GroupWeight) → room_weight (rules_of new pool after) groups ≤ room_weight (rules_of old pool before) groups
 
 -- no deadhead price that was not negative becomes so
 abbrev pub DeadheadsStayLight : Type 0

@@ -1,5 +1,5 @@
 // Laws over raised instances, as functions whose contract is the law.
-ghost use Rattle.raised_instances.specs.Laws.{DeadheadsStayLight, EditsRaise, FixedValuesRise, NeedsRise, SetsStayFit};
+ghost use Rattle.raised_instances.specs.Laws.{DeadheadsStayLight, EditsRaise, FixedValuesRise, NeedsRise, RoomWeightsFall, RoomsFall, SetsStayFit};
 
 use chain_plans::fixed_values_compare;
 use deadhead_paths::least_prices_are_there;
@@ -12,6 +12,12 @@ pub fn edits_raise_instances()
 /// In a raised instance a set of vertices has as many required crossings as before, and needs no fewer deadheads.
 pub fn raised_needs_are_no_less()
     ensures { NeedsRise }
+{}
+
+/// In a raised instance a group has no more room for bonds, and what the bonds of groups can weigh is no more.
+pub fn raised_rooms_are_no_more()
+    ensures rooms { RoomsFall }
+    ensures weights { RoomWeightsFall }
 {}
 
 /// A price set that fits an instance fits a raised one, also under a branch that has the same upper numbers and excludes no fewer pairs.

@@ -9,5 +9,5 @@ mod laws;
 
 pub use laws::{
     edits_raise_instances, raised_fixed_values_are_no_less, raised_needs_are_no_less,
-    raised_sets_stay_fit,
+    raised_rooms_are_no_more, raised_sets_stay_fit,
 };
