@@ -5,7 +5,7 @@ use Rattle.std.proofs.Math.Nat.{mul-le-mul_right}
 use Rattle.std.proofs.lemmas.List.{length-set, get_or-set_same, get_or-set_other}
 use Rattle.carp_base.specs.declared.edge.Task.{Task}
 use Rattle.carp_base.specs.Problem.{Problem, IsValid, IsRequired, IsEdgeNumber, IsReached, TasksLead, edge_at, tail_of, head_of}
-use Rattle.pricing_grid.specs.Partial.{no_value, IsGrid, width, column_task, task_start, task_end, demand_of, between, adds_of, may_follow, IsPartial, Reaches, IsCell, IsJoin, IsLeastJoin, IsJoinFrom, IsPredecessor, IsPredecessorUpTo, IsLeastFrom, IsLeastUpTo, cell_place, AreFilled, AreBegun}
+use Rattle.pricing_grid.specs.Partial.{no_value, IsGrid, width, column_task, task_start, task_end, demand_of, between, leg, adds_of, may_follow, IsPartial, Reaches, IsCell, IsJoin, IsLeastJoin, IsJoinFrom, IsPredecessor, IsPredecessorUpTo, IsLeastFrom, IsLeastUpTo, cell_place, AreFilled, AreBegun}
 use Rattle.pricing_grid.specs.declared.grid.Grid.{Grid}
 
 -- the depot reaches both ends of a required edge
@@ -83,6 +83,7 @@ partial_small g grid (u ∷ us) t l v partial =
       grid.small_dist (task_end g u) (task_start g t) (head_reached g.inst u.edge u.forward grid.valid (partial_required g us u _ _ partial.2))
           (tail_reached g.inst t.edge t.forward grid.valid partial.3.required),
       grid.small_adds (t.edge - 1) (omega (arith, partial.3.required.from_one, partial.3.required.in_range)),
+      grid.small_surcharges u.edge t.edge (partial_required g us u _ _ partial.2) partial.3.required,
     )
 
 -- a partial tour has at least the load of its last task
@@ -101,15 +102,18 @@ module _ (g : Grid) (grid : IsGrid g) where
   pub between_small : (u t : Task) → IsRequired g.inst u.edge → IsRequired g.inst t.edge → between g (task_end g u) (task_start g t) ≤ 2 ^ 73
   between_small u t u_in t_in = grid.small_dist (task_end g u) (task_start g t) (head_reached g.inst u.edge u.forward grid.valid u_in) (tail_reached g.inst t.edge t.forward grid.valid t_in)
 
+  pub leg_small : (u t : Task) → IsRequired g.inst u.edge → IsRequired g.inst t.edge → leg g u t ≤ 2 ^ 73 + 2 ^ 61
+  leg_small u t u_in t_in = omega (arith, between_small u t u_in t_in, grid.small_surcharges u.edge t.edge u_in t_in)
+
   pub first_small : (t : Task) → IsRequired g.inst t.edge → between g g.inst.depot (task_start g t) ≤ 2 ^ 73
   first_small t t_in = grid.small_dist g.inst.depot (task_start g t) (depot_reached g.inst) (tail_reached g.inst t.edge t.forward grid.valid t_in)
 
-  pub adds_small : (t : Task) → IsRequired g.inst t.edge → adds_of g t ≤ 2 ^ 73
+  pub adds_small : (t : Task) → IsRequired g.inst t.edge → adds_of g t ≤ 2 ^ 72
   adds_small t t_in = grid.small_adds (t.edge - 1) (omega (arith, t_in.from_one, t_in.in_range))
 
   pub join_small : (t : Task) (l n : ℕ) → IsJoin g l t n → l ≤ g.inst.capacity → IsRequired g.inst t.edge → n ≤ 2 ^ 90
   join_small t l n j fits t_in =
-      omega (arith, j.sum, reaches_small j.last l j.value j.reaches fits, between_small j.last t (reaches_required j.last l j.value j.reaches) t_in)
+      omega (arith, j.sum, reaches_small j.last l j.value j.reaches fits, leg_small j.last t (reaches_required j.last l j.value j.reaches) t_in)
 
   -- a column before the width is a required task
   pub column_required : (c : ℕ) → c < width g → IsRequired g.inst (column_task c).edge
@@ -123,7 +127,7 @@ module _ (g : Grid) (grid : IsGrid g) where
 
   -- from a cell
   pub from_cell : (load : ℕ) (u t : Task) (c n : ℕ) → IsCell g load u c → load ≤ g.inst.capacity → may_follow g u t ≡ true → c < no_value →
-      n ≡ c + between g (task_end g u) (task_start g t) → IsLeastFrom g load u t n
+      n ≡ c + leg g u t → IsLeastFrom g load u t n
   from_cell load u t c n cell fits allowed reached sum = record {
     attained = λ _. record { value = c; reaches = cell.attained reached; allowed = allowed; sum = sum };
     least = λ w reaches _. omega (arith, cell.least w reaches, sum);
@@ -151,7 +155,7 @@ module _ (g : Grid) (grid : IsGrid g) where
           omega (
             arith,
             below',
-            subst (λ d. n ≤ w + between g (task_end g (column_task d)) (task_start g t)) (sym is)
+            subst (λ d. n ≤ w + leg g (column_task d) t) (sym is)
                 (one.least w (subst (λ d. Reaches g (column_task d) load w) is reaches) (subst (λ d. may_follow g (column_task d) t ≡ true) is allowed)),
           )
       | inr other ↦ omega (arith, below, so_far.least c w (omega (arith, before, other)) reaches allowed)
@@ -167,7 +171,7 @@ module _ (g : Grid) (grid : IsGrid g) where
         omega (
           arith,
           join.sum,
-          subst (λ u. n ≤ join.value + between g (task_end g u) (task_start g t)) is
+          subst (λ u. n ≤ join.value + leg g u t) is
               (so_far.least (column_of join.last) join.value (column_in g join.last required) (subst (λ u. Reaches g u load join.value) (sym is) join.reaches)
               (subst (λ u. may_follow g u t ≡ true) (sym is) join.allowed)),
         );
@@ -185,7 +189,7 @@ module _ (g : Grid) (grid : IsGrid g) where
   after_join t load n v one join [] partial = absurd (omega (arith, one, partial.load_is))
   after_join t load n v one join (u ∷ us) partial =
       let same : partial.0 ≡ load = omega (arith, partial.3.load_is) in
-      let way : IsJoin g load t (partial.1 + between g (task_end g u) (task_start g t)) = record {
+      let way : IsJoin g load t (partial.1 + leg g u t) = record {
         last = u;
         value = partial.1;
         reaches = subst (λ k. Reaches g u k partial.1) same (record { before = us; partial = partial.2 });
@@ -207,7 +211,7 @@ module _ (g : Grid) (grid : IsGrid g) where
   none_after t load n v one fits join none [] partial = absurd (omega (arith, one, partial.load_is))
   none_after t load n v one fits join none (u ∷ us) partial =
       let same : partial.0 ≡ load = omega (arith, partial.3.load_is) in
-      let way : IsJoin g load t (partial.1 + between g (task_end g u) (task_start g t)) = record {
+      let way : IsJoin g load t (partial.1 + leg g u t) = record {
         last = u;
         value = partial.1;
         reaches = subst (λ k. Reaches g u k partial.1) same (record { before = us; partial = partial.2 });

@@ -1,15 +1,15 @@
 -- Labels carried over streets, until each street passes on those of both its ends.
-use Rattle.std.proofs.Common.{◌≡◌, ◌≢◌, ℕ, ◌+◌, ◌-◌, ◌*◌, ◌<◌, ◌≤◌, Bool, true, false, List, [], ◌∷◌, ◌++◌, length, slice_index, slice_set, get_or, refl, sym, ap, ◌∙◌, arith, inl, inr, subst, ◌⊎◌}
-use Rattle.std.proofs.lemmas.Bool.{cases_eq}
+use Rattle.std.proofs.Common.{◌≡◌, ◌≢◌, ℕ, ◌+◌, ◌-◌, ◌*◌, ◌^◌, ◌<◌, ◌≤◌, Bool, true, false, cond, List, [], ◌∷◌, ◌++◌, length, slice_index, slice_set, get_or, refl, sym, ap, ◌∙◌, arith, inl, inr, subst, ◌⊎◌}
+use Rattle.std.proofs.lemmas.Bool.{cases_Bool, cases_eq}
 use Rattle.std.proofs.lemmas.List.{length-set, get_or-set_same, get_or-set_other}
 use Rattle.std.proofs.lemmas.List.Sums.{sum_by-set}
 use Rattle.carp_base.specs.declared.edge.Task.{Task}
 use Rattle.carp_base.specs.Problem.{IsReached, IsRequired, IsEdgeNumber, TasksLead, edge_at, tail_of, head_of}
-use Rattle.pricing_grid.specs.Partial.{no_value, IsGrid, width, column_task, task_start, task_end, between, crossed, Reaches, IsCell, IsJoin, IsLeastJoin}
+use Rattle.pricing_grid.specs.Partial.{no_value, IsGrid, width, column_task, task_start, task_end, between, leg, surcharge_at, crossed, Reaches, IsCell, IsJoin, IsLeastJoin}
 use Rattle.pricing_grid.specs.declared.grid.Grid.{Grid}
 use Rattle.pricing_grid.specs.declared.labels.Labels.{Labels}
-use Rattle.pricing_grid.specs.Labels.{no_labels, labels_at, AreTwo, IsBounded, IsInserted, IsFromEither, AreLabelsJoined, IsLayer, IsCarried, AreSoundAt, AreLabelsSound, Keeps, BoundsEnds, label_sum, AreStreetsSettled, AreSpread}
-use Rattle.pricing_grid.proofs.Partials.{leads_more, column_of, task_is, column_in, reaches_required, not_both, head_reached, tail_reached}
+use Rattle.pricing_grid.specs.Labels.{no_labels, labels_at, AreTwo, IsBounded, IsInserted, IsFromEither, AreLabelsJoined, IsLayer, IsCarried, AreSoundAt, AreLabelsSound, Keeps, BoundsEnds, label_sum, AreStreetsSettled, AreSpread, label_joined}
+use Rattle.pricing_grid.proofs.Partials.{leads_more, column_of, task_is, column_in, reaches_required, reaches_small, head_reached, tail_reached}
 use Rattle.pricing_grid.proofs.Copies.{reached_in}
 
 -- one entry of a layer
@@ -170,25 +170,30 @@ module _ (g : Grid) (grid : IsGrid g) where
     are_two : AreTwo here
     are_two = are.layer.two at here_in
 
-    bound : (m : ℕ) (j : IsJoin g load t m) → IsBounded here j.last.edge m
-    bound m j =
-        let sum : m ≡ j.value + between g (task_end g j.last) at = j.sum ∙ ap (λ h. j.value + between g (task_end g j.last) h) (sym at_is) in
-        subst (IsBounded here j.last.edge) (sym sum) (are.bounds j.last j.value at j.reaches at_reached)
+    -- the way of a join is bounded, and its leg is the way and a surcharge
+    abbrev extra : ℕ → ℕ
+    extra e = surcharge_at g e t.edge
+
+    way_bound : (m : ℕ) (j : IsJoin g load t m) → IsBounded here j.last.edge (j.value + between g (task_end g j.last) at)
+    way_bound m j = are.bounds j.last j.value at j.reaches at_reached
+
+    leg_is : (m : ℕ) (j : IsJoin g load t m) → m ≡ j.value + between g (task_end g j.last) at + extra j.last.edge
+    leg_is m j = omega (arith, j.sum, ap (between g (task_end g j.last)) at_is)
 
     abbrev pub may_edge : ℕ → Bool
     may_edge e = get_or g.may.items ((e - 1) * g.inst.required + (t.edge - 1)) false
 
-    -- a label whose edge may precede is that of a join
-    label_join : (v e : ℕ) → IsCarried g load at e v → may_edge e ≡ true → ((m : ℕ) (j : IsJoin g load t m) → j.last.edge ≡ e → v ≤ m) → IsJoin g load t v
+    -- a label whose edge may precede is that of a join, with its surcharge
+    label_join : (v e : ℕ) → IsCarried g load at e v → may_edge e ≡ true → ((m : ℕ) (j : IsJoin g load t m) → j.last.edge ≡ e → v + extra e ≤ m) → IsJoin g load t (v + extra e)
     label_join v e c allowed least =
-        let j : IsJoin g load t (c.own + between g (task_end g c.last) (task_start g t)) = record {
+        let j : IsJoin g load t (c.own + leg g c.last t) = record {
           last = c.last;
           value = c.own;
           reaches = c.reaches;
           allowed = subst (λ d. may_edge d ≡ true) (sym c.edge_is) allowed;
           sum = refl;
         } in
-        let same : c.own + between g (task_end g c.last) (task_start g t) ≡ v = omega (arith, c.most, least _ j c.edge_is, ap (between g (task_end g c.last)) at_is) in
+        let same : c.own + leg g c.last t ≡ v + extra e = omega (arith, c.most, least _ j c.edge_is, ap (between g (task_end g c.last)) at_is, ap extra c.edge_is) in
         subst (IsJoin g load t) same j
 
     carried_required : (v e : ℕ) → IsCarried g load at e v → IsRequired g.inst e
@@ -207,22 +212,74 @@ module _ (g : Grid) (grid : IsGrid g) where
     second_required some = carried_required here.second here.second_edge ((are.sound at here_in).second (second_below some))
 
     pub best_none : no_value ≤ here.first → IsLeastJoin g load t no_value
-    best_none none = record { attained = λ less. absurd (omega (arith, less)); least = λ m j. omega (arith, none, (bound m j).first) }
+    best_none none = record { attained = λ less. absurd (omega (arith, less)); least = λ m j. omega (arith, none, (way_bound m j).first, leg_is m j) }
 
-    pub best_first : here.first ≢ no_value → may_edge here.first_edge ≡ true → IsLeastJoin g load t here.first
-    best_first some allowed = record {
-      attained = λ less. label_join here.first here.first_edge ((are.sound at here_in).first less) allowed (λ m j _. (bound m j).first);
-      least = λ m j. (bound m j).first;
-    }
+    joined_true : (v e n : ℕ) → n ≡ label_joined g v e t → may_edge e ≡ true → n ≡ v + extra e
+    joined_true v e n is allowed = is ∙ ap {B = ℕ} (λ b. cond b (v + extra e) no_value) allowed
 
-    other : (m : ℕ) (j : IsJoin g load t m) → may_edge here.first_edge ≡ false → here.second ≤ m
-    other m j excluded = (bound m j).second (λ same. not_both (may_edge here.first_edge) (subst (λ d. may_edge d ≡ true) same j.allowed) excluded)
+    joined_false : (v e n : ℕ) → n ≡ label_joined g v e t → may_edge e ≡ false → n ≡ no_value
+    joined_false v e n is excluded = is ∙ ap {B = ℕ} (λ b. cond b (v + extra e) no_value) excluded
 
-    pub best_no_second : may_edge here.first_edge ≡ false → no_value ≤ here.second → IsLeastJoin g load t no_value
-    best_no_second excluded none = record { attained = λ less. absurd (omega (arith, less)); least = λ m j. omega (arith, none, other m j excluded) }
+    -- what follows the edge of the first label is no less than that label joined, and all else no less than the second label
+    module _ (n : ℕ) (is : n ≡ label_joined g here.first here.first_edge t) where
+      first_most : (m : ℕ) (j : IsJoin g load t m) → j.last.edge ≡ here.first_edge → n ≤ m
+      first_most m j same =
+          omega (arith, joined_true here.first here.first_edge n is (subst (λ d. may_edge d ≡ true) same j.allowed), (way_bound m j).first, leg_is m j, ap extra same)
 
-    pub best_second : may_edge here.first_edge ≡ false → here.second ≢ no_value → may_edge here.second_edge ≡ true → IsLeastJoin g load t here.second
-    best_second excluded some allowed = record {
-      attained = λ less. label_join here.second here.second_edge ((are.sound at here_in).second less) allowed (λ m j _. other m j excluded);
-      least = λ m j. other m j excluded;
-    }
+      second_most : (m : ℕ) (j : IsJoin g load t m) → j.last.edge ≢ here.first_edge → here.second ≤ m
+      second_most m j other = omega (arith, (way_bound m j).second other, leg_is m j)
+
+      pub best_first : here.first ≢ no_value → n ≤ here.second → IsLeastJoin g load t n
+      best_first some below = record {
+        attained = λ less. elim (cases_Bool (may_edge here.first_edge)) [
+          | inl allowed ↦
+              let sum = joined_true here.first here.first_edge n is allowed in
+              subst (IsJoin g load t) (sym sum)
+              (label_join here.first here.first_edge ((are.sound at here_in).first (first_below some)) allowed (λ m j same. omega (arith, sum, first_most m j same)))
+          | inr excluded ↦ absurd (omega (arith, less, joined_false here.first here.first_edge n is excluded))
+        ];
+        least = λ m j. elim (cases_eq j.last.edge here.first_edge) [
+          | inl same ↦ first_most m j same
+          | inr other ↦ omega (arith, below, second_most m j other)
+        ];
+      }
+
+      second_least : here.second < n → (m : ℕ) (j : IsJoin g load t m) → here.second ≤ m
+      second_least above m j = elim (cases_eq j.last.edge here.first_edge) [
+        | inl same ↦ omega (arith, above, first_most m j same)
+        | inr other ↦ second_most m j other
+      ]
+
+      pub best_second : here.second < n → (k : ℕ) → k ≡ label_joined g here.second here.second_edge t → k ≡ here.second → IsLeastJoin g load t here.second
+      best_second above k joined free = record {
+        attained = λ less. elim (cases_Bool (may_edge here.second_edge)) [
+          | inl allowed ↦
+              let sum = joined_true here.second here.second_edge k joined allowed in
+              let none : here.second + extra here.second_edge ≡ here.second = omega (arith, sum, free) in
+              subst (IsJoin g load t) none
+              (label_join here.second here.second_edge ((are.sound at here_in).second less) allowed (λ m j _. omega (arith, none, second_least above m j)))
+          | inr excluded ↦ absurd (omega (arith, less, free, joined_false here.second here.second_edge k joined excluded))
+        ];
+        least = second_least above;
+      }
+
+    -- labels are small
+    module _ (fits : load ≤ g.inst.capacity) where
+      carried_small : (v e : ℕ) (c : IsCarried g load at e v) → c.own + between g (task_end g c.last) at ≤ 2 ^ 90
+      carried_small v e c =
+          let required = reaches_required g grid c.last load c.own c.reaches in
+          omega (arith, reaches_small g grid c.last load c.own c.reaches fits, grid.small_dist (task_end g c.last) at (head_reached g.inst c.last.edge c.last.forward grid.valid required) at_reached)
+
+      pub first_small_label : here.first ≢ no_value → here.first ≤ 2 ^ 90
+      first_small_label some =
+          let c = (are.sound at here_in).first (first_below some) in
+          omega (arith, carried_small here.first here.first_edge c, (are.bounds c.last c.own at c.reaches at_reached).first)
+
+      pub second_small_label : here.second < no_value → here.second ≤ 2 ^ 90
+      second_small_label less =
+          let c = (are.sound at here_in).second less in
+          omega (
+            arith,
+            carried_small here.second here.second_edge c,
+            (are.bounds c.last c.own at c.reaches at_reached).second (λ same. are_two.differ less (sym same ∙ c.edge_is)),
+          )

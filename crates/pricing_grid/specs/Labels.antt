@@ -4,7 +4,7 @@ use Rattle.std.specs.Prelude.{◌≡◌, ◌≢◌, ℕ, ◌+◌, ◌*◌, ◌-�
 use Rattle.carp_base.specs.declared.edge.Task.{Task}
 use Rattle.carp_base.specs.Problem.{IsEdgeNumber, IsReached, edge_at, tail_of, head_of}
 use Rattle.road_network.specs.Incidence.{incident}
-use Rattle.pricing_grid.specs.Partial.{no_value, Reaches, column_task, task_end, between}
+use Rattle.pricing_grid.specs.Partial.{no_value, Reaches, column_task, task_end, between, surcharge_at}
 use Rattle.pricing_grid.specs.declared.grid.Grid.{Grid}
 use Rattle.pricing_grid.specs.declared.labels.Labels.{Labels}
 
@@ -146,3 +146,8 @@ pub record AreSpread (g : Grid) (load : ℕ) (labels : List Labels) : Type 0 whe
   pub layer : IsLayer g labels
   pub sound : AreLabelsSound g load labels
   pub bounds : (last : Task) (w h : ℕ) → Reaches g last load w → IsReached g.inst h → IsBounded (labels_at labels h) last.edge (w + between g (task_end g last) h)
+
+-- a label with the surcharge of its last edge and that of a task, where the task may follow it
+abbrev pub label_joined : Grid → ℕ → ℕ → Task → ℕ
+label_joined g value edge t =
+    if slice_index_or g.may.items ((edge - 1) * g.inst.required + (t.edge - 1)) false then value + surcharge_at g edge t.edge else no_value

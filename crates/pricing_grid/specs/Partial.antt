@@ -37,6 +37,14 @@ adds_of g t = slice_index g.adds.items (t.edge - 1)
 abbrev pub may_follow : Grid → Task → Task → Bool
 may_follow g t u = slice_index_or g.may.items ((t.edge - 1) * g.inst.required + (u.edge - 1)) false
 
+-- what is added where an edge is served directly after another, by their numbers
+abbrev pub surcharge_at : Grid → ℕ → ℕ → ℕ
+surcharge_at g e f = slice_index g.surcharges.items ((e - 1) * g.inst.required + (f - 1))
+
+-- a leg from a task to the next: the least price of deadheads between them, and the surcharge of their edges
+abbrev pub leg : Grid → Task → Task → ℕ
+leg g t u = between g (task_end g t) (task_start g u) + surcharge_at g t.edge u.edge
+
 -- the lengths of the streets that are crossed
 abbrev pub crossed : Grid → List Task → ℕ
 crossed g [] = 0
@@ -64,7 +72,10 @@ pub record IsGrid (g : Grid) : Type 0 where
   pub led : (a b : ℕ) → IsReached g.inst a → IsReached g.inst b → IsLedBy g a b
   pub symmetric : (a b : Task) → IsRequired g.inst a.edge → IsRequired g.inst b.edge → may_follow g a b ≡ may_follow g b a
   pub small_dist : (a b : ℕ) → IsReached g.inst a → IsReached g.inst b → between g a b ≤ 2 ^ 73
-  pub small_adds : (e : ℕ) → e < g.inst.required → slice_index g.adds.items e ≤ 2 ^ 73
+  pub small_adds : (e : ℕ) → e < g.inst.required → slice_index g.adds.items e ≤ 2 ^ 72
+  pub surcharges_long : length g.surcharges.items ≡ g.inst.required * g.inst.required
+  pub both_orders : (e f : ℕ) → IsRequired g.inst e → IsRequired g.inst f → surcharge_at g e f ≡ surcharge_at g f e
+  pub small_surcharges : (e f : ℕ) → IsRequired g.inst e → IsRequired g.inst f → surcharge_at g e f ≤ 2 ^ 61
 
 -- a tour of this one task so far
 pub record IsFirst (g : Grid) (t : Task) (load value : ℕ) : Type 0 where
@@ -77,7 +88,7 @@ pub record IsNext (g : Grid) (u t : Task) (before w load value : ℕ) : Type 0 w
   pub required : IsRequired g.inst t.edge
   pub allowed : may_follow g u t ≡ true
   pub load_is : load ≡ before + demand_of g t
-  pub value_is : value ≡ w + between g (task_end g u) (task_start g t) + adds_of g t
+  pub value_is : value ≡ w + leg g u t + adds_of g t
 
 -- a partial tour that ends with the task t; the tasks before it stand from the last to the first
 abbrev pub IsPartial : Grid → List Task → Task → ℕ → ℕ → Type 0
@@ -94,13 +105,13 @@ pub record IsCell (g : Grid) (load : ℕ) (t : Task) (c : ℕ) : Type 0 where
   pub attained : c < no_value → Reaches g t load c
   pub least : (v : ℕ) → Reaches g t load v → c ≤ v
 
--- a partial tour of this load that the task may follow, with the way to it
+-- a partial tour of this load that the task may follow, with the leg to it
 pub record IsJoin (g : Grid) (load : ℕ) (t : Task) (n : ℕ) : Type 0 where
   pub last : Task
   pub value : ℕ
   pub reaches : Reaches g last load value
   pub allowed : may_follow g last t ≡ true
-  pub sum : n ≡ value + between g (task_end g last) (task_start g t)
+  pub sum : n ≡ value + leg g last t
 
 -- the least of them
 pub record IsLeastJoin (g : Grid) (load : ℕ) (t : Task) (n : ℕ) : Type 0 where
@@ -112,17 +123,17 @@ pub record IsJoinFrom (g : Grid) (load : ℕ) (u t : Task) (n : ℕ) : Type 0 wh
   pub value : ℕ
   pub reaches : Reaches g u load value
   pub allowed : may_follow g u t ≡ true
-  pub sum : n ≡ value + between g (task_end g u) (task_start g t)
+  pub sum : n ≡ value + leg g u t
 
 -- the least of those that end with one task
 pub record IsLeastFrom (g : Grid) (load : ℕ) (u t : Task) (n : ℕ) : Type 0 where
   pub attained : n < no_value → IsJoinFrom g load u t n
-  pub least : (w : ℕ) → Reaches g u load w → may_follow g u t ≡ true → n ≤ w + between g (task_end g u) (task_start g t)
+  pub least : (w : ℕ) → Reaches g u load w → may_follow g u t ≡ true → n ≤ w + leg g u t
 
 -- the least of those that end with a task of the first columns
 pub record IsLeastUpTo (g : Grid) (load : ℕ) (t : Task) (columns n : ℕ) : Type 0 where
   pub attained : n < no_value → IsJoin g load t n
-  pub least : (c w : ℕ) → c < columns → Reaches g (column_task c) load w → may_follow g (column_task c) t ≡ true → n ≤ w + between g (task_end g (column_task c)) (task_start g t)
+  pub least : (c w : ℕ) → c < columns → Reaches g (column_task c) load w → may_follow g (column_task c) t ≡ true → n ≤ w + leg g (column_task c) t
 
 abbrev pub cell_place : Grid → ℕ → ℕ → ℕ
 cell_place g load c = load * width g + c

@@ -6,13 +6,15 @@ use Rattle.deadhead_paths.specs.Prices.{IsLeastPrice, NoneLead, price_of}
 use Rattle.pricing_grid.specs.declared.grid.Grid.{Grid}
 use Rattle.pricing_grid.specs.Partial.{IsGrid, between}
 
--- what tours are priced by: a price for each deadhead, a unit, a price for each service, and the pairs that may be neighbours
+-- what tours are priced by: a price for each deadhead, a unit, a price for each service, the pairs that may be neighbours, and a
+-- surcharge for each pair of required edges, in rows
 pub record Pricing : Type 0 where
   pub problem : Problem
   pub prices : List ℕ
   pub unit : ℕ
   pub services : List ℤ
   pub relation : Relation
+  pub surcharges : List ℕ
 
 -- the pair may be neighbours
 abbrev pub IsAllowed : Pricing → ℕ → ℕ → Type 0
@@ -26,6 +28,16 @@ service_price services (suc k) = slice_index_or services k (pos 0)
 -- what serving an edge adds
 abbrev pub service_adds : Pricing → ℕ → ℤ
 service_adds x e = pos (x.unit * (edge_at x.problem e).service) -ℤ service_price x.services e
+
+-- the surcharge of two required edges that are served one directly after the other
+abbrev pub surcharge_in : ℕ → List ℕ → ℕ → ℕ → ℕ
+surcharge_in required surcharges e f = slice_index surcharges ((e - 1) * required + (f - 1))
+
+-- surcharges for so many required edges: the same in either order, and none above 2^61
+pub record AreSurcharges (required : ℕ) (surcharges : List ℕ) : Type 0 where
+  pub long : length surcharges ≡ required * required
+  pub both_orders : (e f : ℕ) → 1 ≤ e → e ≤ required → 1 ≤ f → f ≤ required → surcharge_in required surcharges e f ≡ surcharge_in required surcharges f e
+  pub small : (e f : ℕ) → 1 ≤ e → e ≤ required → 1 ≤ f → f ≤ required → surcharge_in required surcharges e f ≤ 2 ^ 61
 
 -- a price is within 10^15 either way
 pub record IsServicePrice (z : ℤ) : Type 0 where
@@ -48,6 +60,7 @@ pub record IsGridOf (x : Pricing) (g : Grid) : Type 0 where
   pub dist : (a b : ℕ) → IsReached g.inst a → IsReached g.inst b → IsLeastPrice g.inst (price_of x.prices) a b (between g a b)
   pub adds : (e : ℕ) → IsRequired g.inst e → pos (slice_index g.adds.items (e - 1)) ≡ service_adds x e +ℤ pos (lift * (edge_at g.inst e).demand)
   pub may : (a b : ℕ) → IsRequired g.inst a → IsRequired g.inst b → slice_index_or g.may.items ((a - 1) * g.inst.required + (b - 1)) false ≡ allows x.relation a b
+  pub surcharges : g.surcharges.items ≡ x.surcharges
 
 -- the grid was made for the instance
 pub record IsGridRoom (p : Problem) (g : Grid) : Type 0 where
@@ -57,3 +70,4 @@ pub record IsGridRoom (p : Problem) (g : Grid) : Type 0 where
   pub dist_long : length g.dist.items ≡ (p.vertices + 1) * (p.vertices + 1)
   pub lengths_long : length g.lengths.items ≡ length p.edges
   pub adds_long : length g.adds.items ≡ p.required
+  pub surcharges_long : length g.surcharges.items ≡ p.required * p.required

@@ -2,7 +2,7 @@
 ghost use Rattle.std.specs.Prelude.{◌≡◌, ℕ, ◌+◌, ◌*◌, ◌^◌, ◌<◌, ◌≤◌, ◌-◌, length, slice_index, slice_index_or, false, pos, ◌+ℤ◌, ◌-ℤ◌, All, IfOk};
 ghost use Rattle.carp_base.specs.Problem.{IsVertex, IsRequired, IsEdgeNumber, edge_at};
 ghost use Rattle.carp_base.specs.Allowed.{IsOf, allows};
-ghost use Rattle.pricing_grid.specs.Pricing.{lift, IsServicePrice, IsWay, service_price, IsGridOf, IsGridRoom};
+ghost use Rattle.pricing_grid.specs.Pricing.{lift, AreSurcharges, IsServicePrice, IsWay, service_price, IsGridOf, IsGridRoom};
 
 use crate::grid::{Grid, LIFT, UNREACHED};
 use carp_base::{Allowed, Edge, Instance, Memory};
@@ -21,6 +21,7 @@ impl Grid {
         let dist = vec![in alloc; 0u128; (vertices + 1) * (vertices + 1)]?;
         let lengths = vec![in alloc; 0u128; inst.edge_count() as usize]?;
         let adds = vec![in alloc; 0u128; required]?;
+        let surcharges = vec![in alloc; 0u64; required * required]?;
         let net = Network::new(alloc, inst)?;
         let inst = inst.copy(alloc)?;
         Ok(Grid {
@@ -30,12 +31,13 @@ impl Grid {
             dist,
             lengths,
             adds,
+            surcharges,
         })
     }
 
     /// Copies what tours are priced by, for the instance that the grid was made for: distances over its streets, a unit of at
     /// most 1,000,000 by which service costs count, a price for each required edge in their order, each within 10^15 either way,
-    /// and the pairs of edges that may be served one directly after the other. For n vertices, m required edges and E edges it
+    /// the pairs of edges that may be served one directly after the other, and a surcharge for each pair. For n vertices, m required edges and E edges it
     /// takes `n * n + m * m + E` steps, and no memory.
     pub fn copy_from(
         &mut self,
@@ -44,6 +46,7 @@ impl Grid {
         unit: u64,
         services: &[i64],
         allowed: &Allowed,
+        surcharges: &[u64],
     )
         requires room { IsGridRoom inst.now self.old }
         requires dist { dist.now.problem ≡ inst.now }
@@ -51,8 +54,9 @@ impl Grid {
         requires services { length services.now ≡ inst.now.required }
         requires prices { All IsServicePrice services.now }
         requires allowed { allowed.now.size ≡ inst.now.required }
+        requires surcharges { AreSurcharges inst.now.required surcharges.now }
         ensures room { IsGridRoom inst.now self.new }
-        ensures of { IsGridOf (record { problem = inst.now; prices = dist.now.prices; unit = unit; services = services.now; relation = allowed.now }) self.new }
+        ensures of { IsGridOf (record { problem = inst.now; prices = dist.now.prices; unit = unit; services = services.now; relation = allowed.now; surcharges = surcharges.now }) self.new }
     {
         let required = inst.required() as usize;
         let vertices = inst.vertices() as usize;
@@ -60,6 +64,7 @@ impl Grid {
         copy_distances(&mut self.dist, dist, vertices);
         copy_lengths(&mut self.lengths, &self.dist, inst);
         copy_services(&mut self.adds, inst, unit, services);
+        self.surcharges.copy_from_slice(surcharges);
     }
 }
 
@@ -139,10 +144,10 @@ fn way(dist: &Distances, from: u32, to: u32) -> u128
 // A number less a price.
 fn less(base: u128, price: &i64) -> u128
     requires low { 1000000000000000 ≤ base }
-    requires high { base ≤ 2 ^ 72 }
+    requires high { base ≤ 2 ^ 71 }
     requires price { IsServicePrice price.now }
     ensures value { pos result ≡ pos base -ℤ price.now }
-    ensures small { result ≤ 2 ^ 73 }
+    ensures small { result ≤ 2 ^ 72 }
 {
     let size = price.unsigned_abs() as u128;
     if *price < 0 { base + size } else { base - size }
@@ -156,7 +161,7 @@ fn service_adds(edge: &Edge, unit: u64, price: &i64) -> u128
     requires unit { unit ≤ 1000000 }
     requires price { IsServicePrice price.now }
     ensures value { pos result ≡ pos (unit * edge.now.service) -ℤ price.now +ℤ pos (lift * edge.now.demand) }
-    ensures small { result ≤ 2 ^ 73 }
+    ensures small { result ≤ 2 ^ 72 }
 {
     let base = unit as u128 * edge.service as u128 + LIFT * edge.demand as u128;
     less(base, price)
@@ -169,7 +174,7 @@ fn copy_services(adds: &mut [u128], inst: &Instance, unit: u64, services: &[i64]
     requires prices { All IsServicePrice services.now }
     ensures long { length adds.new ≡ inst.now.required }
     ensures value { (e : ℕ) → IsRequired inst.now e → pos (slice_index adds.new (e - 1)) ≡ pos (unit * (edge_at inst.now e).service) -ℤ service_price services.now e +ℤ pos (lift * (edge_at inst.now e).demand) }
-    ensures small { (e : ℕ) → e < inst.now.required → slice_index adds.new e ≤ 2 ^ 73 }
+    ensures small { (e : ℕ) → e < inst.now.required → slice_index adds.new e ≤ 2 ^ 72 }
 {
     for e in 0..inst.required() as usize {
         adds[e] = service_adds(&inst.edge(e as u32 + 1), unit, &services[e]);

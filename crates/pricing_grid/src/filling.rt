@@ -34,7 +34,8 @@ impl Grid {
     {
         let value = cells[self.place(load, before)];
         if value < UNREACHED && self.may_follow(before, column) {
-            value + self.between(self.end(before), self.start(column))
+            let way = self.between(self.end(before), self.start(column));
+            value + way + self.surcharge((before / 2) as u32 + 1, column)
         } else {
             UNREACHED
         }

@@ -1,7 +1,7 @@
 // What a table is filled from: an instance, the pairs that may follow each other, distances, and what services add.
-ghost use Rattle.std.specs.Prelude.{◌≡◌, ◌+◌, ◌*◌, ◌/◌, ◌<◌, ◌≤◌, length};
+ghost use Rattle.std.specs.Prelude.{◌≡◌, ◌+◌, ◌*◌, ◌/◌, ◌^◌, ◌<◌, ◌≤◌, length};
 ghost use Rattle.carp_base.specs.Problem.{IsVertex, IsRequired, IsFineTask, IsFineEdge, edge_at};
-ghost use Rattle.pricing_grid.specs.Partial.{IsGrid, width, column_task, between, may_follow, adds_of, demand_of, task_start, task_end};
+ghost use Rattle.pricing_grid.specs.Partial.{IsGrid, width, column_task, between, may_follow, adds_of, demand_of, surcharge_at, task_start, task_end};
 
 use carp_base::{Instance, Task};
 use road_network::Network;
@@ -13,7 +13,7 @@ pub const UNREACHED: u128 = u128::MAX;
 pub const LIFT: u128 = 1_000_000_000_000_000;
 
 /// What partial tours are priced by: an instance with its network, the pairs of edges that may follow each other, the least prices
-/// between vertices, and what serving each edge adds, lifted by [`LIFT`] for each unit of its demand.
+/// between vertices, a surcharge for each pair, and what serving each edge adds, lifted by [`LIFT`] for each unit of its demand.
 ///
 /// A column is a task: that of number 2k serves the required edge k + 1 forward, and the next serves it backward. For n vertices, m required edges
 /// and E edges a grid takes memory for `n * n + m * m + E` numbers.
@@ -26,6 +26,7 @@ pub struct Grid {
     pub(crate) dist: Vec<u128>,
     pub(crate) lengths: Vec<u128>,
     pub(crate) adds: Vec<u128>,
+    pub(crate) surcharges: Vec<u64>,
 }
 
 impl Grid {
@@ -101,6 +102,18 @@ impl Grid {
         ensures { result ≡ may_follow self.now (column_task before) (column_task column) }
     {
         self.may[(before / 2) * self.inst.required() as usize + column / 2]
+    }
+
+    // The surcharge of an edge and that of a column, where the column's task is done directly after a task on the edge.
+    pub(crate) fn surcharge(&self, edge: u32, column: usize) -> u128
+        requires grid { IsGrid self.now }
+        requires edge { IsRequired self.now.inst edge }
+        requires column { column < width self.now }
+        ensures value { result ≡ surcharge_at self.now edge (column_task column).edge }
+        ensures small { result ≤ 2 ^ 61 }
+    {
+        let place = (edge as usize - 1) * self.inst.required() as usize + column / 2;
+        u128::from(self.surcharges[place])
     }
 
     /// What serving the edge of a column adds to a value, lifted by its demand. It is at most `2^73`.

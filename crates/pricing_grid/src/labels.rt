@@ -1,8 +1,8 @@
 // Two labels for each vertex.
-ghost use Rattle.std.specs.Prelude.{◌≡◌, ◌+◌, ◌*◌, ◌<◌, ◌≤◌, ◌-◌, false, length, slice_index_or};
+ghost use Rattle.std.specs.Prelude.{◌≡◌, ◌+◌, ◌*◌, ◌^◌, ◌<◌, ◌≤◌, ◌-◌, false, length, slice_index_or};
 ghost use Rattle.carp_base.specs.Problem.{IsRequired};
 ghost use Rattle.pricing_grid.specs.Partial.{IsGrid, AreFilled, IsLeastJoin, width, column_task};
-ghost use Rattle.pricing_grid.specs.Labels.{AreTwo, IsInserted, AreLabelsJoined, IsLayer, AreLabelsSound, BoundsEnds, AreSpread};
+ghost use Rattle.pricing_grid.specs.Labels.{AreTwo, IsInserted, AreLabelsJoined, IsLayer, AreLabelsSound, BoundsEnds, AreSpread, label_joined};
 
 use crate::grid::{Grid, UNREACHED};
 
@@ -125,8 +125,24 @@ impl Grid {
         self.carry(layer, marks);
     }
 
-    // The least value of a partial tour of this load that the task may follow, with the way to it: one of the two labels where the
-    // task starts, or where it may follow neither, found among all tasks.
+    // A label with the surcharge of its last edge, where the task of a column may follow it.
+    fn label_joined(&self, value: u128, edge: u32, column: usize) -> u128
+        requires grid { IsGrid self.now }
+        requires value { value ≤ 2 ^ 90 }
+        requires edge { IsRequired self.now.inst edge }
+        requires column { column < width self.now }
+        ensures { result ≡ label_joined self.now value edge (column_task column) }
+    {
+        if self.may_follow_edge(edge, column) {
+            value + self.surcharge(edge, column)
+        } else {
+            UNREACHED
+        }
+    }
+
+    // The least value of a partial tour of this load that the task may follow, with the leg to it: the first of the two labels where
+    // the task starts, with its surcharge, if that is no more than the second; or the second, if it has no surcharge; and else found
+    // among all tasks.
     pub(crate) fn best(&self, cells: &[u128], load: usize, layer: &[Labels], column: usize) -> u128
         requires grid { IsGrid self.now }
         requires filled { AreFilled self.now cells.now load column }
@@ -139,13 +155,11 @@ impl Grid {
         if x.first == UNREACHED {
             return UNREACHED;
         }
-        if self.may_follow_edge(x.first_edge, column) {
-            return x.first;
+        let first = self.label_joined(x.first, x.first_edge, column);
+        if first <= x.second {
+            return first;
         }
-        if x.second == UNREACHED {
-            return UNREACHED;
-        }
-        if self.may_follow_edge(x.second_edge, column) {
+        if self.label_joined(x.second, x.second_edge, column) == x.second {
             return x.second;
         }
         self.least_join(cells, load, column)

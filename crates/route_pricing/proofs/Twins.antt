@@ -1,5 +1,5 @@
 -- Tours of two streets side by side.
-use Rattle.std.proofs.Common.{◌≡◌, ℕ, zero, suc, pos, ◌≤◌, List, [], ◌∷◌, ◌++◌, length, ap, refl, arith}
+use Rattle.std.proofs.Common.{◌≡◌, ℕ, zero, suc, pos, ◌≤◌, List, [], ◌∷◌, ◌++◌, length, get_or, ap, refl, arith}
 use Rattle.std.proofs.lemmas.List.Sums.{sum_by-cons}
 use Rattle.std.proofs.lemmas.List.{length-append}
 use Rattle.plan_model.specs.declared.step.Step.{Step}
@@ -43,6 +43,14 @@ adds_nothing zero from_one in_range = absurd (omega (arith, from_one))
 adds_nothing (suc zero) from_one in_range = refl
 adds_nothing (suc (suc zero)) from_one in_range = refl
 adds_nothing (suc (suc (suc e))) from_one in_range = absurd (omega (arith, in_range))
+
+-- no pair of the two has a surcharge
+pub no_surcharge : (k : ℕ) → get_or {A = ℕ} (0 ∷ 0 ∷ 0 ∷ 0 ∷ []) k 0 ≡ 0
+no_surcharge zero = refl
+no_surcharge (suc zero) = refl
+no_surcharge (suc (suc zero)) = refl
+no_surcharge (suc (suc (suc zero))) = refl
+no_surcharge (suc (suc (suc (suc k)))) = refl
 
 -- the first of the two may be followed by the second
 pub allowed : (a b : ℕ) → (a ≡ 1) × (b ≡ 2) → IsAllowed paid_twins a b

@@ -21,11 +21,16 @@ twins_at services = record {
   unit = 2;
   services = services;
   relation = record { size = 2; table = false ∷ true ∷ true ∷ false ∷ [] };
+  surcharges = 0 ∷ 0 ∷ 0 ∷ 0 ∷ [];
 }
 
 -- with the prices 10 and 8 for the services
 abbrev pub paid_twins : Pricing
 paid_twins = twins_at (pos 10 ∷ pos 8 ∷ [])
+
+-- the same with a surcharge of 3 where one is served directly after the other
+abbrev pub charged_twins : Pricing
+charged_twins = record paid_twins { surcharges = 0 ∷ 3 ∷ 3 ∷ 0 ∷ [] }
 
 -- each street served from the depot and to it
 abbrev pub outward : ℕ → Task

@@ -1,7 +1,7 @@
 // Small data on which a fact that no call decides holds, and on which it does not.
 ghost use Rattle.std.specs.Prelude.{◌≡◌, ◌^◌, ◌+◌, [], ◌∷◌, pos, neg_ℤ};
-ghost use Rattle.route_pricing.specs.Values.{IsFree, IsPriced, IsRate, IsServed, weighed};
-ghost use Rattle.route_pricing.specs.Examples.{inward, outward, paid_twins, twins_at};
+ghost use Rattle.route_pricing.specs.Values.{IsFree, IsPriced, IsRate, IsServed, tour_surcharge, weighed};
+ghost use Rattle.route_pricing.specs.Examples.{charged_twins, inward, outward, paid_twins, twins_at};
 
 fn a_served_edge()
     ensures second { IsServed 2 (outward 1 ∷ inward 2 ∷ []) }
@@ -27,6 +27,13 @@ fn a_tour_beside_a_rate()
     ensures same { weighed (record { value = pos 4; load = 3 }) (pos 8) 6 ≡ pos 0 }
     ensures dearer { weighed (record { value = pos 4; load = 3 }) (pos 5) 3 ≡ pos 3 }
     ensures cheaper { weighed (record { value = pos 4; load = 3 }) (pos 4) 6 ≡ neg_ℤ (pos 12) }
+{}
+
+fn surcharges_of_a_tour()
+    ensures twice { tour_surcharge charged_twins (outward 1 ∷ inward 2 ∷ outward 1 ∷ []) ≡ 6 }
+    ensures alone { tour_surcharge charged_twins (outward 1 ∷ []) ≡ 0 }
+    ensures none { tour_surcharge paid_twins (outward 1 ∷ inward 2 ∷ []) ≡ 0 }
+    ensures free { ¬ (IsFree charged_twins) }
 {}
 
 fn a_priced_tour()

@@ -7,5 +7,5 @@ abbrev pub invariant-loop-e : goal.invariant-loop-e
 invariant-loop-e l = record {
   long : length l.adds ≡ l.inst.required;
   value : (e : ℕ) → IsRequired l.inst e → e ≤ l.e → pos (slice_index l.adds (e - 1)) ≡ pos (l.unit * (edge_at l.inst e).service) -ℤ service_price l.services e +ℤ pos (lift * (edge_at l.inst e).demand);
-  small : (e : ℕ) → e < l.e → slice_index l.adds e ≤ 2 ^ 73;
+  small : (e : ℕ) → e < l.e → slice_index l.adds e ≤ 2 ^ 72;
 }

@@ -1,7 +1,7 @@
-use Rattle.std.proofs.Common.{arith, sym, ◌∙◌}
+use Rattle.std.proofs.Common.{arith}
 use Rattle.pricing_grid.specs.Partial.{column_task}
 use Rattle.pricing_grid.proofs.Partials.{column_required}
-use Rattle.pricing_grid.proofs.Passing.{best_none, best_first, best_no_second, best_second, first_required, second_required}
+use Rattle.pricing_grid.proofs.Passing.{best_none, best_first, best_second, first_required, second_required, first_small_label, second_small_label}
 use Rattle.pricing_grid.proofs.grid.Grid.best.Goals as goal
 
 pub returns-then-x : goal.returns-then-x
@@ -10,35 +10,40 @@ returns-then-x c =
     let r = c.requires in
     best_none g r.grid c.args.load c.args.layer.now r.layer (column_task c.args.column) (column_required g r.grid c.args.column r.column) c.start.result c.start.ensures.value (omega (arith, c.if-x.true))
 
-pub may_follow_edge-requires-clause-edge : goal.may_follow_edge-requires-clause-edge
-may_follow_edge-requires-clause-edge c =
+pub label_joined-first-requires-clause-value : goal.label_joined-first-requires-clause-value
+label_joined-first-requires-clause-value c =
+    let g = c.args.self.now in
+    let r = c.requires in
+    first_small_label g r.grid c.args.load c.args.layer.now r.layer (column_task c.args.column) (column_required g r.grid c.args.column r.column) c.start.result c.start.ensures.value r.load c.if-x.false
+
+pub label_joined-first-requires-clause-edge : goal.label_joined-first-requires-clause-edge
+label_joined-first-requires-clause-edge c =
     let g = c.args.self.now in
     let r = c.requires in
     first_required g r.grid c.args.load c.args.layer.now r.layer (column_task c.args.column) (column_required g r.grid c.args.column r.column) c.start.result c.start.ensures.value c.if-x.false
 
-pub returns-then-may_follow_edge : goal.returns-then-may_follow_edge
-returns-then-may_follow_edge c =
+pub returns-then-first-x : goal.returns-then-first-x
+returns-then-first-x c =
     let g = c.args.self.now in
     let r = c.requires in
-    best_first g r.grid c.args.load c.args.layer.now r.layer (column_task c.args.column) (column_required g r.grid c.args.column r.column) c.start.result c.start.ensures.value c.if-x.false
-    (sym c.may_follow_edge.ensures ∙ c.if-may_follow_edge.true)
+    best_first g r.grid c.args.load c.args.layer.now r.layer (column_task c.args.column) (column_required g r.grid c.args.column r.column) c.start.result c.start.ensures.value
+    c.label_joined-first.result c.label_joined-first.ensures c.if-x.false (omega (arith, c.if-first-x.true))
 
-pub returns-then-x-2 : goal.returns-then-x-2
-returns-then-x-2 c =
+pub label_joined-requires-clause-value : goal.label_joined-requires-clause-value
+label_joined-requires-clause-value c =
     let g = c.args.self.now in
     let r = c.requires in
-    best_no_second g r.grid c.args.load c.args.layer.now r.layer (column_task c.args.column) (column_required g r.grid c.args.column r.column) c.start.result c.start.ensures.value
-    (sym c.may_follow_edge.ensures ∙ c.if-may_follow_edge.false) (omega (arith, c.if-x-2.true))
+    second_small_label g r.grid c.args.load c.args.layer.now r.layer (column_task c.args.column) (column_required g r.grid c.args.column r.column) c.start.result c.start.ensures.value r.load (omega (arith, c.if-first-x.false, c.label_joined-first.type_inv))
 
-pub may_follow_edge-requires-2-clause-edge : goal.may_follow_edge-requires-2-clause-edge
-may_follow_edge-requires-2-clause-edge c =
+pub label_joined-requires-clause-edge : goal.label_joined-requires-clause-edge
+label_joined-requires-clause-edge c =
     let g = c.args.self.now in
     let r = c.requires in
-    second_required g r.grid c.args.load c.args.layer.now r.layer (column_task c.args.column) (column_required g r.grid c.args.column r.column) c.start.result c.start.ensures.value c.if-x-2.false
+    second_required g r.grid c.args.load c.args.layer.now r.layer (column_task c.args.column) (column_required g r.grid c.args.column r.column) c.start.result c.start.ensures.value (λ same. absurd (omega (arith, same, c.if-first-x.false, c.label_joined-first.type_inv)))
 
-pub returns-then-may_follow_edge-2 : goal.returns-then-may_follow_edge-2
-returns-then-may_follow_edge-2 c =
+pub returns-then-label_joined-x : goal.returns-then-label_joined-x
+returns-then-label_joined-x c =
     let g = c.args.self.now in
     let r = c.requires in
     best_second g r.grid c.args.load c.args.layer.now r.layer (column_task c.args.column) (column_required g r.grid c.args.column r.column) c.start.result c.start.ensures.value
-    (sym c.may_follow_edge.ensures ∙ c.if-may_follow_edge.false) c.if-x-2.false (sym c.may_follow_edge-2.ensures ∙ c.if-may_follow_edge-2.true)
+    c.label_joined-first.result c.label_joined-first.ensures (omega (arith, c.if-first-x.false)) c.label_joined.result c.label_joined.ensures c.if-label_joined-x.true
