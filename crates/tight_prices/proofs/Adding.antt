@@ -106,11 +106,10 @@ price_keeps one other e d long less from_one in_range f = elim (cases_eq f e) [
   | inr apart ↦ omega (arith, ints, price_else one e f d apart, price_else other e f d apart, less f)
 ]
 
--- a set by its parts
-abbrev pub made : ℕ → List ℤ → List Weight → Prices
-made unit services weights = record { unit = unit; services = services; weights = weights }
+-- a set with other prices and weights
+abbrev pub made : Prices → List ℤ → List Weight → Prices
+made set services weights = record { unit = set.unit; services = services; weights = weights; groups = set.groups }
 
-pub same_made : {unit other : ℕ} {services prices : List ℤ} {weights others : List Weight} → unit ≡ other → services ≡ prices → weights ≡ others →
-    made unit services weights ≡ made other prices others
-same_made {unit} {other} {services} {prices} {weights} {others} units first second =
-    ap (λ n. made n services weights) units ∙ ap (λ zs. made other zs weights) first ∙ ap (λ ws. made other prices ws) second
+pub same_made : (set : Prices) {services prices : List ℤ} {weights others : List Weight} → services ≡ prices → weights ≡ others →
+    made set services weights ≡ made set prices others
+same_made set {services} {prices} {weights} {others} first second = ap (λ zs. made set zs weights) first ∙ ap (λ ws. made set prices ws) second

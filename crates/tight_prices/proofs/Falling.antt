@@ -1,5 +1,5 @@
 -- Where deadhead prices fall and prices of services rise, tours pay no better.
-use Rattle.std.proofs.Common.{◌≡◌, ℕ, zero, suc, ◌*◌, ◌≤◌, List, [], ◌∷◌, length, refl, sym, ap, ◌∙◌, arith, ℤ, pos, negsuc, ◌≤ℤ◌, nat_abs}
+use Rattle.std.proofs.Common.{◌≡◌, ℕ, zero, suc, ◌*◌, ◌≤◌, List, [], ◌∷◌, length, map, refl, sym, ap, ◌∙◌, arith, ℤ, pos, negsuc, ◌≤ℤ◌, nat_abs}
 use Rattle.std.proofs.lemmas.Int.{ints}
 use Rattle.std.proofs.lemmas.List.{get_or-map}
 use Rattle.std.proofs.lemmas.List.Sums.{sum_by-cons}
@@ -12,6 +12,7 @@ use Rattle.plan_model.specs.declared.step.Step.{Step}
 use Rattle.deadhead_paths.specs.Laws.{LeastDeadheadIsThere}
 use Rattle.deadhead_paths.specs.Prices.{Deadheads, IsLeastPrice, price_of}
 use Rattle.deadhead_paths.specs.Tours.{LeastDeadhead}
+use Rattle.branch_rules.specs.Bonds.{bond_weight}
 use Rattle.branch_rules.specs.Prices.{Prices, crossing_prices, deadhead_price, price_in, signed_sum, task_adds}
 use Rattle.branch_rules.specs.Refusals.{NoneTooHeavy}
 use Rattle.decision_chains.specs.declared.decision.Decision.{Decision}
@@ -62,6 +63,7 @@ pub record IsBelow (pool : List (List ℕ)) (set other : Prices) : Type 0 where
   pub services : length set.services ≡ length other.services
   pub prices : (e : ℕ) → price_in set e ≤ℤ price_in other e
   pub deadheads : (x : Edge) → deadhead_price pool other x ≤ℤ deadhead_price pool set x
+  pub groups : set.groups ≡ other.groups
 
 module _ (there : LeastDeadheadIsThere) (p : Problem) (valid : IsValid p) (pool : List (List ℕ)) (set other : Prices) (below : IsBelow pool set other) where
   light_falls : NoneTooHeavy p pool other → NoneTooHeavy p pool set
@@ -94,6 +96,7 @@ module _ (there : LeastDeadheadIsThere) (p : Problem) (valid : IsValid p) (pool 
           ints,
           pays.tours tasks deadhead.0 tour deadhead.1,
           services_more tasks,
+          ap (λ groups. bond_weight groups (map (λ (t : Task). t.edge) tasks)) below.groups,
           deadhead_falls p (price_of (crossing_prices p pool set)) (price_of (crossing_prices p pool other)) (crossing_falls pays.light) p.depot tasks p.depot deadhead.0 n deadhead.1 joined,
         );
   }

@@ -19,6 +19,8 @@ price_set_fine set e d fine within = record {
   few_weights = fine.few_weights;
   weights = fine.weights;
   rising = fine.rising;
+  few_groups = fine.few_groups;
+  groups = fine.groups;
 }
 
 -- the shores of a set rise from 1
@@ -39,4 +41,6 @@ weight_set_fine pool set s d few fine numbers number within =
       few_weights = omega (arith, few_above 0 (length pool) (add_weight s d set.weights) (omega arith) above all, few);
       weights = add_fine 0 s d set.weights number.from_one (set_above set fine) fine.weights within;
       rising = rising_from 0 (add_weight s d set.weights) above;
+      few_groups = fine.few_groups;
+      groups = fine.groups;
     }

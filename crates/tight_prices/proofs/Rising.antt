@@ -42,6 +42,7 @@ rises_step p pool branch set (places.Edge e) d fine = record {
   prices = λ f. price_grows set e f d;
   weights = λ shore. omega (arith, ints);
   deadheads = λ x. omega (arith, ints);
+  groups = refl;
   value = omega (arith, ints, sum_grows e d set.services);
 }
 rises_step p pool branch set (places.Shore s) d fine = record {
@@ -50,6 +51,7 @@ rises_step p pool branch set (places.Shore s) d fine = record {
   prices = λ f. omega (arith, ints);
   weights = λ shore. weight_grows 0 s shore d set.weights (set_above set fine);
   deadheads = λ x. omega (arith, ints, deadhead_after pool set s d x, added_natural (crosses_shore pool s x) d);
+  groups = refl;
   value = omega (arith, ints, value_grows (rules_of p pool branch) s d set.weights);
 }
 
@@ -60,6 +62,7 @@ rises_none p pool branch set = record {
   prices = λ f. omega (arith, ints);
   weights = λ shore. omega (arith, ints);
   deadheads = λ x. omega (arith, ints);
+  groups = refl;
   value = omega (arith, ints);
 }
 
@@ -70,14 +73,15 @@ rises_on {p} {pool} {branch} {one} {two} {three} first second = record {
   prices = λ f. omega (arith, ints, first.prices f, second.prices f);
   weights = λ shore. omega (arith, ints, first.weights shore, second.weights shore);
   deadheads = λ x. omega (arith, ints, first.deadheads x, second.deadheads x);
+  groups = first.groups ∙ second.groups;
   value = omega (arith, ints, first.value, second.value);
 }
 
 pub no_higher : {p : Problem} {pool : List (List ℕ)} {branch : List Decision} {set other : Prices} → Rises p pool branch set other → IsNoHigher set other
-no_higher rises = record { unit = rises.unit; services = rises.services; prices = rises.prices; weights = rises.weights }
+no_higher rises = record { unit = rises.unit; services = rises.services; prices = rises.prices; weights = rises.weights; groups = rises.groups }
 
 below_of : (p : Problem) (pool : List (List ℕ)) (branch : List Decision) (set other : Prices) → Rises p pool branch set other → IsBelow pool set other
-below_of p pool branch set other rises = record { unit = rises.unit; services = rises.services; prices = rises.prices; deadheads = rises.deadheads }
+below_of p pool branch set other rises = record { unit = rises.unit; services = rises.services; prices = rises.prices; deadheads = rises.deadheads; groups = rises.groups }
 
 -- both raised at one place
 both_raised : (pool : List (List ℕ)) (set other : Prices) (place : Place) (d : ℕ) → IsPlaceOn set place → IsBelow pool set other → IsBelow pool (raised set place d) (raised other place d)
@@ -86,12 +90,14 @@ both_raised pool set other (places.Edge e) d on below = record {
   services = add_long e d set.services ∙ below.services ∙ sym (add_long e d other.services);
   prices = price_keeps set other e d below.services below.prices on.0 on.1;
   deadheads = below.deadheads;
+  groups = below.groups;
 }
 both_raised pool set other (places.Shore s) d on below = record {
   unit = below.unit;
   services = below.services;
   prices = below.prices;
   deadheads = λ x. omega (arith, ints, below.deadheads x, deadhead_after pool set s d x, deadhead_after pool other s d x);
+  groups = below.groups;
 }
 
 -- one raise is no more than two that are together as much
@@ -115,6 +121,7 @@ twice_raised pool set (places.Edge e) c d on =
         | inr apart ↦ omega (arith, ints, price_else set e f (c + d) apart, price_else set e f c apart, price_else (with_price set e c) e f d apart)
       ];
       deadheads = λ x. omega (arith, ints);
+      groups = refl;
     }
 twice_raised pool set (places.Shore s) c d on = record {
   unit = refl;
@@ -129,6 +136,7 @@ twice_raised pool set (places.Shore s) c d on = record {
         deadhead_after pool (with_weight set s c) s d x,
         added_twice (crosses_shore pool s x) c d,
       );
+  groups = refl;
 }
 
 -- Fitting.

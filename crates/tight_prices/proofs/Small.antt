@@ -82,7 +82,7 @@ town_tight = record {
 }
 
 abbrev pub low_prices : Prices
-low_prices = record { unit = 1; services = pos 6 ∷ []; weights = town_prices.weights }
+low_prices = record { unit = 1; services = pos 6 ∷ []; weights = town_prices.weights; groups = [] }
 
 pub low_not : IsTight town town_pool 1 [] low_prices → ⊥
 low_not is = elim (is.prices 1 (record { from_one = lit≤ tt; in_range = lit≤ tt })) [

@@ -55,6 +55,7 @@ pub record Rises (p : Problem) (pool : List (List ℕ)) (branch : List Decision)
   pub prices : (e : ℕ) → price_in set e ≤ℤ price_in other e
   pub weights : (shore : ℕ) → weight_on set.weights shore ≤ℤ weight_on other.weights shore
   pub deadheads : (x : Edge) → deadhead_price pool other x ≤ℤ deadhead_price pool set x
+  pub groups : set.groups ≡ other.groups
   pub value : value_of (rules_of p pool branch) set ≤ℤ value_of (rules_of p pool branch) other
 
 -- where weights on shores not below this one begin

@@ -15,7 +15,7 @@ use Rattle.tight_prices.specs.declared.probe.Probe.TheVariants.{Pays, Lacks, Too
 -- no deadhead price is negative, and each relaxed tour under the branch pays
 pub record IsPaying (p : Problem) (pool : List (List ℕ)) (branch : List Decision) (set : Prices) : Type 0 where
   pub light : NoneTooHeavy p pool set
-  pub tours : PaysAtLeast p (λ a b. ¬ (Excluded p branch a b)) (task_adds p set) (price_of (crossing_prices p pool set))
+  pub tours : PaysAtLeast p (λ a b. ¬ (Excluded p branch a b)) (task_adds p set) (price_of (crossing_prices p pool set)) set.groups
 
 -- what sets are tested against, as plain data
 pub record Ground : Type 0 where

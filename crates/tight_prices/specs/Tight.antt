@@ -21,7 +21,7 @@ add_price (suc k) d prices = add_at k d prices
 
 -- the set with the price of serving an edge greater by d
 abbrev pub with_price : Prices → ℕ → ℕ → Prices
-with_price set e d = record { unit = set.unit; services = add_price e d set.services; weights = set.weights }
+with_price set e d = record { unit = set.unit; services = add_price e d set.services; weights = set.weights; groups = set.groups }
 
 -- a weight before others; a weight of 0 does not stand
 abbrev pub put_weight : ℕ → ℤ → List Weight → List Weight
@@ -38,7 +38,7 @@ add_weight shore d (w ∷ weights) =
 
 -- the set with the weight on a shore greater by d
 abbrev pub with_weight : Prices → ℕ → ℕ → Prices
-with_weight set shore d = record { unit = set.unit; services = set.services; weights = add_weight shore d set.weights }
+with_weight set shore d = record { unit = set.unit; services = set.services; weights = add_weight shore d set.weights; groups = set.groups }
 
 -- the weight on a shore, and 0 where there is none
 abbrev pub weight_on : List Weight → ℕ → ℤ
@@ -71,9 +71,11 @@ pub record IsTight (p : Problem) (pool : List (List ℕ)) (held : ℕ) (branch :
 abbrev pub AreKept : (ℕ → Type 0) → Prices → Prices → Type 0
 AreKept Changes set other = (shore : ℕ) → ¬ (Changes shore) → weight_on other.weights shore ≡ weight_on set.weights shore
 
--- no price and no weight of the first set is above that of the second, and they have the same denominator and as many prices
+-- no price and no weight of the first set is above that of the second, and they have the same denominator, as many prices and the same
+-- weights on groups
 pub record IsNoHigher (set other : Prices) : Type 0 where
   pub unit : set.unit ≡ other.unit
   pub services : length set.services ≡ length other.services
   pub prices : (e : ℕ) → price_in set e ≤ℤ price_in other e
   pub weights : (shore : ℕ) → weight_on set.weights shore ≤ℤ weight_on other.weights shore
+  pub groups : set.groups ≡ other.groups

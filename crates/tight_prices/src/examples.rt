@@ -5,7 +5,7 @@ ghost use Rattle.branch_rules.specs.Examples.{heavy_prices, light_prices, town_p
 ghost use Rattle.tight_prices.specs.Tight.{AreKept, IsNeededSingle, IsNoHigher, IsTight, add_weight, weight_on, with_price, with_weight};
 
 fn one_number_greater()
-    ensures price { with_price town_prices 1 3 ≡ record { unit = 1; services = pos 10 ∷ []; weights = town_prices.weights } }
+    ensures price { with_price town_prices 1 3 ≡ record { unit = 1; services = pos 10 ∷ []; weights = town_prices.weights; groups = [] } }
     ensures no_edge { with_price town_prices 2 3 ≡ town_prices }
     ensures weight { with_weight town_prices 1 1 ≡ heavy_prices }
     ensures gone { add_weight 1 1 light_prices.weights ≡ [] }
@@ -23,7 +23,7 @@ fn a_needed_shore()
 
 fn a_tight_set()
     ensures tight { IsTight town town_pool 1 [] town_prices }
-    ensures price { ¬ (IsTight town town_pool 1 [] (record { unit = 1; services = pos 6 ∷ []; weights = town_prices.weights })) }
+    ensures price { ¬ (IsTight town town_pool 1 [] (record { unit = 1; services = pos 6 ∷ []; weights = town_prices.weights; groups = [] })) }
     ensures too_heavy { ¬ (IsTight town town_pool 1 [] heavy_prices) }
 {}
 

@@ -26,9 +26,7 @@ pub(crate) const MOST: i64 = 1_000_000_000_000_000;
 pub(crate) fn copy(alloc: Global, set: &PriceSet) -> Result<PriceSet, Memory>
     ensures { IfOk result (λ copy. copy ≡ set.now) }
 {
-    let services = service_prices(alloc, set)?;
-    let weights = weights_of(alloc, set)?;
-    PriceSet::new(alloc, set.unit(), &services, &weights)
+    set.copy(alloc)
 }
 
 /// By how much the number is below the greatest one.
@@ -71,9 +69,10 @@ fn raise_price(alloc: Global, set: &PriceSet, e: u32, more: u64) -> Result<Price
     requires within { (price_in set.now e +ℤ pos more) ≤ℤ pos 1000000000000000 }
     ensures { IfOk result (λ higher. higher ≡ with_price set.now e more) }
 {
+    let _ = set.unit();
     let services = higher_prices(alloc, set, e, more)?;
     let weights = weights_of(alloc, set)?;
-    PriceSet::new(alloc, set.unit(), &services, &weights)
+    set.rebuilt(alloc, &services, &weights)
 }
 
 // The set with the weight on a shore greater by so much.
@@ -89,10 +88,10 @@ fn raise_weight(
     requires within { (weight_on set.now.weights s +ℤ pos more) ≤ℤ pos 1000000000000000 }
     ensures { IfOk result (λ higher. higher ≡ with_weight set.now s more) }
 {
-    let _ = pool.len();
+    let _ = (pool.len(), set.unit());
     let services = service_prices(alloc, set)?;
     let weights = higher_weights(alloc, set, s, more)?;
-    PriceSet::new(alloc, set.unit(), &services, &weights)
+    set.rebuilt(alloc, &services, &weights)
 }
 
 // The weights, with that on a shore greater by so much.

@@ -6,7 +6,7 @@ ghost use Rattle.route_pricing.specs.Tables.{IsRoom};
 ghost use Rattle.tight_prices.specs.Fillings.{IsFilledFor};
 ghost use Rattle.tight_prices.specs.Probes.{IsOutcome, IsPaying, IsSetting, ProbeSays, ground_of};
 
-use branch_rules::{Branch, PriceSet};
+use branch_rules::{Branch, PriceSet, surcharge_table, surcharges_are_bond_weights};
 use carp_base::{Allowed, Fail, Instance, Memory};
 use cut_pool::ShorePool;
 use deadhead_paths::distances;
@@ -50,6 +50,7 @@ pub(crate) fn try_set(
     ensures room { IsRoom setting.now.inst.now table.new }
     ensures says { IfOk result (ProbeSays (ground_of setting.now) set.now table.new) }
 {
+    surcharges_are_bond_weights();
     if fill(alloc, setting, table, set)? {
         Ok(outcome(table.least()))
     } else {
@@ -72,6 +73,7 @@ pub(crate) fn fill(
     ensures light { IfOk result (λ light. IsTrue light ↔ NoneTooHeavy setting.now.inst.now setting.now.pool.now set.now) }
     ensures filled { IfOk result (λ light. IsTrue light → IsFilledFor setting.now.inst.now setting.now.pool.now setting.now.branch.now set.now table.new) }
 {
+    surcharges_are_bond_weights();
     let prices = match set.edge_prices(alloc, setting.inst, setting.pool) {
         Ok(prices) => prices,
         Err(Fail::Memory) => return Err(Memory),
@@ -79,7 +81,15 @@ pub(crate) fn fill(
     };
     let dist = distances(alloc, setting.inst, setting.net, &prices)?;
     let services = service_prices(alloc, set)?;
-    table.fill(setting.inst, &dist, set.unit(), &services, setting.allowed);
+    let surcharges = surcharge_table(alloc, setting.inst.required(), set.groups())?;
+    table.fill(
+        setting.inst,
+        &dist,
+        set.unit(),
+        &services,
+        setting.allowed,
+        &surcharges,
+    );
     Ok(true)
 }
 

@@ -8,7 +8,7 @@ ghost use Rattle.tight_prices.specs.Tight.{AreKept};
 
 use crate::place::{Place, raise};
 use crate::probe::{Probe, Setting, try_set};
-use branch_rules::PriceSet;
+use branch_rules::{PriceSet, surcharges_are_bond_weights};
 use carp_base::{Memory, Task};
 use deadhead_paths::least_prices_are_there;
 use route_pricing::{Rate, Table};
@@ -128,6 +128,7 @@ pub(crate) fn left(table: &Table, place: Place, most: u64) -> u64
     ensures low { result ≤ most }
     ensures most { AreStillMost table.now place most result }
 {
+    surcharges_are_bond_weights();
     match place {
         Place::Edge(e) => capped(table.through(e, Rate { value: 0, load: 1 }), most),
         Place::Shore(_) => most,

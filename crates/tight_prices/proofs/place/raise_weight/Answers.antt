@@ -7,12 +7,12 @@ use Rattle.tight_prices.proofs.Adding.{made, same_made}
 use Rattle.tight_prices.proofs.Fine.{weight_set_fine}
 use Rattle.tight_prices.proofs.place.raise_weight.Goals as goal
 
-pub new-requires : goal.new-requires
-new-requires c =
-    subst IsPriceSet (sym (same_made c.unit.ensures.value (c.deref.ensures.value ∙ c.in_ok-services.ensures.value) (c.deref-2.ensures.value ∙ c.in_ok-weights.ensures)))
+pub rebuilt-requires : goal.rebuilt-requires
+rebuilt-requires c =
+    subst IsPriceSet (sym (same_made c.args.set.now (c.deref.ensures.value ∙ c.in_ok-services.ensures.value) (c.deref-2.ensures.value ∙ c.in_ok-weights.ensures)))
     (weight_set_fine c.args.pool.now c.args.set.now c.args.s c.args.more c.len.ensures.few c.unit.ensures.fine c.requires.shores c.requires.number c.requires.within)
 
 pub returns : goal.returns
 returns c =
-    IfOk-weaker c.new.result (λ (s : Prices). s ≡ made c.unit.result c.deref.result.now c.deref-2.result.now) (λ (s : Prices). s ≡ with_weight c.args.set.now c.args.s c.args.more)
-    (λ s is. is ∙ same_made c.unit.ensures.value (c.deref.ensures.value ∙ c.in_ok-services.ensures.value) (c.deref-2.ensures.value ∙ c.in_ok-weights.ensures)) c.new.ensures
+    IfOk-weaker c.rebuilt.result (λ (s : Prices). s ≡ made c.args.set.now c.deref.result.now c.deref-2.result.now) (λ (s : Prices). s ≡ with_weight c.args.set.now c.args.s c.args.more)
+    (λ s is. is ∙ same_made c.args.set.now (c.deref.ensures.value ∙ c.in_ok-services.ensures.value) (c.deref-2.ensures.value ∙ c.in_ok-weights.ensures)) c.rebuilt.ensures
