@@ -10,7 +10,7 @@ use Rattle.branch_rules.specs.Decisions.{lowest, lower_of}
 use Rattle.branch_rules.specs.Prices.{Prices}
 use Rattle.branch_rules.specs.Trees.{Tree, pair, cut, price, void, fixed, Support, PairsIn, IsLean, Shows}
 use Rattle.grown_trees.specs.Laws.{DecisionsKeepChainsLight, DecisionsKeepExclusions}
-use Rattle.raised_instances.specs.Laws.{FixedValuesRise, NeedsRise, SetsStayFit}
+use Rattle.raised_instances.specs.Laws.{RoomWeightsFall, FixedValuesRise, NeedsRise, SetsStayFit}
 use Rattle.carried_trees.specs.Carried.{IsCarried, WouldShow}
 use Rattle.carried_trees.specs.Laws.{CarriedTreesShow}
 use Rattle.carried_trees.proofs.Chaining.{required_now}
@@ -80,8 +80,8 @@ module _ (p q : Problem) (pool : List (List ℕ)) (sets : List Prices) (bound : 
   carry fixed made old new cuts more few follows pairs lean shows is =
       subst (IsSound new more) (sym is) (record { pairs = tt; lean = tt; shows = fixed_shows p q pool known old new follows sets bound shows })
 
-pub tree_shows : YesPairsJoin → ExcludedIsSymmetric → DecisionsKeepExclusions → DecisionsKeepChainsLight → NeedsRise → SetsStayFit → FixedValuesRise → CarriedTreesShow
-tree_shows join turn kept light needs fits values p q pool sets bound tree made valid_old valid_new rise showing carried =
+pub tree_shows : YesPairsJoin → ExcludedIsSymmetric → DecisionsKeepExclusions → DecisionsKeepChainsLight → NeedsRise → SetsStayFit → FixedValuesRise → RoomWeightsFall → CarriedTreesShow
+tree_shows join turn kept light needs fits values rooms p q pool sets bound tree made valid_old valid_new rise showing carried =
     let known : Known p q = record {
       valid_old = valid_old;
       valid_new = valid_new;
@@ -93,6 +93,7 @@ tree_shows join turn kept light needs fits values p q pool sets bound tree made 
       needs = needs;
       fits = fits;
       values = values;
+      rooms = rooms;
     } in
     let sound = carry p q pool sets bound known tree made [] [] 4 4 (omega arith) (follows_root p q pool known) showing.pairs showing.lean showing.shows carried in
     record { pairs = sound.pairs; lean = sound.lean; shows = sound.shows }

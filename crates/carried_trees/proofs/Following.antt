@@ -10,7 +10,7 @@ use Rattle.decision_chains.specs.declared.decision.Decision.{Decision}
 use Rattle.decision_chains.specs.declared.decision.Decision.TheVariants.{Yes, No, Low, High}
 use Rattle.branch_rules.specs.Decisions.{lowest, lower_of}
 use Rattle.grown_trees.specs.Laws.{DecisionsKeepChainsLight, DecisionsKeepExclusions}
-use Rattle.raised_instances.specs.Laws.{FixedValuesRise, NeedsRise, SetsStayFit}
+use Rattle.raised_instances.specs.Laws.{RoomWeightsFall, FixedValuesRise, NeedsRise, SetsStayFit}
 use Rattle.raised_instances.specs.Raised.{IsRaised}
 use Rattle.carried_trees.proofs.Numbers.{NumbersFollow, numbers_root, numbers_old, numbers_both, numbers_low, numbers_high, numbers_left}
 use Rattle.carried_trees.proofs.Chaining.{ChainsFollow, chains_root, chains_both, chains_old, required_now}
@@ -27,6 +27,7 @@ pub record Known (p q : Problem) : Type 0 where
   pub needs : NeedsRise
   pub fits : SetsStayFit
   pub values : FixedValuesRise
+  pub rooms : RoomWeightsFall
 
 pub record Follows (p q : Problem) (pool : List (List ℕ)) (old new : List Decision) : Type 0 where
   pub numbers : NumbersFollow p q pool old new

@@ -34,7 +34,7 @@ module _ (p q : Problem) (pool : List (List ℕ)) (known : Known p q) (old new :
       (follows.numbers.lower w.shore) (subst (λ o. unwrap_or o 0 ≡ unwrap_or (lowest w.shore old) 0) (sym (follows.numbers.upper w.shore)) refl)
 
   value_rises : (set : Prices) → value_of (rules_of p pool old) set ≤ℤ value_of (rules_of q pool new) set
-  value_rises set = omega (arith, ints, sum_rises (weight_value (rules_of p pool old)) (weight_value (rules_of q pool new)) set.weights weight_rises)
+  value_rises set = omega (arith, ints, sum_rises (weight_value (rules_of p pool old)) (weight_value (rules_of q pool new)) set.weights weight_rises, known.rooms p q pool old new known.valid_old known.valid_new known.rise set.groups)
 
   abbrev before : List Prices → Support
   before sets = record { problem = p; pool = pool; sets = sets }

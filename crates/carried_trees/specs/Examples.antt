@@ -35,7 +35,7 @@ waste = record { vertices = 2; depot = 1; capacity = 1; required = 0; edges = []
 
 -- a weight of 5 on the shore of the other vertex
 abbrev pub waste_prices : Prices
-waste_prices = record { unit = 1; services = []; weights = record { shore = 1; weight = pos 5 } ∷ [] }
+waste_prices = record { unit = 1; services = []; weights = record { shore = 1; weight = pos 5 } ∷ []; groups = [] }
 
 abbrev pub waste_support : Support
 waste_support = record { problem = waste; pool = (2 ∷ []) ∷ []; sets = waste_prices ∷ [] }

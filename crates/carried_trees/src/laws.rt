@@ -4,7 +4,8 @@ ghost use Rattle.carried_trees.specs.Laws.{CarriedTreesShow};
 use decision_chains::{excluded_is_symmetric, yes_pairs_join};
 use grown_trees::decisions_keep_exclusions;
 use raised_instances::{
-    raised_fixed_values_are_no_less, raised_needs_are_no_less, raised_sets_stay_fit,
+    raised_fixed_values_are_no_less, raised_needs_are_no_less, raised_rooms_are_no_more,
+    raised_sets_stay_fit,
 };
 
 /// Where numbers rise, the tree that is carried over is lean, its pairs are of required edges, and it shows each bound that the older
@@ -17,5 +18,6 @@ pub fn carried_trees_show()
     decisions_keep_exclusions();
     raised_needs_are_no_less();
     raised_sets_stay_fit();
+    raised_rooms_are_no_more();
     raised_fixed_values_are_no_less();
 }

@@ -16,7 +16,7 @@ use Rattle.decision_chains.specs.declared.decision.Decision.{Decision}
 use Rattle.branch_rules.specs.declared.weight.Weight.{Weight}
 use Rattle.branch_rules.specs.Decisions.{highest, lowest, rules_of, to_parity}
 use Rattle.branch_rules.specs.Laws.{FitsBranch}
-use Rattle.branch_rules.specs.Prices.{PaysAtLeast, Prices, crossing_prices, crossing_weight, deadhead_price, signed_sum, task_adds, value_of, weigh, weight_value}
+use Rattle.branch_rules.specs.Prices.{room_weight, PaysAtLeast, Prices, crossing_prices, crossing_weight, deadhead_price, signed_sum, task_adds, value_of, weigh, weight_value}
 use Rattle.dual_master.specs.Growth.{GrowthKeepsSets}
 
 pub grown_at : (pool more : List (List ℕ)) (i : ℕ) → IsShoreNumber pool i → shore_at (pool ++ more) i ≡ shore_at pool i
@@ -47,7 +47,7 @@ module _ (p : Problem) (pool more : List (List ℕ)) (branch : List Decision) (s
     fits = record {
       not_negative = λ e is. subst (λ z. pos 0 ≤ℤ z) (sym (deadhead_same (edge_at p e))) (fits.fits.not_negative e is);
       has_upper = fits.fits.has_upper;
-      tours = subst (λ prices. PaysAtLeast p (λ a b. ¬ (Excluded p branch a b)) (task_adds p set) (price_of prices)) (sym crossing_same) fits.fits.tours;
+      tours = subst (λ prices. PaysAtLeast p (λ a b. ¬ (Excluded p branch a b)) (task_adds p set) (price_of prices) set.groups) (sym crossing_same) fits.fits.tours;
     };
   }
 
@@ -57,7 +57,7 @@ module _ (p : Problem) (pool more : List (List ℕ)) (branch : List Decision) (s
 
   pub value_as_before : value_of (rules_of p (pool ++ more) branch) set ≡ value_of (rules_of p pool branch) set
   value_as_before =
-      ap (λ s. signed_sum (λ z. z) set.services +ℤ s)
+      ap (λ s. (signed_sum (λ z. z) set.services +ℤ s) -ℤ pos (room_weight (rules_of p pool branch) set.groups))
       (sum_same (weight_value (rules_of p (pool ++ more) branch)) (weight_value (rules_of p pool branch)) set.weights
       (All-weaker (λ (w : Weight). IsShoreNumber pool w.shore) (λ (w : Weight). weight_value (rules_of p (pool ++ more) branch) w ≡ weight_value (rules_of p pool branch) w) counts_same set.weights all))
 

@@ -3,12 +3,12 @@ use Rattle.std.proofs.Common.{◌≡◌, ℕ, zero, suc, ◌+◌, ◌*◌, ◌�
 use mir.Syntax.{w128}
 use Rattle.std.specs.Prelude.{if◌then◌else◌, IsSome, Option, None, Some, unwrap_or, ◌==◌}
 use Rattle.std.specs.Int.{div_ceil}
-use Rattle.std.specs.List.{All}
+use Rattle.std.specs.List.{All, sum_by}
 use Rattle.std.proofs.Math.Nat.{div-le_self, mul-le-mul}
 use Rattle.std.proofs.lemmas.Int.{ints, to_z-of_z}
 use Rattle.std.proofs.lemmas.List.{get_or-take, length-take-le}
 use Rattle.std.proofs.lemmas.List.Elements.{All-from_get_or, All-from_recursion, All-head, All-tail, All-weaker}
-use Rattle.std.proofs.lemmas.List.Sums.{sum_by-le, sum_by-le-sum_by}
+use Rattle.std.proofs.lemmas.List.Sums.{sum_by-cons, sum_by-le, sum_by-le-sum_by}
 use Rattle.carp_base.specs.declared.edge.Edge.{Edge}
 use Rattle.carp_base.specs.Problem.{Problem, IsValid, no_edge, required_edges, total_demand}
 use Rattle.cut_pool.specs.Pools.{shore_at}
@@ -18,7 +18,8 @@ use Rattle.decision_chains.specs.declared.decision.Decision.{Decision}
 use Rattle.decision_chains.specs.declared.decision.Decision.TheVariants.{Yes, No, Low, High}
 use Rattle.branch_rules.specs.Decisions.{highest, lowest, rules_of, to_parity}
 use Rattle.branch_rules.specs.Laws.{FitsBranch}
-use Rattle.branch_rules.specs.Limits.{IsFineDecision, IsFineWeight, IsPriceNumber, IsPriceSet}
+use Rattle.branch_rules.specs.Limits.{IsFineDecision, IsFineGroup, IsFineWeight, IsPriceNumber, IsPriceSet}
+use Rattle.branch_rules.specs.Bonds.{GroupWeight, room}
 use Rattle.branch_rules.specs.Prices.{Prices, no_weight, signed_sum, value_of, weigh, weight_value}
 use Rattle.branch_rules.specs.Refusals.{IsWithoutUpper}
 use Rattle.branch_rules.specs.declared.branch.NoUpper.{NoUpper}
@@ -106,6 +107,19 @@ weigh_small (negsuc w) low high within small few =
     let most : suc w * high ≤ 1000000000000000 * 1000000 = mul-le-mul bound few in
     record { low = omega (arith, ints, most); high = omega (arith, ints, most) }
 
+-- no group weighs more than its weight for each of its edges
+rooms_small : (p : Problem) (groups : List GroupWeight) → All IsFineGroup groups → sum_by (λ w. w.weight * room p w.edges) groups ≤ length groups * 600000000000000000
+rooms_small p [] fine = omega arith
+rooms_small p (w ∷ groups) fine =
+    let own = All-head IsFineGroup w groups fine in
+    let few : room p w.edges ≤ 600 = omega (arith, own.few) in
+    omega (
+      arith,
+      sum_by-cons (λ (x : GroupWeight). x.weight * room p x.edges) w groups,
+      mul-le-mul own.small few,
+      rooms_small p groups (All-tail IsFineGroup w groups fine),
+    )
+
 module _ (p : Problem) (pool : List (List ℕ)) (branch : List Decision) (set : Prices) (valid : IsValid p) (decisions : All IsFineDecision branch) (fine : IsPriceSet set) where
   weight_small : (w : Weight) → IsFineWeight w → IsUpTo 40000000000000000000000 (weight_value (rules_of p pool branch) w)
   weight_small w is =
@@ -123,7 +137,7 @@ module _ (p : Problem) (pool : List (List ℕ)) (branch : List Decision) (set : 
       sum_small (weight_value (rules_of p pool branch)) 40000000000000000000000 set.weights
       (All-weaker IsFineWeight (λ (w : Weight). IsUpTo 40000000000000000000000 (weight_value (rules_of p pool branch) w)) weight_small set.weights fine.weights) in
       record {
-        low = omega (arith, ints, services.low, weights.low, fine.few_services, fine.few_weights);
+        low = omega (arith, ints, services.low, weights.low, fine.few_services, fine.few_weights, rooms_small p set.groups fine.groups, fine.few_groups);
         high = omega (arith, ints, services.high, weights.high, fine.few_services, fine.few_weights);
       }
 

@@ -28,7 +28,7 @@ none_there (z ∷ zs) none = absurd (omega (arith, none))
 
 -- a set of these prices alone, with the denominator 1
 abbrev priced : List ℤ → Prices
-priced zs = record { unit = 1; services = zs; weights = [] }
+priced zs = record { unit = 1; services = zs; weights = []; groups = [] }
 
 pub nothing_made : (p : Problem) → IsValid p → p.required ≡ 0 → IsRatioSet p (ratio_set p 0 1)
 nothing_made p valid none = inl (none, ap priced (none_there (prices_at p 1 0) (prices_long p 1 0 valid ∙ none)))

@@ -72,6 +72,8 @@ set_fine p unit shores valid some few placeable = record {
   few_weights = omega (arith, weights_long 1 shores, placeable.few);
   weights = weights_fine 1 shores (omega arith) placeable.positive;
   rising = numbers_rise 1 shores;
+  few_groups = omega arith;
+  groups = λ k d below. absurd (omega (arith, below));
 }
 
 module _ (p : Problem) (pool : List (List ℕ)) (unit : ℕ) (shores : List Weighted) (valid : IsValid p) (held : pool ≡ shores_of shores) (placeable : ArePlaceable p shores) where

@@ -172,6 +172,8 @@ ratio_set_fine p a b valid is = record {
   few_weights = omega arith;
   weights = λ k d below. absurd (omega (arith, below));
   rising = λ k below. absurd (omega (arith, below));
+  few_groups = omega arith;
+  groups = λ k d below. absurd (omega (arith, below));
 }
 
 pub nothing_in : (p : Problem) → IsValid p → IsRatioIn p 0 1

@@ -1,5 +1,5 @@
 -- What the table of least relaxed tours says where services are at cost and all pairs are allowed.
-use Rattle.std.proofs.Common.{◌≡◌, ◌≢◌, ℕ, zero, suc, true, not, Option, Some, None, All, List, [], ◌∷◌, ◌++◌, map, length, refl, sym, ap, ◌∙◌, subst, arith, ℤ, pos, ◌+ℤ◌}
+use Rattle.std.proofs.Common.{◌≡◌, ◌≢◌, ℕ, zero, suc, ◌+◌, true, not, Option, Some, None, All, List, [], ◌∷◌, ◌++◌, map, length, refl, sym, ap, ◌∙◌, subst, arith, ℤ, pos, ◌+ℤ◌}
 use Rattle.std.specs.List.{AllByRecursion}
 use Rattle.std.specs.Option.{MatchOption}
 use Rattle.std.proofs.lemmas.Bool.{false≢true, eq-eqb, ne_eqb}
@@ -10,11 +10,12 @@ use Rattle.carp_base.specs.declared.edge.Task.{Task}
 use Rattle.carp_base.specs.Problem.{Problem, IsValid, IsRequired}
 use Rattle.deadhead_paths.specs.Prices.{costs_of}
 use Rattle.deadhead_paths.specs.Tours.{IsTaskTour}
-use Rattle.pricing_grid.specs.Pricing.{Pricing, IsAllowed, IsServicePrice}
+use Rattle.pricing_grid.specs.Pricing.{AreSurcharges, Pricing, IsAllowed, IsServicePrice, service_adds}
+use Rattle.branch_rules.specs.Bonds.{IsSurchargeTable}
 use Rattle.route_pricing.specs.Tables.{IsFilled}
 use Rattle.route_pricing.specs.declared.table.Ratio.{Ratio}
 use Rattle.route_pricing.specs.declared.table.Table.{Table}
-use Rattle.route_pricing.specs.Values.{IsFree, IsLeastRatio, services_add}
+use Rattle.route_pricing.specs.Values.{IsFree, IsLeastRatio, services_add, tour_surcharge}
 use Rattle.floor_prices.specs.Floors.{IsFreeTour, IsLeastCostRatio}
 use Rattle.floor_prices.specs.Pieces.{prices_at, ratio_set}
 use Rattle.floor_prices.proofs.Packed.{costs_small}
@@ -38,7 +39,7 @@ followed_required p (t ∷ (u ∷ tasks)) a b [] after is all =
     (subst (IsRequired p) (ap hd is) all.0, subst (IsRequired p) (ap (λ es. hd (tl es)) is) all.1.0)
 followed_required p (t ∷ tasks) a b (c ∷ before) after is all = followed_required p tasks a b before after (ap tl is) all.1
 
-module _ (p : Problem) (r : Relation) (all : AllowsAll p.required r) where
+module _ (p : Problem) (r : Relation) (all : AllowsAll p.required r) (surcharges : List ℕ) (charged : IsSurchargeTable p.required [] surcharges) where
   of : (e : ℕ) → IsRequired p e → IsOf r e
   of e is = record { from_one = is.from_one; in_range = omega (arith, is.in_range, all.on) }
 
@@ -49,7 +50,7 @@ module _ (p : Problem) (r : Relation) (all : AllowsAll p.required r) where
   apart_from a b a_is b_is may same = false≢true (sym (sym may ∙ all.each a b (of a a_is) (of b b_is) ∙ ap not (eq-eqb a b same)))
 
   abbrev cost_pricing : Pricing
-  cost_pricing = record { problem = p; prices = costs_of p; unit = 1; services = prices_at p 1 0; relation = r }
+  cost_pricing = record { problem = p; prices = costs_of p; unit = 1; services = prices_at p 1 0; relation = r; surcharges = surcharges }
 
   free_from : (tasks : List Task) → IsTaskTour p (IsAllowed cost_pricing) tasks → IsFreeTour p tasks
   free_from tasks tour = record {
@@ -72,8 +73,11 @@ module _ (p : Problem) (r : Relation) (all : AllowsAll p.required r) where
   }
 
   pub cost_is_free : IsValid p → IsFree cost_pricing
-  cost_is_free valid zero is = absurd (omega (arith, is.from_one))
-  cost_is_free valid (suc k) is = omega (arith, ints, price_at p (ratio_set p 0 1) 1 0 (suc k) valid refl is)
+  cost_is_free valid = record { services = serves; pairs = λ e f e_is f_is. charged.same e f e_is.from_one e_is.in_range f_is.from_one f_is.in_range }
+    where
+      serves : (e : ℕ) → IsRequired p e → service_adds cost_pricing e ≡ pos 0
+      serves zero is = absurd (omega (arith, is.from_one))
+      serves (suc k) is = omega (arith, ints, price_at p (ratio_set p 0 1) 1 0 (suc k) valid refl is)
 
   pub ratio_from_table : (a b : ℕ) → IsLeastRatio cost_pricing a b → IsLeastCostRatio p a b
   ratio_from_table a b least = record {
@@ -82,7 +86,7 @@ module _ (p : Problem) (r : Relation) (all : AllowsAll p.required r) where
     joined = least.attained.deadheads;
     loaded = least.loaded;
     least = λ other n tour joined.
-        least.least other n (services_add cost_pricing other +ℤ pos n) (record { tour = free_to other tour; deadheads = joined; sum = refl });
+        least.least other n (services_add cost_pricing other +ℤ pos (n + tour_surcharge cost_pricing other)) (record { tour = free_to other tour; deadheads = joined; sum = refl });
   }
 
   found_from_table : (found : Option Ratio) → MatchOption found (p.required ≡ 0) (λ q. IsLeastRatio cost_pricing q.deadhead q.load) → MatchOption found (p.required ≡ 0) (λ q. IsLeastCostRatio p q.deadhead q.load)
@@ -91,13 +95,21 @@ module _ (p : Problem) (r : Relation) (all : AllowsAll p.required r) where
 
   -- what a table says that was filled with costs
   pub ratio_from_filled : IsValid p → (prices : List ℕ) (services : List ℤ) → prices ≡ costs_of p → services ≡ prices_at p 1 0 → (table : Table) →
-      IsFilled (record { problem = p; prices = prices; unit = 1; services = services; relation = r }) table → (found : Option Ratio) →
+      IsFilled (record { problem = p; prices = prices; unit = 1; services = services; relation = r; surcharges = surcharges }) table → (found : Option Ratio) →
       ((x : Pricing) → IsFilled x table → IsFree x → MatchOption found (x.problem.required ≡ 0) (λ q. IsLeastRatio x q.deadhead q.load)) →
       MatchOption found (p.required ≡ 0) (λ q. IsLeastCostRatio p q.deadhead q.load)
   ratio_from_filled valid prices services prices_are services_are table filled found says =
-      let first = subst (λ xs. IsFilled (record { problem = p; prices = xs; unit = 1; services = services; relation = r }) table) prices_are filled in
-      let second = subst (λ zs. IsFilled (record { problem = p; prices = costs_of p; unit = 1; services = zs; relation = r }) table) services_are first in
+      let first = subst (λ xs. IsFilled (record { problem = p; prices = xs; unit = 1; services = services; relation = r; surcharges = surcharges }) table) prices_are filled in
+      let second = subst (λ zs. IsFilled (record { problem = p; prices = costs_of p; unit = 1; services = zs; relation = r; surcharges = surcharges }) table) services_are first in
       found_from_table found (says cost_pricing second (cost_is_free valid))
+
+-- without groups there is no surcharge
+pub none_charged : (m : ℕ) (surcharges : List ℕ) → IsSurchargeTable m [] surcharges → AreSurcharges m surcharges
+none_charged m surcharges charged = record {
+  long = charged.long;
+  both_orders = λ e f e_from e_in f_from f_in. charged.same e f e_from e_in f_from f_in ∙ sym (charged.same f e f_from f_in e_from e_in);
+  small = λ e f e_from e_in f_from f_in. omega (arith, charged.same e f e_from e_in f_from f_in);
+}
 
 -- services at cost are within the limits of the table
 pub costs_servable : (p : Problem) → IsValid p → All IsServicePrice (prices_at p 1 0)

@@ -6,19 +6,19 @@ use Rattle.carp_base.specs.Problem.{Problem}
 
 -- a price of 8 for a service of cost 7
 abbrev pub dear_prices : Prices
-dear_prices = record { unit = 1; services = pos 8 ∷ []; weights = [] }
+dear_prices = record { unit = 1; services = pos 8 ∷ []; weights = []; groups = [] }
 
 -- the service at cost, and no weight
 abbrev pub bare_prices : Prices
-bare_prices = record { unit = 1; services = pos 7 ∷ []; weights = [] }
+bare_prices = record { unit = 1; services = pos 7 ∷ []; weights = []; groups = [] }
 
 -- the service at cost, and a weight of 5 on the shore, in halves
 abbrev pub half_prices : Prices
-half_prices = record { unit = 2; services = pos 14 ∷ []; weights = record { shore = 1; weight = pos 10 } ∷ [] }
+half_prices = record { unit = 2; services = pos 14 ∷ []; weights = record { shore = 1; weight = pos 10 } ∷ []; groups = [] }
 
 -- the service cost and the deadhead of the only tour, and no weight
 abbrev pub shared_prices : Prices
-shared_prices = record { unit = 1; services = pos 12 ∷ []; weights = [] }
+shared_prices = record { unit = 1; services = pos 12 ∷ []; weights = []; groups = [] }
 
 -- a depot alone
 abbrev pub no_town : Problem

@@ -45,11 +45,11 @@ pub record HoldsFirst (shores : List Weighted) (pool : List (List ℕ)) : Type 0
 
 -- services at cost, and the shores with their weights under the numbers from 1 on
 abbrev pub prices_of : Problem → ℕ → List Weighted → Prices
-prices_of p unit shores = record { unit = unit; services = prices_at p unit 0; weights = weights_from 1 shores }
+prices_of p unit shores = record { unit = unit; services = prices_at p unit 0; weights = weights_from 1 shores; groups = [] }
 
 -- the prices by a ratio of deadhead and load, with no weights
 abbrev pub ratio_set : Problem → ℕ → ℕ → Prices
-ratio_set p deadhead load = record { unit = load; services = prices_at p load deadhead; weights = [] }
+ratio_set p deadhead load = record { unit = load; services = prices_at p load deadhead; weights = []; groups = [] }
 
 -- a ratio by which all prices are within their limits
 pub record IsRatioIn (p : Problem) (deadhead load : ℕ) : Type 0 where

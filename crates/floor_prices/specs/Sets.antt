@@ -41,7 +41,7 @@ pub record SharesLeastRatio (p : Problem) (set : Prices) : Type 0 where
 
 -- the set without prices and weights, with the denominator 1
 abbrev pub empty_set : Prices
-empty_set = record { unit = 1; services = []; weights = [] }
+empty_set = record { unit = 1; services = []; weights = []; groups = [] }
 
 -- the set shares a least ratio, or it is the empty one where no edge is required
 abbrev pub IsRatioSet : Problem → Prices → Type 0

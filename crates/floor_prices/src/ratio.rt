@@ -7,7 +7,7 @@ ghost use Rattle.floor_prices.specs.Pieces.{IsRatioIn, ratio_set};
 ghost use Rattle.floor_prices.specs.Sets.{IsRatioSet};
 
 use crate::services::service_prices;
-use branch_rules::PriceSet;
+use branch_rules::{PriceSet, surcharge_table};
 use carp_base::{Allowed, Instance, Memory};
 use deadhead_paths::{Distances, least_prices_are_there};
 use route_pricing::{Ratio, Table};
@@ -69,7 +69,8 @@ fn least_ratio(
     let _ = inst.vertices();
     let services = service_prices(alloc, inst, 1, 0)?;
     let allowed = Allowed::all(alloc, inst)?;
-    table.fill(inst, dist, 1, &services, &allowed);
+    let surcharges = surcharge_table(alloc, inst.required(), &[])?;
+    table.fill(inst, dist, 1, &services, &allowed, &surcharges);
     Ok(table.least_ratio())
 }
 

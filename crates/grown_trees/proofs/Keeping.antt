@@ -310,8 +310,8 @@ module _ (p : Problem) (pool : List (List ℕ)) (branch : List Decision) (d : De
 
   -- each relaxed tour was one before
   tours_kept : (set : Prices) → ((a b : ℕ) → Excluded p branch a b → Excluded p next a b) →
-      PaysAtLeast p (λ a b. ¬ (Excluded p branch a b)) (task_adds p set) (price_of (crossing_prices p pool set)) →
-      PaysAtLeast p (λ a b. ¬ (Excluded p next a b)) (task_adds p set) (price_of (crossing_prices p pool set))
+      PaysAtLeast p (λ a b. ¬ (Excluded p branch a b)) (task_adds p set) (price_of (crossing_prices p pool set)) set.groups →
+      PaysAtLeast p (λ a b. ¬ (Excluded p next a b)) (task_adds p set) (price_of (crossing_prices p pool set)) set.groups
   tours_kept set kept pays = λ tasks n tour least. pays tasks n (record {
     some = tour.some;
     required = tour.required;

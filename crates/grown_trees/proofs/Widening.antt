@@ -20,7 +20,7 @@ use Rattle.branch_rules.specs.declared.node.Node.{Node}
 use Rattle.branch_rules.specs.declared.node.Node.TheVariants as nodes
 use Rattle.branch_rules.specs.Decisions.{highest, lowest, lower_of, rules_of, to_parity, cuts_of, IsVoid, three, cycle, heavy_chain, crossed, IsFixed}
 use Rattle.branch_rules.specs.Limits.{AreShoresIn, HasShoreOf, IsNodeIn, IsShoreOf}
-use Rattle.branch_rules.specs.Prices.{Fits, PaysAtLeast, Prices, crossing_prices, crossing_weight, deadhead_price, signed_sum, task_adds, value_of, weigh, weight_value}
+use Rattle.branch_rules.specs.Prices.{room_weight, Fits, PaysAtLeast, Prices, crossing_prices, crossing_weight, deadhead_price, signed_sum, task_adds, value_of, weigh, weight_value}
 use Rattle.branch_rules.specs.Trees.{Tree, Support, set_at, no_prices, PriceShows, FixedShows, IsLeanNode}
 use Rattle.grown_trees.specs.Growth.{Fraction, NodeReaches, IsSoundNode, AreSound}
 use Rattle.grown_trees.specs.Stands.{Stand, stands, NodeFits, NodeShows, HoldsShores, with_shores}
@@ -110,7 +110,7 @@ module _ (p : Problem) (pool more : List (List ℕ)) where
 
     value_same : value_of (rules_of p (pool ++ more) branch) set ≡ value_of (rules_of p pool branch) set
     value_same =
-        ap (λ s. signed_sum (λ z. z) set.services +ℤ s)
+        ap (λ s. (signed_sum (λ z. z) set.services +ℤ s) -ℤ pos (room_weight (rules_of p pool branch) set.groups))
         (sum_same (weight_value (rules_of p (pool ++ more) branch)) (weight_value (rules_of p pool branch)) set.weights
         (All-weaker (λ (w : Weight). IsShoreNumber pool w.shore) (λ (w : Weight). weight_value (rules_of p (pool ++ more) branch) w ≡ weight_value (rules_of p pool branch) w) counts_same set.weights all))
 
@@ -118,14 +118,14 @@ module _ (p : Problem) (pool more : List (List ℕ)) where
     fit_to fits = record {
       not_negative = λ e is. subst (λ z. pos 0 ≤ℤ z) (sym (deadhead_same (edge_at p e))) (fits.not_negative e is);
       has_upper = fits.has_upper;
-      tours = subst (λ prices. PaysAtLeast p (λ a b. ¬ (Excluded p branch a b)) (task_adds p set) (price_of prices)) (sym crossing_same) fits.tours;
+      tours = subst (λ prices. PaysAtLeast p (λ a b. ¬ (Excluded p branch a b)) (task_adds p set) (price_of prices) set.groups) (sym crossing_same) fits.tours;
     }
 
     fit_from : Fits p (pool ++ more) (rules_of p (pool ++ more) branch) (λ a b. ¬ (Excluded p branch a b)) set → Fits p pool (rules_of p pool branch) (λ a b. ¬ (Excluded p branch a b)) set
     fit_from fits = record {
       not_negative = λ e is. subst (λ z. pos 0 ≤ℤ z) (deadhead_same (edge_at p e)) (fits.not_negative e is);
       has_upper = fits.has_upper;
-      tours = subst (λ prices. PaysAtLeast p (λ a b. ¬ (Excluded p branch a b)) (task_adds p set) (price_of prices)) crossing_same fits.tours;
+      tours = subst (λ prices. PaysAtLeast p (λ a b. ¬ (Excluded p branch a b)) (task_adds p set) (price_of prices) set.groups) crossing_same fits.tours;
     }
 
 -- Nodes where they stand.

@@ -1,5 +1,5 @@
 -- The set of services at cost and of listed weights.
-use Rattle.std.proofs.Common.{◌≡◌, ℕ, zero, suc, ◌+◌, ◌*◌, ◌<◌, ◌≤◌, List, [], length, map, get_or, arith, ℤ, pos, subst, slice_index_or}
+use Rattle.std.proofs.Common.{◌≡◌, ℕ, zero, suc, ◌+◌, ◌*◌, ◌<◌, ◌≤◌, List, [], length, map, get_or, arith, pos, subst}
 use Rattle.std.specs.List.{All}
 use Rattle.std.proofs.lemmas.Int.{ints}
 use Rattle.std.proofs.lemmas.List.{length-map, length-take}
@@ -7,7 +7,6 @@ use Rattle.std.proofs.lemmas.List.Elements.{All-from_get_or}
 use Rattle.std.proofs.Math.ListN.{get_or-map}
 use Rattle.carp_base.specs.Problem.{Problem, IsValid, no_edge, required_edges}
 use Rattle.cut_pool.specs.Shores.{Belongs}
-use Rattle.cut_pool.specs.Pools.{IsShoreNumber, shore_at}
 use Rattle.branch_rules.specs.Limits.{IsPriceNumber, IsPriceSet, IsShoreOf}
 use Rattle.branch_rules.specs.Prices.{Prices}
 use Rattle.branch_rules.specs.declared.weight.Weight.{Weight}
@@ -29,7 +28,7 @@ services_fine p valid =
 
 -- the set
 abbrev pub set_of : Problem → List Weight → Prices
-set_of p weights = record { unit = 1000000; services = map (λ x. pos (1000000 * x.service)) (required_edges p); weights = weights }
+set_of p weights = record { unit = 1000000; services = map (λ x. pos (1000000 * x.service)) (required_edges p); weights = weights; groups = [] }
 
 pub set_fine : (p : Problem) → IsValid p → (limit : ℕ) (weights : List Weight) → limit ≤ 2000 → AreListed (limit + 1) weights → IsPriceSet (set_of p weights)
 set_fine p valid limit weights few are = record {
@@ -40,6 +39,8 @@ set_fine p valid limit weights few are = record {
   few_weights = omega (arith, are.few, few);
   weights = are.fine;
   rising = are.rising;
+  few_groups = omega arith;
+  groups = λ k d below. absurd (omega (arith, below));
 }
 
 shore_in : (p : Problem) (pool : List (List ℕ)) → All (Belongs p) pool → (shore : ℕ) → 1 ≤ shore → shore < length pool + 1 → IsShoreOf p pool shore

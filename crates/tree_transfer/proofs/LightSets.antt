@@ -10,7 +10,8 @@ use Rattle.decision_chains.specs.declared.decision.Decision.{Decision}
 use Rattle.decision_chains.specs.declared.decision.Decision.TheVariants.{Yes, No, Low, High}
 use Rattle.branch_rules.specs.Decisions.{IsFixed, rules_of}
 use Rattle.branch_rules.specs.Limits.{IsShoreOf}
-use Rattle.branch_rules.specs.Prices.{Fits, Prices, Rules, crossing_weight, signed_sum, task_adds, value_of, weight_value}
+use Rattle.branch_rules.specs.Bonds.{GroupWeight}
+use Rattle.branch_rules.specs.Prices.{room_weight, Fits, Prices, Rules, crossing_weight, signed_sum, task_adds, value_of, weight_value}
 use Rattle.branch_rules.specs.Trees.{Tree, pair, cut, price, void, fixed, Support, PriceShows, no_prices, node_at, preorder, set_at}
 use Rattle.branch_rules.specs.declared.node.Node.{Node}
 use Rattle.branch_rules.specs.declared.node.Node.TheVariants as nodes
@@ -60,8 +61,12 @@ module _ (p : Problem) (set : Prices) (light : IsLight p set) where
     tours = λ tasks n tour least. omega (arith, ints, tasks_add tasks tour.required);
   }
 
+  no_rooms : (rules : Rules) (groups : List GroupWeight) → length groups ≡ 0 → room_weight rules groups ≡ 0
+  no_rooms rules [] none = refl
+  no_rooms rules (w ∷ groups) none = absurd (omega (arith, none))
+
   light_value : (rules : Rules) → pos 0 ≤ℤ value_of rules set
-  light_value rules = omega (arith, ints, services_add, no_sum (weight_value rules) set.weights light.no_weights)
+  light_value rules = omega (arith, ints, services_add, no_sum (weight_value rules) set.weights light.no_weights, no_rooms rules set.groups light.no_groups)
 
 light_at : (c : Support) (set : ℕ) → AreLight c.problem c.sets → 1 ≤ set → set ≤ length c.sets → IsLight c.problem (set_at c set)
 light_at c zero light from_one within = absurd (omega (arith, from_one))

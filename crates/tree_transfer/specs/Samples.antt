@@ -27,10 +27,11 @@ pub record IsPaidFor (p : Problem) (set : Prices) (e : ℕ) : Type 0 where
   pub some : pos 0 ≤ℤ price_in set e
   pub most : price_in set e ≤ℤ pos (set.unit * (edge_at p e).service)
 
--- all prices are so, and there are no weights
+-- all prices are so, and there are no weights on shores or groups
 pub record IsLight (p : Problem) (set : Prices) : Type 0 where
   pub some_unit : 1 ≤ set.unit
   pub no_weights : length set.weights ≡ 0
+  pub no_groups : length set.groups ≡ 0
   pub one_each : length set.services ≡ p.required
   pub paid : (e : ℕ) → 1 ≤ e → e ≤ p.required → IsPaidFor p set e
 

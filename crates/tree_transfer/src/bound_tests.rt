@@ -53,7 +53,7 @@ fn is_light(inst: &Instance, set: &PriceSet) -> bool
     ensures { IsTrue result → IsLight inst.now set.now }
 {
     let _ = set.unit();
-    if set.weights() > 0 || set.services() != inst.required() as usize {
+    if set.weights() > 0 || !set.groups().is_empty() || set.services() != inst.required() as usize {
         return false;
     }
     for e in 1..inst.required() + 1 {

@@ -1,7 +1,8 @@
-use Rattle.std.proofs.Common.{All, sym, subst, ◌∙◌, arith}
+use Rattle.std.proofs.Common.{All, [], sym, subst, ◌∙◌, arith}
 use Rattle.pricing_grid.specs.Pricing.{IsServicePrice}
 use Rattle.floor_prices.proofs.Packed.{costs_small}
-use Rattle.floor_prices.proofs.Tabled.{costs_servable, ratio_from_filled}
+use Rattle.branch_rules.specs.Bonds.{IsSurchargeTable}
+use Rattle.floor_prices.proofs.Tabled.{costs_servable, none_charged, ratio_from_filled}
 use Rattle.floor_prices.proofs.ratio.least_ratio.Goals as goal
 
 pub service_prices-requires : goal.service_prices-requires
@@ -10,7 +11,16 @@ service_prices-requires c = costs_small c.args.inst.now 1 c.vertices.ensures.val
 pub fill-requires-clause-prices : goal.fill-requires-clause-prices
 fill-requires-clause-prices c = subst (All IsServicePrice) (sym (c.deref.ensures.value ∙ c.in_ok-services.ensures)) (costs_servable c.args.inst.now c.vertices.ensures.valid)
 
+pub fill-requires-clause-surcharges : goal.fill-requires-clause-surcharges
+fill-requires-clause-surcharges c =
+    none_charged c.args.inst.now.required c.deref-2.result.now
+    (subst (λ n. IsSurchargeTable n [] c.deref-2.result.now) c.required.ensures.value
+    (subst (IsSurchargeTable c.required.result []) (sym c.deref-2.ensures.value) c.in_ok-surcharges.ensures.table))
+
 pub returns-clause-value : goal.returns-clause-value
 returns-clause-value c =
-    ratio_from_filled c.args.inst.now c.in_ok-allowed.allowed c.in_ok-allowed.ensures c.vertices.ensures.valid c.args.dist.now.prices c.deref.result.now c.requires.costs
+    ratio_from_filled c.args.inst.now c.in_ok-allowed.allowed c.in_ok-allowed.ensures c.deref-2.result.now
+    (subst (λ n. IsSurchargeTable n [] c.deref-2.result.now) c.required.ensures.value
+    (subst (IsSurchargeTable c.required.result []) (sym c.deref-2.ensures.value) c.in_ok-surcharges.ensures.table))
+    c.vertices.ensures.valid c.args.dist.now.prices c.deref.result.now c.requires.costs
     (c.deref.ensures.value ∙ c.in_ok-services.ensures) c.fill.new.self c.fill.ensures.filled c.least_ratio.result c.least_ratio.ensures
