@@ -10,7 +10,7 @@ use Rattle.grown_trees.specs.declared.growing.GrowingNode.{GrowingNode}
 not_shown : (cost shows : ℕ) → shows < cost → nat_le cost shows ≡ false
 not_shown cost shows below = grind (arith, nat_tests)
 
-is_shown : (cost shows : ℕ) → cost ≤ shows → nat_le cost shows ≡ true
+pub is_shown : (cost shows : ℕ) → cost ≤ shows → nat_le cost shows ≡ true
 is_shown cost shows within = grind (arith, nat_tests)
 
 one_more : (less more shows : ℕ) → less ≤ more → cond (nat_le more shows) 1 0 ≤ cond (nat_le less shows) 1 0

@@ -8,5 +8,6 @@ mod Taking
 mod Standing
 mod Turning
 mod Turns
+mod Regrown
 mod Root
 mod Finding

@@ -1,8 +1,10 @@
 -- Values over denominators, compared by products.
-use Rattle.std.proofs.Common.{◌≡◌, ℕ, zero, suc, ◌*◌, ◌≤◌, sym, ap, ◌∙◌, arith, ℤ, pos, negsuc, neg_ℤ, ◌+ℤ◌, ◌*ℤ◌, ◌≤ℤ◌, inl, inr}
+use Rattle.std.proofs.Common.{◌≡◌, ℕ, zero, suc, ◌+◌, ◌*◌, ◌≤◌, sym, ap, ◌∙◌, arith, ℤ, pos, negsuc, neg_ℤ, ◌+ℤ◌, ◌-ℤ◌, ◌*ℤ◌, ◌≤ℤ◌, ◌<ℤ◌, inl, inr}
 use Rattle.std.proofs.Math.Nat.{mul-le-mul_left}
 use Rattle.std.proofs.lemmas.Bool.{cases_lt}
 use Rattle.std.proofs.lemmas.Int.{ints}
+use Rattle.grown_trees.specs.Values.{IsShown}
+use Rattle.branch_tree.specs.Values.{millionths}
 
 neg_times : (n m : ℕ) → (pos n *ℤ neg_ℤ (pos m)) +ℤ pos (n * m) ≡ pos 0
 neg_times n zero = omega (arith, ints)
@@ -63,14 +65,51 @@ reaches_through unit from to base v w some reaches no_lower =
 pub reaches_more : (unit to : ℕ) (base v w : ℤ) → (pos to *ℤ base) ≤ℤ (pos unit *ℤ v) → v ≤ℤ w → (pos to *ℤ base) ≤ℤ (pos unit *ℤ w)
 reaches_more unit to base v w reaches more = at_most_through _ _ _ reaches (more_times unit v w more)
 
-times_some : (n : ℕ) (z : ℤ) → pos 0 ≤ℤ z → pos 0 ≤ℤ (pos n *ℤ z)
-times_some n (pos z) some = omega (arith, ints)
-times_some n (negsuc z) some = absurd (omega (arith, ints, some))
+-- what a bound is in millionths
 
--- a value that reaches a base that is not negative is not negative
-pub reaches_some : (unit to : ℕ) (base v : ℤ) → 1 ≤ unit → pos 0 ≤ℤ base → (pos to *ℤ base) ≤ℤ (pos unit *ℤ v) → pos 0 ≤ℤ v
-reaches_some unit to base v some not_negative reaches =
-    cancel_times unit (pos 0) v some (at_most_through (pos unit *ℤ pos 0) (pos to *ℤ base) (pos unit *ℤ v) (omega (arith, ints, times_some to base not_negative)) reaches)
+minus_one : (b : ℕ) → (pos (suc b) -ℤ pos 1) ≡ pos b
+minus_one b = omega (arith, ints)
+
+one_less : (unit b : ℕ) → (pos unit *ℤ (pos (suc b) -ℤ pos 1)) ≡ pos (unit * b)
+one_less unit b = ap (λ (z : ℤ). pos unit *ℤ z) (minus_one b)
+
+-- a value that is not negative shows the bound 0
+pub shown_0 : (unit : ℕ) (v : ℤ) → 1 ≤ unit → pos 0 ≤ℤ v → IsShown unit v 0
+shown_0 unit v some from_none = omega (arith, ints, neg_times unit 1, some, from_none)
+
+-- a value that reaches a bound shows 0
+pub reaches_some : (to least : ℕ) (v : ℤ) → 1 ≤ to → (pos to *ℤ millionths least) ≤ℤ (pos 1000000 *ℤ v) → IsShown to v 0
+reaches_some to zero v some reaches = omega (arith, ints, neg_times to 1, neg_times to 999999, some, reaches)
+reaches_some to (suc b) v some reaches =
+    let more : pos 0 ≤ℤ v = omega (arith, ints, reaches) in
+    shown_0 to v some more
+
+-- a value that shows a bound reaches it
+pub shown_reaches : (to least : ℕ) (v : ℤ) → to ≤ 1000000 → IsShown to v least → (pos to *ℤ millionths least) ≤ℤ (pos 1000000 *ℤ v)
+shown_reaches to zero v few shown = omega (arith, ints, neg_times to 1, neg_times to 999999, few, shown)
+shown_reaches to (suc b) v few shown =
+    let above : pos (to * b) <ℤ v = omega (arith, ints, one_less to b, shown) in
+    let same : to * (1000000 * b + 1) ≡ 1000000 * (to * b) + to = omega arith in
+    omega (arith, ints, above, same, few)
+
+-- a bound that is shown is no more than what covers the value
+pub shown_within : (unit least k : ℕ) (v : ℤ) → IsShown unit v least → v ≤ℤ pos (unit * k) → least ≤ k
+shown_within unit zero k v shown covers = omega arith
+shown_within unit (suc b) k v shown covers = elim (cases_lt b k) [
+  | inl less ↦ omega (arith, less)
+  | inr most ↦
+      let more : unit * k ≤ unit * b = mul-le-mul_left unit most in
+      absurd (omega (arith, ints, more, shown, one_less unit b, covers))
+]
+
+-- a bound in millionths is at most as many units, and no fewer
+pub bound_covers : (least most : ℕ) → least ≤ most → millionths least ≤ℤ pos (1000000 * most)
+bound_covers zero most within = omega (arith, ints)
+bound_covers (suc b) most within = omega (arith, ints, within)
+
+pub bound_within : (least most : ℕ) → millionths least ≤ℤ pos (1000000 * most) → least ≤ most
+bound_within zero most covers = omega arith
+bound_within (suc b) most covers = omega (arith, ints, covers)
 
 -- what covers a value that reaches a base covers the base
 pub covers_base : (unit to : ℕ) (base v : ℤ) (most : ℕ) → 1 ≤ to → (pos to *ℤ base) ≤ℤ (pos unit *ℤ v) → v ≤ℤ pos (to * most) → base ≤ℤ pos (unit * most)

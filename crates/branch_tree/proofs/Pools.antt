@@ -24,6 +24,7 @@ use Rattle.dual_master.specs.Raising.{IsNoLower}
 use Rattle.branch_tree.specs.Known.{Known}
 use Rattle.branch_tree.specs.Leaves.{IsRaisedFrom, MayStand, NamesSet, set_in, with_pool}
 use Rattle.branch_tree.specs.Searches.{IsHeld, IsHeldSet, State, support_in}
+use Rattle.branch_tree.specs.Values.{just_above}
 
 grown_at : (pool more : List (List ℕ)) (i : ℕ) → IsShoreNumber pool i → shore_at (pool ++ more) i ≡ shore_at pool i
 grown_at pool more zero is = absurd (omega (arith, is.from_one))
@@ -71,13 +72,11 @@ module _ (known : Known) (p : Problem) (s : State) (held : IsHeld p s) where
   more_shores : (more : List (List ℕ)) → All (Belongs p) (s.pool ++ more) → IsHeld p (record s { pool = s.pool ++ more })
   more_shores more belong = record {
     valid = held.valid;
-    base = held.base;
-    floors = held.floors;
+    below = held.below;
     tree = held.tree;
-    sound = known.more_shores (support_in p s) held.base more [] held.tree s.nodes holds_shores held.sound;
+    sound = known.more_shores (support_in p s) (just_above s.least) more [] held.tree s.nodes holds_shores held.sound;
     sets = All-weaker (IsHeldSet p s.pool) (IsHeldSet p (s.pool ++ more)) (held_set_grows p s.pool more) s.sets held.sets;
     few_sets = held.few_sets;
-    sets_by_turns = held.sets_by_turns;
     belong = belong;
     short = held.short;
     cost_is = held.cost_is;

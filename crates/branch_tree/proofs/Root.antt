@@ -1,7 +1,7 @@
 -- A search that has just begun holds its tree of one leaf.
-use Rattle.std.proofs.Common.{◌≡◌, ℕ, suc, ◌*◌, List, [], ◌∷◌, refl, sym, subst, ap, ◌∙◌, arith, inl, inr, pos, ◌≤ℤ◌}
+use Rattle.std.proofs.Common.{◌≡◌, ℕ, suc, ◌*◌, ◌^◌, ◌<◌, List, [], ◌∷◌, refl, sym, subst, ap, ◌∙◌, arith, inl, inr, pos, ◌≤ℤ◌}
 use Rattle.std.specs.List.{All}
-use Rattle.std.proofs.lemmas.Int.{ints}
+use Rattle.std.proofs.lemmas.Bool.{cases_lt}
 use Rattle.std.proofs.lemmas.List.Elements.{All-nil, All-cons}
 use Rattle.carp_base.specs.Problem.{Problem}
 use Rattle.plan_model.specs.Plans.{plan_cost}
@@ -21,9 +21,10 @@ use Rattle.branch_tree.specs.Beginnings.{IsFloor, IsRoot, fraction_of}
 use Rattle.short_plans.specs.Laws.{ShortPlansCostLittle}
 use Rattle.short_plans.specs.Shorts.{IsShortPlan}
 use Rattle.branch_tree.specs.Searches.{IsHeld, IsHeldSet, State, support_in}
-use Rattle.grown_trees.specs.Values.{IsMostShown}
+use Rattle.grown_trees.specs.Values.{IsMostShown, IsShown}
 use Rattle.branch_tree.specs.declared.beginning.Floor.{Floor}
-use Rattle.branch_tree.proofs.Numbers.{at_most_more}
+use Rattle.branch_tree.specs.Values.{IsFloored, just_above}
+use Rattle.branch_tree.proofs.Numbers.{bound_covers, shown_reaches, shown_within}
 
 pub no_depot : (p : Problem) (pool : List (List ℕ)) → All (Belongs p) pool → NoDepot p pool
 no_depot p [] all = tt
@@ -35,17 +36,27 @@ module _ (costs : ShortPlansCostLittle) (p : Problem) (floor : Floor) (is : IsFl
   leaf = record { node = Price 1; shows = shows }
 
   abbrev pub at_root : State
-  at_root = record { pool = floor.pool; sets = floor.set ∷ []; nodes = leaf ∷ []; plan = plan; cost = plan_cost p plan; done = turns_in (plan_cost p plan) (leaf ∷ []) }
+  at_root = record { pool = floor.pool; sets = floor.set ∷ []; nodes = leaf ∷ []; plan = plan; cost = plan_cost p plan; done = turns_in (plan_cost p plan) (leaf ∷ []); least = shows }
 
-  enough : (fraction_of p floor).value ≤ℤ pos ((fraction_of p floor).unit * shows)
-  enough = elim shown.covers [
-    | inl covered ↦ covered
-    | inr above ↦
-        at_most_more floor.set.unit (plain_value p floor.pool floor.set) (plan_cost p plan) shows (omega (arith, above, costs p plan is.valid short.lawful short.few_steps))
-        (is.floors.below plan short.lawful)
+  -- it is below all bounds
+  in_range : shows < 10 ^ 18
+  in_range = elim (cases_lt shows (10 ^ 18)) [
+    | inl less ↦ less
+    | inr most ↦
+        let little = shown_within floor.set.unit 999999999999999999 (plan_cost p plan) (plain_value p floor.pool floor.set) ((shown.shown 999999999999999999 (omega arith)).1 (omega (arith, most))) (is.floors.below plan short.lawful) in
+        absurd (omega (arith, little, costs p plan is.valid short.lawful short.few_steps))
   ]
 
-  root_sound : AreSound (support_in p at_root) (fraction_of p floor) (stands [] (price 1)) (leaf ∷ [])
+  is_shown : IsShown floor.set.unit (plain_value p floor.pool floor.set) shows
+  is_shown = (shown.shown shows in_range).1 (omega arith)
+
+  pub covered : (fraction_of p floor).value ≤ℤ pos ((fraction_of p floor).unit * shows)
+  covered = elim shown.covers [
+    | inl is_covered ↦ is_covered
+    | inr above ↦ absurd (omega (arith, above, in_range))
+  ]
+
+  root_sound : AreSound (support_in p at_root) (just_above shows) (stands [] (price 1)) (leaf ∷ [])
   root_sound = (
     record {
       same = refl;
@@ -56,12 +67,12 @@ module _ (costs : ShortPlansCostLittle) (p : Problem) (floor : Floor) (is : IsFl
       spelled = (omega arith, omega arith);
       lean = tt;
       fits = (omega arith, omega arith, is.fits []);
-      reaches = omega (arith, ints);
+      reaches = shown_reaches floor.set.unit shows (plain_value p floor.pool floor.set) is.fine.unit_in is_shown;
       shows = λ bound small. (
         λ shows_it. (shown.shown bound small).0 shows_it.2.above,
         λ within. (omega arith, omega arith, record { fits = (is.fits []).fits; above = (shown.shown bound small).1 within }),
       );
-      enough = enough;
+      enough = bound_covers shows shows (omega arith);
     },
     tt,
   )
@@ -69,13 +80,11 @@ module _ (costs : ShortPlansCostLittle) (p : Problem) (floor : Floor) (is : IsFl
   pub root_held : IsHeld p at_root
   root_held = record {
     valid = is.valid;
-    base = fraction_of p floor;
-    floors = is.floors;
+    below = λ other lawful. shown_within floor.set.unit shows (plan_cost p other) (plain_value p floor.pool floor.set) is_shown (is.floors.below other lawful);
     tree = price 1;
     sound = root_sound;
     sets = All-cons (IsHeldSet p floor.pool) floor.set [] (record { one_each = (is.fits []).one_each; not_negative = (is.fits []).fits.not_negative; shores = is.shores }) (All-nil (IsHeldSet p floor.pool));
     few_sets = omega arith;
-    sets_by_turns = omega arith;
     belong = is.belong;
     short = short;
     cost_is = refl;
@@ -84,12 +93,19 @@ module _ (costs : ShortPlansCostLittle) (p : Problem) (floor : Floor) (is : IsFl
   }
 
 -- the parts of a search that has just begun
-pub begun_held : ShortPlansCostLittle → (p : Problem) (floor : Floor) → IsFloor p floor → (plan : List (List Step)) → IsShortPlan p plan → (turns : ℕ) (tree : Growth) → IsRoot p turns floor tree →
-    (sets : List Prices) → sets ≡ floor.set ∷ [] → (cost : ℕ) → cost ≡ plan_cost p plan → (done : ℕ) → done ≡ turns_in cost tree.nodes →
-    IsHeld p (record { pool = floor.pool; sets = sets; nodes = tree.nodes; plan = plan; cost = cost; done = done })
-begun_held costs p floor is plan short turns tree root sets sets_are cost cost_is done done_is =
+pub begun_held : ShortPlansCostLittle → (p : Problem) (floor : Floor) → IsFloor p floor → (plan : List (List Step)) → IsShortPlan p plan → (turns : ℕ) (tree : Growth) (root : IsRoot p turns floor tree) →
+    (sets : List Prices) → sets ≡ floor.set ∷ [] → (cost : ℕ) → cost ≡ plan_cost p plan → (done : ℕ) → done ≡ turns_in cost tree.nodes → (least : ℕ) → least ≡ root.shows →
+    IsHeld p (record { pool = floor.pool; sets = sets; nodes = tree.nodes; plan = plan; cost = cost; done = done; least = least })
+begun_held costs p floor is plan short turns tree root sets sets_are cost cost_is done done_is least least_is =
     let nodes : tree.nodes ≡ record { node = Price 1; shows = root.shows } ∷ [] = ap (λ (t : Growth). t.nodes) root.leaf in
     let s : State = at_root costs p floor is plan short root.shows root.shown in
-    let same : s ≡ record { pool = floor.pool; sets = sets; nodes = tree.nodes; plan = plan; cost = cost; done = done } =
-    λ i. record { pool = floor.pool; sets = sym sets_are i; nodes = sym nodes i; plan = plan; cost = sym cost_is i; done = sym (done_is ∙ ap (λ (n : ℕ). turns_in n tree.nodes) cost_is ∙ ap (turns_in (plan_cost p plan)) nodes) i } in
+    let same : s ≡ record { pool = floor.pool; sets = sets; nodes = tree.nodes; plan = plan; cost = cost; done = done; least = least } =
+    λ i. record { pool = floor.pool; sets = sym sets_are i; nodes = sym nodes i; plan = plan; cost = sym cost_is i; done = sym (done_is ∙ ap (λ (n : ℕ). turns_in n tree.nodes) cost_is ∙ ap (turns_in (plan_cost p plan)) nodes) i; least = sym least_is i } in
     subst (IsHeld p) same (root_held costs p floor is plan short root.shows root.shown)
+
+-- the bound that the leaf shows is at least each floor
+pub begun_floored : ShortPlansCostLittle → (p : Problem) (floor : Floor) → IsFloor p floor → (plan : List (List Step)) → IsShortPlan p plan → (turns : ℕ) (tree : Growth) (root : IsRoot p turns floor tree) →
+    (least : ℕ) → least ≡ root.shows → IsFloored p least
+begun_floored costs p floor is plan short turns tree root least least_is =
+    subst (IsFloored p) (sym least_is)
+    (record { base = fraction_of p floor; floors = is.floors; above = covered costs p floor is plan short root.shows root.shown })

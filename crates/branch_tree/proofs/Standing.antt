@@ -1,7 +1,6 @@
 -- What may stand in place of the leaf that a step takes.
 use Rattle.std.proofs.Common.{◌≡◌, ℕ, zero, suc, ◌+◌, ◌*◌, ◌≤◌, List, [], ◌∷◌, ◌++◌, length, refl, sym, subst, ap, ◌∙◌, arith, add-one, length-append, pos, ◌-ℤ◌, ◌*ℤ◌, ◌≤ℤ◌, ◌<ℤ◌, inl, inr}
 use Rattle.std.specs.List.{All}
-use Rattle.std.proofs.lemmas.Int.{ints}
 use Rattle.std.proofs.lemmas.List.{append-nil, get_or_push}
 use Rattle.std.proofs.lemmas.List.Elements.{All-get_or, All-push}
 use Rattle.carp_base.specs.Problem.{Problem}
@@ -26,9 +25,10 @@ use Rattle.branch_tree.specs.Known.{Known}
 use Rattle.branch_tree.specs.Leaves.{IsAtLeaf, IsSplitBy, IsSplitNode, MayBegin, MayStand, NamesSet, set_in, split_nodes}
 use Rattle.branch_tree.specs.Searches.{IsHeld, IsHeldSet, State, support_in}
 use Rattle.branch_tree.specs.Splits.{split_tree}
-use Rattle.grown_trees.specs.Values.{IsMostShown}
+use Rattle.grown_trees.specs.Values.{IsMostShown, IsShown}
 use Rattle.branch_tree.specs.declared.children.Children.{Children}
-use Rattle.branch_tree.proofs.Numbers.{at_most_more, covers_base, reaches_more, reaches_some, reaches_through}
+use Rattle.branch_tree.specs.Values.{just_above}
+use Rattle.branch_tree.proofs.Numbers.{bound_covers, covers_base, reaches_more, reaches_some, reaches_through}
 use Rattle.branch_tree.proofs.Taking.{no_entry, old, small_cost, sound}
 
 set_in_same : (c : Support) (number : ℕ) → set_at c number ≡ set_in c.sets number
@@ -42,16 +42,12 @@ held_shores p pool sets (suc k) all from_one to_last = (All-get_or (IsHeldSet p 
 
 module _ (known : Known) (p : Problem) (s : State) (held : IsHeld p s) where
   abbrev base : Fraction
-  base = held.base
-
-  base_some : pos 0 ≤ℤ base.value
-  base_some = omega (arith, ints, held.floors.services)
+  base = just_above s.least
 
   -- what is above all bounds is no less than the base
   enough_above : (most : ℕ) → s.cost ≤ most → base.value ≤ℤ pos (base.unit * most)
   enough_above most within =
-      at_most_more base.unit base.value s.cost most within
-      (subst (λ (n : ℕ). base.value ≤ℤ pos (base.unit * n)) (sym held.cost_is) (held.floors.below s.plan held.short.lawful))
+      bound_covers s.least most (omega (arith, within, held.cost_is, held.below s.plan held.short.lawful))
 
   -- a price set under some decisions
   module _ (more : List Prices) (branch : List Decision) (pairs : ArePairsIn p branch) (shores : AreShoresIn p s.pool branch) where
@@ -130,7 +126,7 @@ module _ (known : Known) (p : Problem) (s : State) (held : IsHeld p s) where
               λ shows. omega (arith, shows.enough, known.fixed_once p branch shows.value value shows.fixed has_value),
               λ within. record { settled = is; value = value; fixed = has_value; enough = within },
             );
-            enough = subst (λ (n : ℕ). base.value ≤ℤ pos (base.unit * n)) (sym value_is) (held.floors.below plan lawful);
+            enough = bound_covers s.least value (omega (arith, value_is, held.below plan lawful));
           },
           tt,
         )
@@ -242,24 +238,23 @@ module _ (known : Known) (p : Problem) (s : State) (held : IsHeld p s) where
           set_in_same (with_sets (support_in p s) []) number ∙ ap (λ (sets : List Prices). set_in sets number) (append-nil s.sets) in
           split_sound [] number named plain from_one (omega (arith, to_last, length-append s.sets [])) some named_fits named_reaches
 
-      pub named_some : pos 0 ≤ℤ value_of (rules_of p s.pool branch) named
-      named_some = reaches_some base.unit named.unit base.value (value_of (rules_of p s.pool branch) named) held.floors.some_unit base_some named_reaches
+      pub named_some : 1 ≤ named.unit → IsShown named.unit (value_of (rules_of p s.pool branch) named) 0
+      named_some some = reaches_some named.unit s.least (value_of (rules_of p s.pool branch) named) some named_reaches
 
       no_lower_reaches : (set : Prices) → IsNoLower p branch s.pool named s.pool set → 1 ≤ named.unit → (pos set.unit *ℤ base.value) ≤ℤ (pos base.unit *ℤ value_of (rules_of p s.pool branch) set)
       no_lower_reaches set no_lower some =
           reaches_through base.unit named.unit set.unit base.value (value_of (rules_of p s.pool branch) named) (value_of (rules_of p s.pool branch) set) some named_reaches no_lower
 
-      -- a set that is no lower has no negative value
-      pub raised_value_some : (set : Prices) → IsNoLower p branch s.pool named s.pool set → 1 ≤ named.unit → pos 0 ≤ℤ value_of (rules_of p s.pool branch) set
-      raised_value_some set no_lower some =
-          reaches_some base.unit set.unit base.value (value_of (rules_of p s.pool branch) set) held.floors.some_unit base_some (no_lower_reaches set no_lower some)
+      -- a set that is no lower shows 0
+      pub raised_value_some : (set : Prices) → IsNoLower p branch s.pool named s.pool set → 1 ≤ named.unit → 1 ≤ set.unit → IsShown set.unit (value_of (rules_of p s.pool branch) set) 0
+      raised_value_some set no_lower some set_some = reaches_some set.unit s.least (value_of (rules_of p s.pool branch) set) set_some (no_lower_reaches set no_lower some)
 
       -- a set that may stand there
       module _ (set : Prices) (may : MayStand p s branch number set) where
         may_reach : (pos set.unit *ℤ base.value) ≤ℤ (pos base.unit *ℤ value_of (rules_of p s.pool branch) set)
         may_reach = no_lower_reaches set may.no_lower may.from_unit
 
-        pub may_some : pos 0 ≤ℤ value_of (rules_of p s.pool branch) set
+        pub may_some : 1 ≤ set.unit → IsShown set.unit (value_of (rules_of p s.pool branch) set) 0
         may_some = raised_value_some set may.no_lower may.from_unit
 
         pub new_at : set_at (with_sets (support_in p s) (set ∷ [])) (length s.sets + 1) ≡ set

@@ -1,5 +1,5 @@
 -- A search after a step, with what it stands on.
-use Rattle.std.proofs.Common.{◌≡◌, ℕ, ◌+◌, ◌*◌, ◌<◌, ◌≤◌, Bool, true, false, List, [], ◌∷◌, length, get_or, refl, sym, subst, ap, ◌∙◌, arith, inl, inr, Result, Ok, Err, IfOk, All, pos, ◌≤ℤ◌}
+use Rattle.std.proofs.Common.{◌≡◌, ℕ, ◌+◌, ◌*◌, ◌<◌, ◌≤◌, Bool, true, false, List, [], ◌∷◌, length, get_or, refl, sym, subst, ap, ◌∙◌, arith, inl, inr, Result, Ok, Err, IfOk, All}
 use Rattle.std.specs.Prelude.{IsErr, OnErr, if◌then◌else◌, nat_lt}
 use Rattle.std.proofs.lemmas.Bool.Decides.{nat_tests}
 use Rattle.std.proofs.lemmas.List.{get_or_default}
@@ -30,7 +30,7 @@ use Rattle.branch_tree.specs.Steps.{IsAsBefore, IsStep}
 use Rattle.branch_tree.specs.declared.search.Search.{Search}
 use Rattle.branch_tree.specs.declared.search.Turn.{Turn}
 use Rattle.branch_tree.specs.declared.search.Turn.TheVariants.{Closed, Split}
-use Rattle.grown_trees.specs.Values.{IsMostShown}
+use Rattle.grown_trees.specs.Values.{IsMostShown, IsShown}
 use Rattle.branch_tree.proofs.Pools.{may_stand, names_then, no_lower_now, pool_grows}
 use Rattle.branch_tree.proofs.Standing.{leaf_shores, named_shores, raised_value_some}
 use Rattle.branch_tree.proofs.Taking.{is_leaf, old, old_is, sound}
@@ -42,6 +42,7 @@ framed_repriced p before after search framed = record {
   dist = framed.dist;
   table = subst (λ table. IsRoom p table) (sym framed.table) search.table;
   turns = framed.turns;
+  least = framed.least;
   room = framed.room;
 }
 
@@ -51,6 +52,7 @@ framed_then p before middle after one other = record {
   dist = other.dist ∙ one.dist;
   table = subst (λ table. IsRoom p table) (sym other.table) one.table;
   turns = other.turns ∙ one.turns;
+  least = other.least ∙ one.least;
   room = other.room ∙ one.room;
 }
 
@@ -60,6 +62,7 @@ framed_both before middle after one other = record {
   dist = other.dist ∙ one.dist;
   table = other.table ∙ one.table;
   turns = other.turns ∙ one.turns;
+  least = other.least ∙ one.least;
   room = other.room ∙ one.room;
 }
 
@@ -80,6 +83,7 @@ pub turn_then : (p : Problem) (before after : Search) (answer : Turn) → IsSear
 turn_then p before after answer search repriced goes = record {
   search = search_on p before after search repriced goes.held;
   turns = repriced.turns;
+  least = repriced.least;
   step = goes.step;
   err = tt;
 }
@@ -94,11 +98,12 @@ on_err (Ok answer) x = tt
 on_err (Err memory) x = x
 
 -- a step for which there was no memory
-pub turn_failed : (p : Problem) (before after : Search) (r : Result Turn Memory) → IsErr r → IsSearch p after → after.turns ≡ before.turns → IsAsBefore (state_of before) (state_of after) →
+pub turn_failed : (p : Problem) (before after : Search) (r : Result Turn Memory) → IsErr r → IsSearch p after → after.turns ≡ before.turns → after.least ≡ before.least → IsAsBefore (state_of before) (state_of after) →
     IsTurn p before after r
-turn_failed p before after r failed search turns as_before = record {
+turn_failed p before after r failed search turns least as_before = record {
   search = search;
   turns = turns;
+  least = least;
   step = IfOk-from_err r (IsStep p (state_of before) (state_of after)) failed;
   err = on_err r as_before;
 }
@@ -181,7 +186,7 @@ module _ (known : Known) (p : Problem) (before middle : Search) (place : ℕ) (b
   as_before = subst (IsAsBefore (state_of before)) (sym state) (as_before_with (state_of before) middle.pool grown)
 
   pub raise_failed : (r : Result Turn Memory) → IsErr r → IsTurn p before middle r
-  raise_failed r failed = turn_failed p before middle r failed middle_search repriced.turns as_before
+  raise_failed r failed = turn_failed p before middle r failed middle_search repriced.turns repriced.least as_before
 
   module _ (set : Prices) (raised : IsRaisedFrom p before.pool branch before.sets.items number middle.pool set) (few : length before.sets.items < 256) where
     plain_may : 1 ≤ set.unit → MayStand p middle_state branch number set
@@ -191,9 +196,9 @@ module _ (known : Known) (p : Problem) (before middle : Search) (place : ℕ) (b
     pub middle_may : 1 ≤ set.unit → MayStand p (state_of middle) branch number set
     middle_may some = subst (λ (s : State). MayStand p s branch number set) (sym state) (plain_may some)
 
-    -- its value is not negative
-    pub raised_some : pos 0 ≤ℤ value_of (rules_of p middle.pool branch) set
-    raised_some = raised_value_some known p middle_state middle_held place branch plain_names.at number plain_names set raised_no_lower raised.from_unit where
+    -- it shows 0
+    pub raised_some : 1 ≤ set.unit → IsShown set.unit (value_of (rules_of p middle.pool branch) set) 0
+    raised_some some = raised_value_some known p middle_state middle_held place branch plain_names.at number plain_names set raised_no_lower raised.from_unit some where
       raised_no_lower : IsNoLower p branch middle.pool (set_in before.sets.items number) middle.pool set
       raised_no_lower =
           no_lower_now known.growth p (state_of before) number branch middle.pool set grown (named_shores known p (state_of before) search.held place branch names.at number names) raised
@@ -207,7 +212,7 @@ module _ (known : Known) (p : Problem) (before middle : Search) (place : ℕ) (b
 
       after_failed : (r : Result Turn Memory) → IsErr r → state_of after ≡ state_of middle → IsTurn p before after r
       after_failed r failed same =
-          turn_failed p before after r failed (search_on p before after search after_repriced (subst (IsHeld p) (sym (same ∙ state)) middle_held)) after_repriced.turns
+          turn_failed p before after r failed (search_on p before after search after_repriced (subst (IsHeld p) (sym (same ∙ state)) middle_held)) after_repriced.turns after_repriced.least
           (subst (IsAsBefore (state_of before)) (sym same) as_before)
 
       -- it closes the leaf

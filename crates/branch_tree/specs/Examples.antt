@@ -13,6 +13,7 @@ state_with shown = record {
   plan = [];
   cost = 9;
   done = 3;
+  least = 0;
 }
 
 abbrev pub closed_state : State

@@ -1,5 +1,5 @@
 -- What a search has found.
-use Rattle.std.specs.Prelude.{◌≡◌, ℕ, ◌*◌, ◌≤◌, List, [], length, pos, ◌≤ℤ◌}
+use Rattle.std.specs.Prelude.{◌≡◌, ℕ, ◌≤◌, List, [], length}
 use Rattle.std.specs.List.{All}
 use Rattle.carp_base.specs.Problem.{Problem, IsValid}
 use Rattle.plan_model.specs.Plans.{plan_cost}
@@ -10,11 +10,10 @@ use Rattle.branch_rules.specs.Limits.{IsNodeIn}
 use Rattle.branch_rules.specs.Prices.{Prices}
 use Rattle.branch_rules.specs.Trees.{Tree, preorder, IsLean, HasTurns, PairsIn, Shows, Support}
 use Rattle.branch_rules.specs.declared.node.Node.{Node}
-use Rattle.grown_trees.specs.Growth.{Fraction, IsSpelledNode}
+use Rattle.grown_trees.specs.Growth.{IsSpelledNode}
 use Rattle.grown_trees.specs.Stands.{PricesFit}
 use Rattle.branch_tree.specs.declared.finishing.Found.{Found}
 use Rattle.branch_tree.specs.Searches.{IsHeldSet}
-use Rattle.branch_tree.specs.Values.{ReachesFloors}
 
 -- what was found, as plain data
 pub record Findings : Type 0 where
@@ -31,7 +30,7 @@ abbrev pub support_found : Problem → Findings → Support
 support_found p f = record { problem = p; pool = f.pool; sets = f.sets }
 
 -- A short lawful plan, and the nodes of a lean tree in preorder, whose price leaves name sets that fit there. The tree has so many turns for
--- the plan's cost, and the bound is the greatest up to this cost that the tree shows, so that it is at least each floor.
+-- the plan's cost, and the bound is the greatest up to this cost that the tree shows.
 pub record IsFound (p : Problem) (f : Findings) (turns : ℕ) : Type 0 where
   pub valid : IsValid p
   pub short : IsShortPlan p f.plan
@@ -50,6 +49,3 @@ pub record IsFound (p : Problem) (f : Findings) (turns : ℕ) : Type 0 where
   pub at_most : f.bound ≤ plan_cost p f.plan
   pub shows : Shows (support_found p f) [] f.bound tree
   pub greatest : (other : ℕ) → other ≤ plan_cost p f.plan → Shows (support_found p f) [] other tree → other ≤ f.bound
-  pub base : Fraction
-  pub floors : ReachesFloors p base
-  pub above : base.value ≤ℤ pos (base.unit * f.bound)

@@ -1,5 +1,5 @@
 -- The leaf that a step takes, and what is put in its place. No public contract speaks of this.
-use Rattle.std.specs.Prelude.{◌≡◌, ℕ, zero, suc, ◌+◌, ◌-◌, ◌<◌, ◌≤◌, List, [], ◌∷◌, ◌++◌, take, drop, map, length, slice_index_or, if◌then◌else◌, nat_lt, Result, IfOk, OnErr}
+use Rattle.std.specs.Prelude.{◌≡◌, ℕ, zero, suc, ◌+◌, ◌-◌, ◌≤◌, List, [], ◌∷◌, ◌++◌, take, drop, map, length, slice_index_or, if◌then◌else◌, nat_lt, Result, IfOk, OnErr}
 use Rattle.std.specs.List.{All}
 use Rattle.carp_base.specs.declared.fail.Memory.{Memory}
 use Rattle.carp_base.specs.Problem.{Problem}
@@ -90,12 +90,13 @@ pub record IsSplitNode (p : Problem) (pool : List (List ℕ)) (branch : List Dec
   pub spelled : IsSpelledNode 0 node
   pub lean : IsLeanNode p pool branch (4 - cuts_of branch) node
 
--- the instance, the distances, the table, the budget and the room for nodes are as before
+-- the instance, the distances, the table, the budget, the bound of the beginning and the room for nodes are as before
 pub record IsFramed (before after : Search) : Type 0 where
   pub net : after.net ≡ before.net
   pub dist : after.dist ≡ before.dist
   pub table : after.table ≡ before.table
   pub turns : after.turns ≡ before.turns
+  pub least : after.least ≡ before.least
   pub room : after.tree.room ≡ before.tree.room
 
 -- so they are, but for a table that is one for the instance
@@ -104,6 +105,7 @@ pub record IsRepriced (p : Problem) (before after : Search) : Type 0 where
   pub dist : after.dist ≡ before.dist
   pub table : IsRoom p after.table
   pub turns : after.turns ≡ before.turns
+  pub least : after.least ≡ before.least
   pub room : after.tree.room ≡ before.tree.room
 
 -- a search with another pool
@@ -138,6 +140,7 @@ pub record IsSplitBy (p : Problem) (pool : List (List ℕ)) (branch : List Decis
 pub record IsTurn (p : Problem) (before after : Search) (answer : Result Turn Memory) : Type 0 where
   pub search : IsSearch p after
   pub turns : after.turns ≡ before.turns
+  pub least : after.least ≡ before.least
   pub step : IfOk answer (IsStep p (state_of before) (state_of after))
   pub err : OnErr answer (IsAsBefore (state_of before) (state_of after))
 

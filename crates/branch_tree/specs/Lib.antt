@@ -6,4 +6,5 @@ pub mod Leaves
 pub mod Steps
 pub mod Beginnings
 pub mod Founds
+pub mod Resumes
 pub mod Examples

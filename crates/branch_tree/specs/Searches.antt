@@ -3,7 +3,7 @@ use Rattle.std.specs.Prelude.{◌≡◌, ℕ, ◌+◌, ◌*◌, ◌≤◌, List,
 use Rattle.std.specs.List.{All}
 use Rattle.carp_base.specs.Problem.{Problem, IsValid}
 use Rattle.plan_model.specs.declared.step.Step.{Step}
-use Rattle.plan_model.specs.Plans.{plan_cost}
+use Rattle.plan_model.specs.Plans.{IsLawful, plan_cost}
 use Rattle.short_plans.specs.Shorts.{IsShortPlan}
 use Rattle.deadhead_paths.specs.Prices.{costs_of}
 use Rattle.cut_pool.specs.Shores.{Belongs}
@@ -14,14 +14,14 @@ use Rattle.branch_rules.specs.Refusals.{NoneTooHeavy}
 use Rattle.branch_rules.specs.Trees.{Tree, Support}
 use Rattle.branch_rules.specs.declared.node.Node.TheVariants as nodes
 use Rattle.dual_master.specs.Singles.{IsFloorPool}
-use Rattle.grown_trees.specs.Growth.{Fraction, AreSound, turns_in}
+use Rattle.grown_trees.specs.Growth.{AreSound, turns_in}
 use Rattle.grown_trees.specs.Stands.{stands}
 use Rattle.grown_trees.specs.declared.growing.GrowingNode.{GrowingNode}
 use Rattle.branch_tree.specs.declared.search.Search.{Search}
-use Rattle.branch_tree.specs.Values.{ReachesFloors}
+use Rattle.branch_tree.specs.Values.{IsFloored, just_above}
 
 -- what a search holds, as plain data: its shores, its price sets, the nodes of its tree, each with the greatest bound that it shows, and
--- the best plan with its cost and the tree's turns for this cost
+-- the best plan with its cost and the tree's turns for this cost; and a bound that the tree showed when the search began
 pub record State : Type 0 where
   pub pool : List (List ℕ)
   pub sets : List Prices
@@ -29,9 +29,10 @@ pub record State : Type 0 where
   pub plan : List (List Step)
   pub cost : ℕ
   pub done : ℕ
+  pub least : ℕ
 
 abbrev pub state_of : Search → State
-state_of s = record { pool = s.pool; sets = s.sets.items; nodes = s.tree.nodes; plan = s.best; cost = s.cost; done = s.done }
+state_of s = record { pool = s.pool; sets = s.sets.items; nodes = s.tree.nodes; plan = s.best; cost = s.cost; done = s.done; least = s.least }
 
 -- what a price leaf rests on
 abbrev pub support_in : Problem → State → Support
@@ -44,17 +45,15 @@ pub record IsHeldSet (p : Problem) (pool : List (List ℕ)) (set : Prices) : Typ
   pub not_negative : NoneTooHeavy p pool set
   pub shores : All (λ w. IsShoreOf p pool w.shore) set.weights
 
--- A lean tree that grew leaf by leaf. Each price leaf names a set that fits there, and reaches the floors; each node has with it the
--- greatest bound that it shows. There are at most 256 sets, and at most one more than the tree has turns for the best plan's cost.
+-- A lean tree that grew leaf by leaf. Each price leaf names a set that fits there, and shows the bound that the search began with; each
+-- node has with it the greatest bound that it shows. There are at most 256 sets.
 pub record IsHeld (p : Problem) (s : State) : Type 0 where
   pub valid : IsValid p
-  pub base : Fraction
-  pub floors : ReachesFloors p base
+  pub below : (plan : List (List Step)) → IsLawful p plan → s.least ≤ plan_cost p plan
   pub tree : Tree
-  pub sound : AreSound (support_in p s) base (stands [] tree) s.nodes
+  pub sound : AreSound (support_in p s) (just_above s.least) (stands [] tree) s.nodes
   pub sets : All (IsHeldSet p s.pool) s.sets
   pub few_sets : length s.sets ≤ 256
-  pub sets_by_turns : length s.sets ≤ s.done + 1
   pub belong : All (Belongs p) s.pool
   pub short : IsShortPlan p s.plan
   pub cost_is : s.cost ≡ plan_cost p s.plan
@@ -72,10 +71,12 @@ pub record IsSearch (p : Problem) (s : Search) : Type 0 where
   pub room : s.tree.room ≡ 2 * s.turns + 1
   pub held : IsHeld p (state_of s)
 
--- a search that has just begun: the tree is one price leaf, which names the best set of the floors, and the pool is as the floors leave it
+-- a search that has just begun: the tree is one price leaf, which names the best set of the floors, and the pool is as the floors leave it;
+-- the bound that it shows is at least each floor
 pub record IsBegun (p : Problem) (plan : List (List Step)) (s : State) : Type 0 where
   pub best : s.plan ≡ plan
   pub set : Prices
   pub one_set : s.sets ≡ set ∷ []
   pub pool : IsFloorPool p s.pool set
   pub leaf : map (λ entry. entry.node) s.nodes ≡ nodes.Price 1 ∷ []
+  pub floored : IsFloored p s.least

@@ -1,5 +1,5 @@
--- Values that reach the floors of the bound.
-use Rattle.std.specs.Prelude.{ℕ, ◌+◌, ◌*◌, ◌≤◌, Bool, List, pos, ◌*ℤ◌, ◌≤ℤ◌}
+-- Values that reach the floors of the bound, or a bound.
+use Rattle.std.specs.Prelude.{ℕ, zero, suc, ◌+◌, ◌*◌, ◌≤◌, Bool, List, ℤ, pos, negsuc, ◌*ℤ◌, ◌≤ℤ◌}
 use Rattle.carp_base.specs.Problem.{Problem, required_cost, total_demand}
 use Rattle.plan_model.specs.Plans.{IsLawful, plan_cost}
 use Rattle.plan_model.specs.declared.step.Step.{Step}
@@ -20,3 +20,18 @@ pub record ReachesFloors (p : Problem) (base : Fraction) : Type 0 where
       pos (base.unit * (required_cost p * load + total_demand p * deadhead)) ≤ℤ (base.value *ℤ pos load)
   pub join : (value : ℕ) → IsLeastJoin p value → pos (base.unit * (required_cost p + value)) ≤ℤ base.value
   pub below : (plan : List (List Step)) → IsLawful p plan → base.value ≤ℤ pos (base.unit * plan_cost p plan)
+
+-- a bound that is at least a fraction that reaches the floors
+pub record IsFloored (p : Problem) (bound : ℕ) : Type 0 where
+  pub base : Fraction
+  pub floors : ReachesFloors p base
+  pub above : base.value ≤ℤ pos (base.unit * bound)
+
+-- A bound less 1, and a millionth more, in millionths. A set whose denominator is at most 1,000,000 shows the bound just where its value,
+-- divided by its denominator, is at least this.
+abbrev pub millionths : ℕ → ℤ
+millionths zero = negsuc 999998
+millionths (suc bound) = pos (1000000 * bound + 1)
+
+abbrev pub just_above : ℕ → Fraction
+just_above bound = record { unit = 1000000; value = millionths bound }

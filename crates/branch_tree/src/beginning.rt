@@ -58,6 +58,7 @@ impl Search {
         let floor = floor_of(alloc, inst, &mut tools)?;
         let tree = plant(alloc, inst, turns, &floor)?;
         let sets = one_set(alloc, floor.set)?;
+        let least = tree.node(0).shows;
         let done = tree.turns(cost) as u64;
         Ok(Search {
             alloc,
@@ -71,12 +72,13 @@ impl Search {
             cost,
             done,
             turns,
+            least,
         })
     }
 }
 
 // What a short plan costs.
-fn short_cost(alloc: Global, inst: &Instance, plan: &Plan) -> Result<u64, Memory>
+pub(crate) fn short_cost(alloc: Global, inst: &Instance, plan: &Plan) -> Result<u64, Memory>
     requires { IsShortPlan inst.now plan.now }
     ensures { IfOk result (λ cost. cost ≡ plan_cost inst.now plan.now) }
 {
@@ -88,7 +90,7 @@ fn short_cost(alloc: Global, inst: &Instance, plan: &Plan) -> Result<u64, Memory
 }
 
 // The network, the distances by cost and the table of an instance.
-fn tools_of(alloc: Global, inst: &Instance) -> Result<Tools, Memory>
+pub(crate) fn tools_of(alloc: Global, inst: &Instance) -> Result<Tools, Memory>
     ensures { IfOk result (AreTools inst.now) }
 {
     let net = Network::new(alloc, inst)?;

@@ -1,5 +1,5 @@
 // What a price set shows under both decisions of an inner node.
-ghost use Rattle.std.specs.Prelude.{◌≡◌, ◌++◌, ◌∷◌, [], ◌-◌, ◌≤ℤ◌, pos, All, IfOk};
+ghost use Rattle.std.specs.Prelude.{◌≡◌, ◌≤◌, ◌++◌, ◌∷◌, [], ◌-◌, All, IfOk};
 ghost use Rattle.branch_rules.specs.Decisions.{cuts_of, rules_of};
 ghost use Rattle.branch_rules.specs.Laws.{FitsBranch};
 ghost use Rattle.branch_rules.specs.Limits.{IsFineDecision, IsNodeIn, IsShoreOf};
@@ -9,7 +9,7 @@ ghost use Rattle.grown_trees.specs.Laws.{IsOpenDecision};
 ghost use Rattle.grown_trees.specs.Places.{IsFineNode};
 ghost use Rattle.branch_tree.specs.Leaves.{AreShown, IsSplitNode};
 ghost use Rattle.branch_tree.specs.Splits.{IsInner, first_of, second_of};
-ghost use Rattle.grown_trees.specs.Values.{IsMostShown};
+ghost use Rattle.grown_trees.specs.Values.{IsMostShown, IsShown};
 
 use crate::laws::known_laws;
 use crate::values::shown_under;
@@ -36,7 +36,7 @@ pub(crate) fn children_show(
     requires node { IsSplitNode inst.now pool.now branch.old node.now }
     requires shores { All (λ w. IsShoreOf inst.now pool.now w.shore) set.now.weights }
     requires fits { FitsBranch inst.now pool.now branch.old set.now }
-    requires some { pos 0 ≤ℤ value_of (rules_of inst.now pool.now branch.old) set.now }
+    requires some { 1 ≤ set.now.unit → IsShown set.now.unit (value_of (rules_of inst.now pool.now branch.old) set.now) 0 }
     ensures shown { IfOk result (AreShown inst.now pool.now branch.old set.now node.now) }
     ensures same { branch.new ≡ branch.old }
 {
@@ -83,7 +83,7 @@ fn shown_after(
     requires undecided { IsOpenDecision inst.now branch.old decision }
     requires shores { All (λ w. IsShoreOf inst.now pool.now w.shore) set.now.weights }
     requires fits { FitsBranch inst.now pool.now branch.old set.now }
-    requires some { pos 0 ≤ℤ value_of (rules_of inst.now pool.now branch.old) set.now }
+    requires some { 1 ≤ set.now.unit → IsShown set.now.unit (value_of (rules_of inst.now pool.now branch.old) set.now) 0 }
     ensures shown { IfOk result (IsMostShown set.now.unit (value_of (rules_of inst.now pool.now (branch.old ++ decision ∷ [])) set.now)) }
     ensures same { branch.new ≡ branch.old }
 {

@@ -1,5 +1,5 @@
 // What a search has found.
-ghost use Rattle.std.specs.Prelude.{◌≡◌, map, IfOk};
+ghost use Rattle.std.specs.Prelude.{◌≡◌, ◌≤◌, map, IfOk};
 ghost use Rattle.branch_tree.specs.Founds.{IsFound, findings_of};
 ghost use Rattle.branch_tree.specs.Searches.{IsSearch, state_of};
 ghost use Rattle.branch_tree.specs.Steps.{AreClosed};
@@ -30,7 +30,7 @@ pub struct Found {
 
 impl Search {
     /// The best plan, the tree, and the greatest bound up to the plan's cost that the tree shows, which is the cost where each leaf is
-    /// closed. Without memory all is dropped.
+    /// closed, and no less than what the tree showed at first. Without memory all is dropped.
     ///
     /// It takes time in proportion to the number of nodes.
     pub fn finish(self, alloc: Global, inst: &Instance) -> Result<Found, Memory>
@@ -40,6 +40,7 @@ impl Search {
         ensures sets { IfOk result (λ found. found.sets.items ≡ self.sets.items) }
         ensures tree { IfOk result (λ found. found.tree.nodes ≡ map (λ entry. entry.node) self.tree.nodes) }
         ensures found { IfOk result (λ found. IsFound inst.now (findings_of found) self.done) }
+        ensures least { IfOk result (λ found. self.least ≤ found.bound) }
         ensures closed { AreClosed (state_of self) → IfOk result (λ found. found.bound ≡ self.cost) }
     {
         // The instance tells only what the search is for.

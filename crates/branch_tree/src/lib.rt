@@ -11,6 +11,7 @@ mod finishing;
 mod kinds;
 mod laws;
 mod raising;
+mod resuming;
 mod search;
 mod splitting;
 mod stepping;

@@ -1,10 +1,11 @@
 // Steps at a leaf that is neither void nor fixed.
-ghost use Rattle.std.specs.Prelude.{◌≡◌, ◌<◌, ◌≤◌, ◌≤ℤ◌, ◌+◌, pos, length, slice_index_or, All, IfOk, OnErr};
+ghost use Rattle.std.specs.Prelude.{◌≡◌, ◌<◌, ◌≤◌, ◌+◌, length, slice_index_or, All, IfOk, OnErr};
 ghost use Rattle.branch_rules.specs.Decisions.{rules_of, IsFixed, IsVoid};
 ghost use Rattle.branch_rules.specs.Laws.{FitsBranch};
 ghost use Rattle.branch_rules.specs.Limits.{AreShoresIn, IsShoreOf};
 ghost use Rattle.branch_rules.specs.Prices.{value_of};
 ghost use Rattle.decision_chains.specs.Pairs.{ArePairsIn};
+ghost use Rattle.grown_trees.specs.Values.{IsShown};
 ghost use Rattle.branch_tree.specs.Leaves.{HasClosed, HasSplit, IsAtLeaf, IsFramed, IsSplitBy, IsTurn, MayBegin, MayStand, NamesSet, set_in, with_set};
 ghost use Rattle.branch_tree.specs.Searches.{IsSearch, state_of};
 
@@ -177,7 +178,7 @@ fn choose_halves(
     requires not_fixed { ¬ (IsFixed inst.now pool.now branch.old) }
     requires weights { All (λ w. IsShoreOf inst.now pool.now w.shore) set.now.weights }
     requires fits { FitsBranch inst.now pool.now branch.old set.now }
-    requires some { pos 0 ≤ℤ value_of (rules_of inst.now pool.now branch.old) set.now }
+    requires some { 1 ≤ set.now.unit → IsShown set.now.unit (value_of (rules_of inst.now pool.now branch.old) set.now) 0 }
     ensures split { IfOk result (λ halves. IsSplitBy inst.now pool.now branch.old set.now halves.node halves.children) }
     ensures some_unit { 1 ≤ set.now.unit }
 {
@@ -201,10 +202,18 @@ fn choose_halves_of(
     requires shores { AreShoresIn inst.now pool.now branch.old }
     requires not_void { ¬ (IsVoid inst.now pool.now branch.old) }
     requires not_fixed { ¬ (IsFixed inst.now pool.now branch.old) }
-    requires some { pos 0 ≤ℤ value_of (rules_of inst.now pool.now branch.old) (set_in sets.now number) }
+    requires some { 1 ≤ (set_in sets.now number).unit → IsShown (set_in sets.now number).unit (value_of (rules_of inst.now pool.now branch.old) (set_in sets.now number)) 0 }
     ensures split { IfOk result (λ halves. IsSplitBy inst.now pool.now branch.old (set_in sets.now number) halves.node halves.children) }
     ensures some_unit { 1 ≤ (set_in sets.now number).unit }
 {
-    let set = &sets[number as usize - 1];
-    choose_halves(alloc, inst, pool, branch, set, gap)
+    choose_halves(alloc, inst, pool, branch, set_of(sets, number), gap)
+}
+
+// The price set of a number from 1.
+fn set_of(sets: &[PriceSet], number: u32) -> &PriceSet
+    requires from_one { 1 ≤ number }
+    requires in_range { number ≤ length sets.now }
+    ensures { result.now ≡ set_in sets.now number }
+{
+    &sets[number as usize - 1]
 }

@@ -19,6 +19,13 @@ impl Search {
         self.done
     }
 
+    /// The budget: the turns at which the search may end.
+    pub fn budget(&self) -> u64
+        ensures { result ≡ self.now.turns }
+    {
+        self.turns
+    }
+
     /// Takes the first leaf that shows least, if it does not show the best plan's cost. Where its branch is void or fixed, it is closed as
     /// that; the plan of a fixed leaf is the best one from then on if it is cheaper. Else, while fewer than 256 price sets are held, a
     /// tight set is sought for it (`dual_master::raise`). If that shows the cost, it closes the leaf, and otherwise both leaves of a split
@@ -32,6 +39,7 @@ impl Search {
         requires left { self.old.done < self.old.turns }
         ensures search { IsSearch inst.now self.new }
         ensures turns { self.new.turns ≡ self.old.turns }
+        ensures least { self.new.least ≡ self.old.least }
         ensures step { IfOk result (IsStep inst.now (state_of self.old) (state_of self.new)) }
         ensures err { OnErr result (IsAsBefore (state_of self.old) (state_of self.new)) }
     {

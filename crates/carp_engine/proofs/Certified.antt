@@ -20,6 +20,7 @@ use Rattle.branch_rules.specs.declared.node.Node.TheVariants as nodes
 use Rattle.branch_rules.specs.declared.weight.Weight.{Weight}
 use Rattle.grown_trees.specs.Growth.{IsSpelledNode}
 use Rattle.branch_tree.specs.Founds.{Findings, IsFound, support_found}
+use Rattle.branch_tree.specs.Values.{IsFloored}
 use Rattle.short_plans.specs.Laws.{ShortPlansCostLittle}
 use Rattle.branch_tree.specs.Searches.{IsHeldSet}
 use Rattle.cert_lines.specs.Laws.{FineIsSpellable, ShoreIsFine}
@@ -110,11 +111,14 @@ module _ (laws : Laws) (p : Problem) (f : Findings) (turns : ℕ) (found : IsFou
   pub bounds : IsLowerBound p f.bound
   bounds = laws.trees (support_found p f) f.bound found.tree (record { valid = found.valid; shores = no_depot p f.pool found.belong; sets = one_each }) found.shows
 
-  pub reached : (x : ℕ) → pos (found.base.unit * x) ≤ℤ found.base.value → x ≤ f.bound
+-- It is at least each floor.
+
+module _ (p : Problem) (f : Findings) (floored : IsFloored p f.bound) where
+  pub reached : (x : ℕ) → pos (floored.base.unit * x) ≤ℤ floored.base.value → x ≤ f.bound
   reached x at_least = elim (cases_lt f.bound x) [
     | inl more ↦
-        let far : found.base.unit * suc f.bound ≤ found.base.unit * x = mul-le-mul_left found.base.unit (omega (arith, more)) in
-        absurd (omega (arith, ints, at_least, far, found.above, found.floors.some_unit))
+        let far : floored.base.unit * suc f.bound ≤ floored.base.unit * x = mul-le-mul_left floored.base.unit (omega (arith, more)) in
+        absurd (omega (arith, ints, at_least, far, floored.above, floored.floors.some_unit))
     | inr most ↦ most
   ]
 
@@ -137,7 +141,13 @@ module _ (laws : Laws) (p : Problem) (f : Findings) (turns : ℕ) (found : IsFou
 
   pub above_floors : IsAboveFloors p f.bound
   above_floors = record {
-    shell = λ level k levels far. reached _ (found.floors.shell level k levels far);
-    ratio = λ deadhead load ratio. reached_by_parts found.base.value found.base.unit (required_cost p * load + total_demand p * deadhead) f.bound load found.floors.some_unit found.above (found.floors.ratio deadhead load ratio);
-    join = λ value least. reached _ (found.floors.join value least);
+    shell = λ level k levels far. reached _ (floored.floors.shell level k levels far);
+    ratio = λ deadhead load ratio. reached_by_parts floored.base.value floored.base.unit (required_cost p * load + total_demand p * deadhead) f.bound load floored.floors.some_unit floored.above (floored.floors.ratio deadhead load ratio);
+    join = λ value least. reached _ (floored.floors.join value least);
   }
+
+-- so is a greater bound
+pub floored_more : (p : Problem) (less more : ℕ) → less ≤ more → IsFloored p less → IsFloored p more
+floored_more p less more within is =
+    let product : is.base.unit * less ≤ is.base.unit * more = mul-le-mul_left is.base.unit within in
+    record { base = is.base; floors = is.floors; above = omega (arith, ints, is.above, product) }

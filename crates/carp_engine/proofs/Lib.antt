@@ -1,2 +1,4 @@
 pub mod Sound
 pub mod Certified
+pub mod Olds
+pub mod Better

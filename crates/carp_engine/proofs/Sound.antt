@@ -6,12 +6,19 @@ use Rattle.plan_model.specs.Plans.{plan_cost}
 use Rattle.branch_rules.specs.Laws.{LeanIsSmall}
 use Rattle.branch_tree.specs.Founds.{support_found}
 use Rattle.cert_lines.specs.Certificates.{Certificate}
-use Rattle.carp_engine.specs.Certifying.{IsSearched, certificate_by}
+use Rattle.branch_tree.specs.Values.{IsFloored}
+use Rattle.carp_engine.specs.Certifying.{IsSearched, IsSearchedAnew, certificate_by}
 use Rattle.carp_engine.specs.Solutions.{IsAtMostSingles, IsSound}
-use Rattle.carp_engine.proofs.Certified.{Laws, above_floors, bounds, is_fine, is_good, reached}
+use Rattle.carp_engine.proofs.Certified.{Laws, above_floors, bounds, floored_more, is_fine, is_good, reached}
 
 module _ (laws : Laws) (p : Problem) (budget : ℕ) (plan : List (List Step)) (cheap : IsAtMostSingles p (plan_cost p plan)) (c : Certificate) (turns : ℕ)
-    (s : IsSearched p budget plan c turns) where
+    (anew : IsSearchedAnew p budget plan c turns) where
+  abbrev s : IsSearched p anew.least budget plan c turns
+  s = anew.searched
+
+  floored : IsFloored p s.found.bound
+  floored = floored_more p anew.least s.found.bound s.no_lower anew.floored
+
   cheaper : IsAtMostSingles p (plan_cost p s.found.plan)
   cheaper = record { singles = cheap.singles; tours = cheap.tours; lawful = cheap.lawful; at_most = omega (arith, cheap.at_most, s.no_dearer) }
 
@@ -26,8 +33,8 @@ module _ (laws : Laws) (p : Problem) (budget : ℕ) (plan : List (List Step)) (c
     no_dearer = cheaper;
     not_above = s.is_found.at_most;
     greatest = λ other most shows. s.is_found.greatest other most shows;
-    services = reached laws p s.found turns s.is_found (required_cost p) s.is_found.floors.services;
-    floors = above_floors laws p s.found turns s.is_found;
+    services = reached p s.found floored (required_cost p) floored.floors.services;
+    floors = above_floors p s.found floored;
     turns_are = s.is_found.turns_are;
   }
 
@@ -35,7 +42,7 @@ module _ (laws : Laws) (p : Problem) (budget : ℕ) (plan : List (List Step)) (c
   sound = subst (λ (d : Certificate). IsSound p d turns) (sym s.certified.certificate) sound_by
 
 -- the bound is below the cost only where the turns are at least the budget
-module _ (p : Problem) (budget : ℕ) (plan : List (List Step)) (c : Certificate) (turns : ℕ) (s : IsSearched p budget plan c turns) where
+module _ (p : Problem) (least budget : ℕ) (plan : List (List Step)) (c : Certificate) (turns : ℕ) (s : IsSearched p least budget plan c turns) where
   pub ended : (c.bound ≡ c.cost) ⊎ (budget ≤ turns)
   ended = subst (λ (d : Certificate). (d.bound ≡ d.cost) ⊎ (budget ≤ turns)) (sym s.certified.certificate) s.ended
 

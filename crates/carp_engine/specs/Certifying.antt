@@ -9,6 +9,7 @@ use Rattle.cut_pool.specs.Shores.{IsShore}
 use Rattle.branch_rules.specs.Limits.{IsPriceSet}
 use Rattle.branch_rules.specs.Prices.{Prices}
 use Rattle.branch_tree.specs.Founds.{Findings, IsFound}
+use Rattle.branch_tree.specs.Values.{IsFloored}
 use Rattle.cert_lines.specs.Certificates.{Certificate}
 use Rattle.cert_format.specs.Good.{counts_in}
 
@@ -35,11 +36,18 @@ pub record IsCertified (p : Problem) (f : Findings) (c : Certificate) : Type 0 w
   pub limits : AreWithinLimits f.pool f.sets
   pub certificate : c ≡ certificate_by p f
 
--- what a search from a plan on found, and its certificate: the plan costs no more, and the bound is below the cost only where the turns
--- are at least the budget
-pub record IsSearched (p : Problem) (budget : ℕ) (plan : List (List Step)) (c : Certificate) (turns : ℕ) : Type 0 where
+-- what a search from a plan and a bound on found, and its certificate: the plan costs no more, the bound is no lower, and it is below the
+-- cost only where the turns are at least the budget
+pub record IsSearched (p : Problem) (least budget : ℕ) (plan : List (List Step)) (c : Certificate) (turns : ℕ) : Type 0 where
   pub found : Findings
   pub is_found : IsFound p found turns
   pub certified : IsCertified p found c
   pub no_dearer : plan_cost p found.plan ≤ plan_cost p plan
+  pub no_lower : least ≤ found.bound
   pub ended : (found.bound ≡ plan_cost p found.plan) ⊎ (budget ≤ turns)
+
+-- the same of a search that began with the floors
+pub record IsSearchedAnew (p : Problem) (budget : ℕ) (plan : List (List Step)) (c : Certificate) (turns : ℕ) : Type 0 where
+  pub least : ℕ
+  pub floored : IsFloored p least
+  pub searched : IsSearched p least budget plan c turns

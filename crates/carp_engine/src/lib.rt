@@ -2,12 +2,14 @@
 //!
 //! [`solve`] starts with one tour for each required edge, asks helpers in rounds, each of which is any [`plan_model::Proposer`]
 //! (`helper_rounds`), and then searches a tree of decisions by turns (`branch_tree`). No helper need be trusted: each offer is judged.
-//! [`consult`] asks one helper, and [`dismiss`] drops those that offered an unlawful plan.
+//! [`improve`] goes on from the plan and the tree of a good certificate in the same way. [`consult`] asks one helper, and [`dismiss`] drops those that offered an unlawful plan.
 #![tactic(auto)]
 
 mod certifying;
+mod improving;
 mod searching;
 mod solving;
 
 pub use helper_rounds::{Heard, consult, dismiss};
+pub use improving::improve;
 pub use solving::{Solved, solve};

@@ -1,15 +1,19 @@
 // Searches for a tree that shows the cost of a plan, within a budget of turns.
 ghost use Rattle.std.specs.Prelude.{◌≡◌, ◌⊎◌, ◌≤◌, IfOk, OnOk};
 ghost use Rattle.short_plans.specs.Shorts.{IsShortPlan};
+ghost use Rattle.branch_tree.specs.Resumes.{MayResume};
 ghost use Rattle.branch_tree.specs.Searches.{IsSearch, state_of};
 ghost use Rattle.branch_tree.specs.Steps.{AreClosed};
 ghost use Rattle.cert_format.specs.Certs.{certificate_in};
-ghost use Rattle.carp_engine.specs.Certifying.{IsSearched};
+ghost use Rattle.carp_engine.specs.Certifying.{IsSearched, IsSearchedAnew};
 
 use crate::Solved;
 use crate::certifying::certify;
+use branch_rules::PriceSet;
 use branch_tree::{Search, Turn};
 use carp_base::{Instance, Memory};
+use cut_pool::ShorePool;
+use grown_trees::GrowingNode;
 use plan_model::Plan;
 use std::alloc::Global;
 
@@ -23,9 +27,40 @@ pub(crate) fn search(
     requires some_turns { 1 ≤ turns }
     requires turns_in_range { turns ≤ 1048576 }
     requires short { IsShortPlan inst.now plan }
-    ensures { IfOk result (λ solved. IsSearched inst.now turns plan (certificate_in solved.cert) solved.turns) }
+    ensures { IfOk result (λ solved. IsSearchedAnew inst.now turns plan (certificate_in solved.cert) solved.turns) }
 {
-    let mut search = Search::begin(alloc, inst, turns, plan)?;
+    let search = Search::begin(alloc, inst, turns, plan)?;
+    go_on(alloc, inst, search)
+}
+
+// The best plan that a search from this plan and a tree on finds, and its certificate.
+pub(crate) fn search_on(
+    alloc: Global,
+    inst: &Instance,
+    turns: u64,
+    plan: Plan,
+    nodes: &[GrowingNode],
+    sets: Vec<PriceSet>,
+    shores: ShorePool,
+    least: u64,
+) -> Result<Solved, Memory>
+    requires some_turns { 1 ≤ turns }
+    requires turns_in_range { turns ≤ 1048576 }
+    requires short { IsShortPlan inst.now plan }
+    requires may { MayResume inst.now shores sets.items least nodes.now }
+    ensures { IfOk result (λ solved. IsSearched inst.now least turns plan (certificate_in solved.cert) solved.turns) }
+{
+    let search = Search::resume(alloc, inst, turns, plan, nodes, sets, shores, least)?;
+    go_on(alloc, inst, search)
+}
+
+// What a search finds that goes on until each leaf is closed or its budget is spent, and its certificate.
+pub(crate) fn go_on(alloc: Global, inst: &Instance, search: Search) -> Result<Solved, Memory>
+    requires { IsSearch inst.now search }
+    ensures { IfOk result (λ solved. IsSearched inst.now search.least search.turns search.best (certificate_in solved.cert) solved.turns) }
+{
+    let mut search = search;
+    let turns = search.budget();
     take_turns(inst, turns, &mut search)?;
     let done = search.done();
     let found = search.finish(alloc, inst)?;
@@ -39,6 +74,7 @@ fn take_turns(inst: &Instance, turns: u64, search: &mut Search) -> Result<(), Me
     requires turns { search.old.turns ≡ turns }
     ensures search { IsSearch inst.now search.new }
     ensures no_dearer { search.new.cost ≤ search.old.cost }
+    ensures least { search.new.least ≡ search.old.least }
     ensures ended { OnOk result (AreClosed (state_of search.new) ⊎ (turns ≤ search.new.done)) }
 {
     while search.done() < turns {

@@ -1,9 +1,11 @@
 // What is found without helpers.
-ghost use Rattle.std.specs.Prelude.{◌≤◌};
+ghost use Rattle.std.specs.Prelude.{◌≤◌, IfOk};
+ghost use Rattle.cert_format.specs.Certs.{certificate_in};
+ghost use Rattle.carp_engine.specs.Solutions.{IsSound};
 
 use branch_rules::Node;
 use carp_base::Instance;
-use carp_engine::{Solved, solve};
+use carp_engine::{Solved, improve, solve};
 use plan_model::Proposer;
 use samples::street;
 use std::alloc::Global;
@@ -26,6 +28,7 @@ fn full_streets(alloc: Global) -> Result<Instance, Fail> {
 fn solved_by(alloc: Global, inst: &Instance, turns: u64) -> Result<Solved, Fail>
     requires some_turns { 1 ≤ turns }
     requires turns_in_range { turns ≤ 1048576 }
+    ensures { IfOk result (λ solved. IsSound inst.now (certificate_in solved.cert) solved.turns) }
 {
     let mut helpers: Vec<Box<dyn Proposer>> = Vec::new(alloc);
     Ok(solve(alloc, inst, turns, 1, &mut helpers)?)
@@ -84,5 +87,34 @@ fn turns_close_the_gap(rt: HostRuntime) -> Result<(), Fail> {
     let alloc = rt.alloc();
     assert_eq!(rt; star_by(alloc, 1)?, (1010, 510));
     assert_eq!(rt; star_by(alloc, 32_768)?, (610, 610));
+    Ok(())
+}
+
+// The cost, the bound and the turns of the star by so many turns, and then by so many more.
+fn star_improved(alloc: Global, turns: u64, more: u64) -> Result<(u64, u64, u64), Fail>
+    requires some_turns { 1 ≤ turns }
+    requires turns_in_range { turns ≤ 1048576 }
+    requires some_more { 1 ≤ more }
+    requires more_in_range { more ≤ 1048576 }
+{
+    let inst = star(alloc)?;
+    let solved = solved_by(alloc, &inst, turns)?;
+    let mut helpers: Vec<Box<dyn Proposer>> = Vec::new(alloc);
+    let improved = improve(alloc, &inst, solved.cert, more, 1, &mut helpers)?;
+    Ok((improved.cert.cost, improved.cert.bound, improved.turns))
+}
+
+// What one turn left open is closed from there on. A certificate that is closed is left as it is.
+#[test]
+fn a_certificate_is_improved(rt: HostRuntime) -> Result<(), Fail> {
+    let alloc = rt.alloc();
+    let (cost, bound, first) = star_improved(alloc, 1, 1)?;
+    assert_eq!(rt; (cost, bound), (1010, 510));
+    assert!(rt; first >= 2);
+    let (cost, bound, _) = star_improved(alloc, 1, 32_768)?;
+    assert_eq!(rt; (cost, bound), (610, 610));
+    let (cost, bound, closed) = star_improved(alloc, 32_768, 1)?;
+    assert_eq!(rt; (cost, bound), (610, 610));
+    assert!(rt; closed > 2);
     Ok(())
 }

@@ -82,3 +82,18 @@ pub record IsLeastOpen (cost : ℕ) (entries : List GrowingNode) (place : ℕ) :
   pub not_shown : (other : GrowingNode) → (slice_index_or entries place other).shows < cost
   pub least : (other : GrowingNode) → All (λ entry. (slice_index_or entries place other).shows ≤ entry.shows) entries
   pub first : (other : GrowingNode) → All (λ entry. (slice_index_or entries place other).shows < entry.shows) (take place entries)
+
+-- A node where it stands, and the number beside it, which is the greatest bound that it shows. The decisions on the way to it are on
+-- required edges, and on shores that are in the pool and belong to the instance.
+pub record IsNotedNode (c : Support) (s : Stand) (entry : GrowingNode) : Type 0 where
+  pub same : entry.node ≡ s.node
+  pub pairs : ArePairsIn c.problem s.branch
+  pub shores : AreShoresIn c.problem c.pool s.branch
+  pub shows : ShowsUpTo c s entry.shows
+
+-- so is each node of a list, each with its number
+abbrev pub AreNoted : Support → List Stand → List GrowingNode → Type 0
+AreNoted c [] [] = Unit {0}
+AreNoted c [] (entry ∷ entries) = ⊥
+AreNoted c (s ∷ ss) [] = ⊥
+AreNoted c (s ∷ ss) (entry ∷ entries) = IsNotedNode c s entry × AreNoted c ss entries

@@ -52,6 +52,16 @@ impl GrowingTree {
         Ok(GrowingTree { nodes, room })
     }
 
+    /// The tree of these nodes, with memory for so many. Without memory there is an error.
+    pub fn of(alloc: Global, room: usize, nodes: &[GrowingNode]) -> Result<GrowingTree, Memory>
+        requires { length nodes.now ≤ room }
+        ensures { IfOk result (λ tree. tree ≡ record { nodes = nodes.now; room = room }) }
+    {
+        let mut all = Vec::with_capacity(alloc, room)?;
+        all.extend_from_slice(nodes)?;
+        Ok(GrowingTree { nodes: all, room })
+    }
+
     /// The number of nodes.
     pub fn len(&self) -> usize
         ensures { result ≡ length self.now.nodes }

@@ -1,3 +1,4 @@
+mod Entries
 mod Forests
 mod LightSets
 mod Moving

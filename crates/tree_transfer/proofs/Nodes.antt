@@ -65,11 +65,11 @@ module _ (c : Support) (bound : ℕ) where
   would_nodes void branch rest waiting would later = (would, later)
   would_nodes fixed branch rest waiting would later = (would, later)
 
-  would_tree : (tree : Tree) (all : List Node) → preorder tree ≡ all → WouldShow c [] bound tree → NodesWouldShow c bound all ([] ∷ [])
+  pub would_tree : (tree : Tree) (all : List Node) → preorder tree ≡ all → WouldShow c [] bound tree → NodesWouldShow c bound all ([] ∷ [])
   would_tree tree all is would =
       subst (λ (xs : List Node). NodesWouldShow c bound xs ([] ∷ [])) (append-nil (preorder tree) ∙ is) (would_nodes tree [] [] [] would tt)
 
-  would_some : (node : Node) (rest : List Node) (waiting : List (List Decision)) → NodesWouldShow c bound (node ∷ rest) waiting → 1 ≤ length waiting
+  pub would_some : (node : Node) (rest : List Node) (waiting : List (List Decision)) → NodesWouldShow c bound (node ∷ rest) waiting → 1 ≤ length waiting
   would_some node rest [] would = absurd would
   would_some node rest (branch ∷ waiting) would = omega arith
 

@@ -6,7 +6,10 @@ use Rattle.branch_rules.specs.Limits.{IsNodeIn, IsShoreOf}
 use Rattle.branch_rules.specs.Trees.{Tree, preorder, Support, Shows}
 use Rattle.branch_rules.specs.declared.node.Node.{Node}
 use Rattle.carried_trees.specs.Carried.{IsCarried, WouldShow}
+use Rattle.grown_trees.specs.Growth.{AreNoted}
 use Rattle.grown_trees.specs.Places.{IsFineNode}
+use Rattle.grown_trees.specs.Stands.{stands}
+use Rattle.grown_trees.specs.declared.growing.GrowingNode.{GrowingNode}
 
 -- the nodes are those of a tree in preorder; their pairs are of required edges, their shores are in the pool and belong to the instance, and
 -- the numbers of their cuts are at most 1,000,000
@@ -40,3 +43,7 @@ pub record IsGreatestShown (c : Support) (cost : ℕ) (nodes : List Node) (bound
   pub at_most : bound ≤ cost
   pub shows : (tree : Tree) (b : ℕ) → preorder tree ≡ nodes → b ≤ cost → Shows c [] b tree ↔ (b ≤ bound)
   pub values : (tree : Tree) (b : ℕ) → preorder tree ≡ nodes → WouldShow c [] b tree → Shows c [] b tree
+
+-- the nodes of a tree, each with the greatest bound that it shows where it stands
+abbrev pub AreNotedNodes : Support → List Node → List GrowingNode → Type 0
+AreNotedNodes c nodes entries = (tree : Tree) → preorder tree ≡ nodes → AreNoted c (stands [] tree) entries

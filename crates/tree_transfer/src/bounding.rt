@@ -24,10 +24,10 @@ use tree_paths::Path;
 // What the nodes of a tree are read against.
 #[derive(Clone, Copy)]
 pub(crate) struct Given<'a> {
-    inst: &'a Instance,
-    pool: &'a ShorePool,
-    sets: &'a [PriceSet],
-    dist: &'a Distances,
+    pub(crate) inst: &'a Instance,
+    pub(crate) pool: &'a ShorePool,
+    pub(crate) sets: &'a [PriceSet],
+    pub(crate) dist: &'a Distances,
 }
 
 impl Given<'_> {
@@ -117,7 +117,12 @@ fn bound_node(
 }
 
 // The greatest bound that a node shows by itself; an inner node and a void leaf show each bound.
-fn shown_by(alloc: Global, given: &Given<'_>, branch: &Branch, node: &Node) -> Result<u64, Memory>
+pub(crate) fn shown_by(
+    alloc: Global,
+    given: &Given<'_>,
+    branch: &Branch,
+    node: &Node,
+) -> Result<u64, Memory>
     requires given { IsGiven given.now }
     requires pairs { ArePairsIn given.now.inst.now branch.now }
     requires some { NodeWouldShowSome (support_in given.now) branch.now node.now }

@@ -1,25 +1,20 @@
-use Rattle.std.proofs.Common.{◌≡◌, ◌≤◌, ◌⊎◌, sym, ap, ◌∙◌, arith, inl, inr, subst, ℕ}
-use Rattle.plan_model.specs.Plans.{plan_cost}
-use Rattle.branch_tree.specs.Founds.{IsFound, findings_of}
+use Rattle.std.proofs.Common.{ℕ, List, subst}
+use Rattle.std.proofs.lemmas.Result.{IfOk-weaker}
+use Rattle.plan_model.specs.declared.step.Step.{Step}
+use Rattle.cert_format.specs.Certs.{certificate_in}
+use Rattle.carp_engine.specs.Certifying.{IsSearched}
 use Rattle.carp_engine.proofs.searching.search.Goals as goal
-
-ended_by : {Closed : Type 0} (bound least cost budget done turns : ℕ) → (Closed → bound ≡ least) → cost ≡ least → turns ≡ done → Closed ⊎ (budget ≤ done) → (bound ≡ cost) ⊎ (budget ≤ turns)
-ended_by bound least cost budget done turns whole is done_is (inl closed) = inl (whole closed ∙ sym is)
-ended_by bound least cost budget done turns whole is done_is (inr spent) = inr (omega (arith, spent, done_is))
 
 pub returns : goal.returns
 returns c =
     let p = c.args.inst.now in
-    let s = c.take_turns.new.search in
-    let found = c.in_ok-found.found in
-    let solved = c.in_ok-solved.ensures in
-    let cost : plan_cost p found.plan ≡ s.cost = ap (plan_cost p) c.in_ok-found.ensures.plan ∙ sym c.take_turns.ensures.search.held.cost_is in
-    let first : c.in_ok-search.search.cost ≡ plan_cost p c.args.plan = c.in_ok-search.ensures.search.held.cost_is ∙ ap (plan_cost p) c.in_ok-search.ensures.begun.best in
-    let turns = solved.turns ∙ c.done-done.ensures in
-    record {
-      found = findings_of found;
-      is_found = subst (IsFound p (findings_of found)) (sym turns) c.in_ok-found.ensures.found;
-      certified = solved.certified;
-      no_dearer = omega (arith, cost, first, c.take_turns.ensures.no_dearer);
-      ended = ended_by found.bound s.cost (plan_cost p found.plan) c.args.turns s.done c.in_ok-solved.solved.turns c.in_ok-found.ensures.closed cost turns c.in_ok-take_turns.ensures.ended;
-    }
+    let s = c.in_ok-search.search in
+    let begun = c.in_ok-search.ensures in
+    IfOk-weaker c.go_on.result _ _
+    (λ solved searched. record {
+      least = s.least;
+      floored = begun.begun.floored;
+      searched =
+          subst (λ (n : ℕ). IsSearched p s.least n c.args.plan (certificate_in solved.cert) solved.turns) begun.turns
+          (subst (λ (plan : List (List Step)). IsSearched p s.least s.turns plan (certificate_in solved.cert) solved.turns) begun.begun.best searched);
+    }) c.go_on.ensures

@@ -20,8 +20,8 @@ returns-clause-sound g c =
 
 pub returns-clause-ended : goal.returns-clause-ended
 returns-clause-ended g c =
-    IfOk-weaker c.search.result _ _ (λ solved searched. ended c.args.inst.now c.args.turns c.ask_all.new.best _ _ searched) c.search.ensures
+    IfOk-weaker c.search.result _ _ (λ solved searched. ended c.args.inst.now searched.least c.args.turns c.ask_all.new.best _ _ searched.searched) c.search.ensures
 
 pub returns-clause-whole : goal.returns-clause-whole
 returns-clause-whole g c enough =
-    IfOk-weaker c.search.result _ _ (λ solved searched. whole c.args.inst.now c.args.turns c.ask_all.new.best _ _ searched c.lean_trees_are_small.ensures enough) c.search.ensures
+    IfOk-weaker c.search.result _ _ (λ solved searched. whole c.args.inst.now searched.least c.args.turns c.ask_all.new.best _ _ searched.searched c.lean_trees_are_small.ensures enough) c.search.ensures

@@ -1,6 +1,7 @@
-use Rattle.std.proofs.Common.{List, subst, sym, refl, pos, ◌≤ℤ◌, ◌≤◌}
+use Rattle.std.proofs.Common.{List, subst, sym, refl, ◌≤◌}
 use Rattle.branch_rules.specs.Decisions.{rules_of}
 use Rattle.branch_rules.specs.Prices.{Prices, value_of}
+use Rattle.grown_trees.specs.Values.{IsShown}
 use Rattle.branch_tree.specs.Leaves.{IsSplitBy, MayBegin, set_in}
 use Rattle.branch_tree.specs.Searches.{state_of}
 use Rattle.branch_tree.specs.declared.search.Turn.TheVariants.{Split}
@@ -19,12 +20,12 @@ choose_halves_of-requires-clause-shores c = leaf_shores c.known_laws.ensures c.a
 
 pub choose_halves_of-requires-clause-some : goal.choose_halves_of-requires-clause-some
 choose_halves_of-requires-clause-some c =
-    subst (λ (sets : List Prices). pos 0 ≤ℤ value_of (rules_of c.args.inst.now c.args.self.now.pool c.args.branch.now) (set_in sets c.args.number)) (sym c.deref.ensures.value)
+    subst (λ (sets : List Prices). 1 ≤ (set_in sets c.args.number).unit → IsShown (set_in sets c.args.number).unit (value_of (rules_of c.args.inst.now c.args.self.now.pool c.args.branch.now) (set_in sets c.args.number)) 0) (sym c.deref.ensures.value)
     (named_some c.known_laws.ensures c.args.inst.now (state_of c.args.self.now) c.requires.search.held c.args.place c.args.branch.now c.requires.names.at c.args.number c.requires.names)
 
 pub returns-in_err-halves : goal.returns-in_err-halves
 returns-in_err-halves c =
-    turn_failed c.args.inst.now c.args.self.now c.args.self.now c.from_residual.result c.from_residual.ensures.0 c.requires.search refl (as_before_same (state_of c.args.self.now))
+    turn_failed c.args.inst.now c.args.self.now c.args.self.now c.from_residual.result c.from_residual.ensures.0 c.requires.search refl refl (as_before_same (state_of c.args.self.now))
 
 pub returns : goal.returns
 returns c =

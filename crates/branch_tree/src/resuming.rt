@@ -1,0 +1,85 @@
+// How a search goes on from a tree.
+ghost use Rattle.std.specs.Prelude.{◌≡◌, ◌+◌, ◌≤◌, IfOk, length, min};
+ghost use Rattle.short_plans.specs.Shorts.{IsShortPlan};
+ghost use Rattle.grown_trees.specs.Growth.{turns_in};
+ghost use Rattle.branch_tree.specs.Resumes.{IsResumed, MayResume};
+ghost use Rattle.branch_tree.specs.Searches.{IsSearch, state_of};
+
+use crate::beginning::{short_cost, tools_of};
+use crate::search::Search;
+use branch_rules::PriceSet;
+use carp_base::{Instance, Memory};
+use cut_pool::ShorePool;
+use grown_trees::{GrowingNode, GrowingTree};
+use plan_model::Plan;
+use short_plans::short_plans_cost_little;
+use std::alloc::Global;
+
+// The most turns of a budget.
+const MOST_TURNS: u64 = 1_048_576;
+
+impl Search {
+    /// A search that goes on from a tree and a plan, for so many turns beyond those that the tree has for the plan's cost, where they are
+    /// no more than 1,048,576 in all; a tree that has as many takes no turn.
+    ///
+    /// The tree may be another's: its price leaves may lie below the floors, and it may have all nodes, price sets and shores that a
+    /// certificate can spell. It shows the bound `least` then and at each moment. Memory for all nodes that the budget can make is taken
+    /// here.
+    ///
+    /// The one error is want of memory. It takes the time of least paths between all pairs of vertices, and in proportion to the number of
+    /// nodes.
+    pub fn resume(
+        alloc: Global,
+        inst: &Instance,
+        turns: u64,
+        best: Plan,
+        nodes: &[GrowingNode],
+        sets: Vec<PriceSet>,
+        pool: ShorePool,
+        least: u64,
+    ) -> Result<Search, Memory>
+        requires some_turns { 1 ≤ turns }
+        requires turns_in_range { turns ≤ 1048576 }
+        requires short { IsShortPlan inst.now best }
+        requires may { MayResume inst.now pool sets.items least nodes.now }
+        ensures search { IfOk result (IsSearch inst.now) }
+        ensures turns { IfOk result (λ search. search.turns ≡ min (search.done + turns) 1048576) }
+        ensures resumed { IfOk result (λ search. IsResumed inst.now best pool sets.items least nodes.now (state_of search)) }
+    {
+        short_plans_cost_little();
+        let _ = inst.vertices();
+        let cost = short_cost(alloc, inst, &best)?;
+        let tools = tools_of(alloc, inst)?;
+        let done = turns_for(nodes, cost);
+        let budget = budget_from(done, turns);
+        let tree = GrowingTree::of(alloc, 2 * budget as usize + 1, nodes)?;
+        Ok(Search {
+            alloc,
+            net: tools.net,
+            dist: tools.dist,
+            table: tools.table,
+            tree,
+            sets,
+            pool,
+            best,
+            cost,
+            done,
+            turns: budget,
+            least,
+        })
+    }
+}
+
+// The turns of nodes for a cost.
+fn turns_for(nodes: &[GrowingNode], cost: u64) -> u64
+    ensures { result ≡ turns_in cost nodes.now }
+{
+    nodes.iter().filter(|entry| cost <= entry.shows).count() as u64
+}
+
+// So many turns more, and the greatest budget at most.
+fn budget_from(done: u64, turns: u64) -> u64
+    ensures { result ≡ min (done + turns) 1048576 }
+{
+    done.saturating_add(turns).min(MOST_TURNS)
+}

@@ -1,0 +1,81 @@
+// Goes on from a certificate.
+ghost use Rattle.std.specs.Prelude.{◌≡◌, ◌⊎◌, ◌+◌, ◌%◌, ◌^◌, ◌≤◌, All, EachIndex, IfOk, OnOk, map, slice_index};
+ghost use Rattle.helper_rounds.specs.Helpers.{IsAtMost};
+ghost use Rattle.cert_lines.specs.Spelling.{IsSpellable};
+ghost use Rattle.cert_format.specs.Certs.{certificate_in};
+ghost use Rattle.cert_format.specs.Good.{IsGood};
+ghost use Rattle.carp_engine.specs.Improved.{IsImproved};
+
+use crate::Solved;
+use crate::searching::search_on;
+use branch_rules::tree_bounds;
+use carp_base::{Instance, Memory};
+use cert_format::{Cert, counts_are_in_range, good_is_proof, plans_are_on_edges};
+use cert_lines::{fine_is_spellable, shores_are_fine, spellable_is_fine};
+use chain_plans::fixed_values_compare;
+use deadhead_paths::tidy;
+use helper_rounds::ask_all;
+use plan_model::Proposer;
+use short_plans::short_plans_cost_little;
+use std::alloc::Global;
+use task_tours::cost_distances;
+use tree_transfer::note_nodes;
+
+/// The best plan that the helpers find from that of a good certificate on, whoever made it, and what a search shows that goes on from its
+/// tree. The plan costs no more than the old one, and the bound is no lower.
+///
+/// The old plan's tours are joined by least paths first, and its tours without service are left out. The helpers are seeded and asked as
+/// in [`solve`](crate::solve). Then the search takes up the old tree with its price sets and its shores, and goes on for so many turns
+/// more than the tree has for the new cost, up to 1,048,576 in all. So the bound is below the cost only where the tree has at least as many
+/// turns as were asked for.
+///
+/// Where the old tree has 256 price sets, its leaves keep those that they have; with 2,000 shores none is added. Without memory the answer
+/// is `Memory`.
+///
+/// Beside what `solve` takes for helpers and turns, it takes the time of a check of the old tree.
+pub fn improve<P: Proposer>(
+    alloc: Global,
+    inst: &Instance,
+    cert: Cert,
+    turns: u64,
+    seed: u64,
+    helpers: &mut Vec<P>,
+) -> Result<Solved, Memory>
+    requires some_turns { 1 ≤ turns }
+    requires turns_in_range { turns ≤ 1048576 }
+    requires spellable { IsSpellable (certificate_in cert) }
+    requires good { IsGood inst.now (certificate_in cert) }
+    ensures same { map P.id helpers.new.items ≡ map P.id helpers.old.items }
+    ensures seeds { OnOk result (EachIndex helpers.new.items (λ k. slice_index (map P.seed helpers.new.items) k ≡ (seed + k) % 2 ^ 64)) }
+    ensures asked { OnOk result (All (λ helper. 1 ≤ P.asked helper) helpers.new.items) }
+    ensures few_rounds { OnOk result (All (λ helper. P.asked helper ≤ 4) helpers.new.items) }
+    ensures fouls { OnOk result (All (λ helper. (P.tally helper).fouls ≤ 1) helpers.new.items) }
+    ensures least { IfOk result (λ solved. All (λ helper. IsAtMost solved.cert.cost (P.tally helper).least) helpers.new.items) }
+    ensures improved { IfOk result (λ solved. IsImproved inst.now (certificate_in cert) (certificate_in solved.cert) solved.turns) }
+    ensures ended { IfOk result (λ solved. (solved.cert.bound ≡ solved.cert.cost) ⊎ (turns ≤ solved.turns)) }
+{
+    tree_bounds();
+    short_plans_cost_little();
+    counts_are_in_range();
+    fine_is_spellable();
+    spellable_is_fine();
+    shores_are_fine();
+    plans_are_on_edges();
+    good_is_proof();
+    fixed_values_compare();
+    let _ = inst.vertices();
+    let dist = cost_distances(alloc, inst)?;
+    let mut plan = tidy(alloc, inst, &dist, &cert.plan)?;
+    ask_all(alloc, inst, &dist, &mut plan, helpers, seed)?;
+    let nodes = note_nodes(alloc, inst, &cert.shores, &cert.sets, &dist, &cert.tree)?;
+    search_on(
+        alloc,
+        inst,
+        turns,
+        plan,
+        &nodes,
+        cert.sets,
+        cert.shores,
+        cert.bound,
+    )
+}
