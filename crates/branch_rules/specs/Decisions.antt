@@ -1,6 +1,6 @@
 -- What a plan must do to meet its decisions, the numbers of shores, and void and fixed branches (Bode and Irnich 2012).
 use Rattle.std.specs.Prelude.{◌≡◌, ◌≢◌, ℕ, ◌+◌, ◌%◌, ◌≤◌, ◌<◌, Bool, true, false, ◌==◌, List, [], ◌∷◌, if◌then◌else◌, count_by, Option, Some, None, max}
-use Rattle.std.specs.List.{AllByRecursion}
+use Rattle.std.specs.List.{AllByRecursion, list_any}
 use Rattle.carp_base.specs.Problem.{Problem, IsRequired}
 use Rattle.plan_model.specs.Plans.{deadheads_over}
 use Rattle.plan_model.specs.Offers.{smaller}
@@ -8,7 +8,7 @@ use Rattle.plan_model.specs.declared.step.Step.{Step}
 use Rattle.cut_pool.specs.Shores.{is_in, need, required_crossings}
 use Rattle.cut_pool.specs.Pools.{shore_at}
 use Rattle.decision_chains.specs.Neighbours.{AreNeighbours}
-use Rattle.decision_chains.specs.Exclusions.{IsYes, HasTwoOthers, Detour, IsHeavy, IsDetermined}
+use Rattle.decision_chains.specs.Exclusions.{says_yes, IsYes, HasTwoOthers, Detour, IsHeavy, IsDetermined}
 use Rattle.branch_rules.specs.Bonds.{room}
 use Rattle.branch_rules.specs.Prices.{Rules}
 use Rattle.decision_chains.specs.declared.decision.Decision.{Decision}
@@ -52,9 +52,16 @@ lower_of p pool branch shore =
     let inside = is_in (shore_at pool shore) in
     to_parity (required_crossings p inside) (max (need p inside) (highest shore branch))
 
--- the lower and upper numbers under a branch, and the room of groups, which is the same under each
+-- the group is a pair, and the branch says yes to it
+abbrev pub is_yes_pair : List Decision → List ℕ → Bool
+is_yes_pair branch [] = false
+is_yes_pair branch (a ∷ []) = false
+is_yes_pair branch (a ∷ b ∷ []) = list_any (says_yes a b) branch
+is_yes_pair branch (a ∷ b ∷ c ∷ rest) = false
+
+-- the lower and upper numbers and the yes pairs of a branch, and the room of groups, which is the same under each branch
 abbrev pub rules_of : Problem → List (List ℕ) → List Decision → Rules
-rules_of p pool branch = record { lower = lower_of p pool branch; upper = λ shore. lowest shore branch; room = room p }
+rules_of p pool branch = record { lower = lower_of p pool branch; upper = λ shore. lowest shore branch; room = room p; together = is_yes_pair branch }
 
 -- why no lawful plan meets the branch: an edge has three yes neighbours or more; yes pairs form a cycle; a chain is above the
 -- capacity; or the upper number of a shore is below its lower number

@@ -46,11 +46,23 @@ abbrev pub row : List ℕ
 row = 1 ∷ 2 ∷ []
 
 abbrev pub row_weights : List GroupWeight
-row_weights = record { edges = row; weight = 3 } ∷ []
+row_weights = record { edges = row; weight = pos 3 } ∷ []
 
 -- a price of 4 for each of the two streets
 abbrev pub row_prices : Prices
 row_prices = record { unit = 1; services = pos 4 ∷ pos 4 ∷ []; weights = []; groups = row_weights }
+
+-- a second weight, of 2, on a group that has both streets, too
+abbrev pub both_weights : List GroupWeight
+both_weights = record { edges = 1 ∷ 2 ∷ 3 ∷ []; weight = pos 2 } ∷ row_weights
+
+-- a weight of 5 below 0 on the pair of streets
+abbrev pub yes_weights : List GroupWeight
+yes_weights = record { edges = row; weight = negsuc 4 } ∷ []
+
+-- a price of 1 for the one street, and that weight
+abbrev pub yes_prices : Prices
+yes_prices = record { unit = 1; services = pos 1 ∷ pos 1 ∷ []; weights = []; groups = yes_weights }
 
 abbrev pub town_support : Support
 town_support = record { problem = town; pool = town_pool; sets = town_prices ∷ [] }

@@ -1,5 +1,5 @@
 -- Laws over all lawful plans of an instance, over branches, price sets and trees.
-use Rattle.std.specs.Prelude.{◌≡◌, ℕ, ◌+◌, ◌-◌, ◌*◌, ◌/◌, ◌^◌, ◌<◌, ◌≤◌, ◌↔◌, pos, ◌-ℤ◌, ◌*ℤ◌, ◌≤ℤ◌, ◌<ℤ◌, List, [], ◌∷◌, length, false}
+use Rattle.std.specs.Prelude.{◌≡◌, ℕ, ◌+◌, ◌-◌, ◌*◌, ◌/◌, ◌^◌, ◌<◌, ◌≤◌, ◌↔◌, pos, ◌-ℤ◌, ◌*ℤ◌, ◌≤ℤ◌, ◌<ℤ◌, List, [], ◌∷◌, length, IsTrue, false}
 use Rattle.std.specs.List.{AllByRecursion}
 use Rattle.carp_base.specs.Problem.{Problem, IsValid}
 use Rattle.plan_model.specs.Plans.{IsLawful, plan_cost, deadheads_over}
@@ -10,7 +10,7 @@ use Rattle.branch_rules.specs.Bonds.{GroupWeight, IsApart, bond_weight, group_de
 use Rattle.decision_chains.specs.Neighbours.{AreNeighbours}
 use Rattle.branch_rules.specs.Prices.{Prices, Fits, KeepsRules, value_of}
 use Rattle.cut_pool.specs.Pools.{shore_at}
-use Rattle.branch_rules.specs.Decisions.{MeetsAll, IsVoid, IsFixed, Spells, rules_of}
+use Rattle.branch_rules.specs.Decisions.{MeetsAll, IsVoid, IsFixed, Spells, is_yes_pair, rules_of}
 use Rattle.decision_chains.specs.Exclusions.{Excluded}
 use Rattle.chain_plans.specs.FixedValue.{HasFixedValue}
 use Rattle.branch_rules.specs.Trees.{Tree, preorder, Support, Shows, NodesShow, IsSoundSupport, IsLean, HasTurns, PairsIn}
@@ -32,6 +32,11 @@ abbrev pub BondsAreBounded : Type 0
 BondsAreBounded = (p : Problem) (group : List ℕ) (plan : List (List Step)) →
     IsValid p → IsLawful p plan → plan_bonds group plan + vehicles p (group_demand p group) ≤ length group
 
+-- a lawful plan that meets a branch has exactly one bond in each pair that the branch says yes to
+abbrev pub YesPairsHaveOneBond : Type 0
+YesPairsHaveOneBond = (p : Problem) (pool : List (List ℕ)) (branch : List Decision) (group : List ℕ) (plan : List (List Step)) →
+    IsValid p → IsLawful p plan → MeetsAll p pool plan branch → IsTrue (is_yes_pair branch group) → plan_bonds group plan ≡ 1
+
 -- what the bonds of a tour weigh is the sum of the surcharges of its edges that follow each other
 abbrev pub SurchargesAreBondWeights : Type 0
 SurchargesAreBondWeights = (groups : List GroupWeight) (es : List ℕ) → bond_weight groups es ≡ surcharges (surcharge groups) es
@@ -42,7 +47,7 @@ SurchargeIsSymmetric = (groups : List GroupWeight) (e f : ℕ) → surcharge gro
 
 -- an edge of no group has no surcharge
 abbrev pub ApartHasNoSurcharge : Type 0
-ApartHasNoSurcharge = (groups : List GroupWeight) (e f : ℕ) → IsApart groups e → surcharge groups e f ≡ 0
+ApartHasNoSurcharge = (groups : List GroupWeight) (e f : ℕ) → IsApart groups e → surcharge groups e f ≡ pos 0
 
 -- no excluded pair are neighbours in a lawful plan that meets the branch
 abbrev pub ExcludedAreApart : Type 0

@@ -1,5 +1,5 @@
 -- The limits of price sets and of decisions, under which every sum fits 128 bits.
-use Rattle.std.specs.Prelude.{◌≢◌, ℕ, ◌≤◌, ℤ, pos, neg_ℤ, ◌≤ℤ◌, List, length, map}
+use Rattle.std.specs.Prelude.{◌≡◌, ◌≢◌, ℕ, ◌≤◌, ℤ, pos, neg_ℤ, ◌≤ℤ◌, ◌<ℤ◌, List, length, map, sum_by}
 use Rattle.std.specs.List.{All}
 use Rattle.std.specs.List.Sorted.{IsStrictlyIncreasing}
 use Rattle.carp_base.specs.Problem.{Problem}
@@ -25,15 +25,22 @@ pub record IsFineWeight (w : Weight) : Type 0 where
   pub some : w.weight ≢ pos 0
   pub within : IsPriceNumber w.weight
 
--- a weight from 1 to 10^15, on a group of two to 600 edges
+-- a surcharge of at most 2,000 groups, within 2 * 10^18 either way
+pub record IsSurcharge (z : ℤ) : Type 0 where
+  pub low : neg_ℤ (pos 2000000000000000000) ≤ℤ z
+  pub high : z ≤ℤ pos 2000000000000000000
+
+-- a weight that is not 0, on a group of two to 600 edges; below 0, on a group of two
 pub record IsFineGroup (w : GroupWeight) : Type 0 where
   pub two : 2 ≤ length w.edges
   pub few : length w.edges ≤ 600
   pub rising : IsStrictlyIncreasing w.edges
-  pub some : 1 ≤ w.weight
-  pub small : w.weight ≤ 1000000000000000
+  pub some : w.weight ≢ pos 0
+  pub within : IsPriceNumber w.weight
+  pub pair : w.weight <ℤ pos 0 → length w.edges ≡ 2
 
--- a unit from 1 to 1,000,000, at most 600 prices, at most 2,000 weights on shores of rising numbers, and at most 2,000 on groups
+-- a unit from 1 to 1,000,000, at most 600 prices, at most 2,000 weights on shores of rising numbers, and at most 2,000 on groups, of at
+-- most 60,000 edges together
 pub record IsPriceSet (set : Prices) : Type 0 where
   pub some_unit : 1 ≤ set.unit
   pub unit_in : set.unit ≤ 1000000
@@ -43,6 +50,7 @@ pub record IsPriceSet (set : Prices) : Type 0 where
   pub weights : All IsFineWeight set.weights
   pub rising : IsStrictlyIncreasing (map (λ w. w.shore) set.weights)
   pub few_groups : length set.groups ≤ 2000
+  pub few_edges : sum_by (λ (w : GroupWeight). length w.edges) set.groups ≤ 60000
   pub groups : All IsFineGroup set.groups
 
 -- the number of a cut is at most 1,000,000
