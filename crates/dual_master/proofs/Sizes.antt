@@ -20,7 +20,7 @@ use Rattle.branch_rules.specs.Decisions.{highest, lowest, rules_of, to_parity}
 use Rattle.branch_rules.specs.Laws.{FitsBranch}
 use Rattle.branch_rules.specs.Limits.{IsFineDecision, IsFineGroup, IsFineWeight, IsPriceNumber, IsPriceSet}
 use Rattle.branch_rules.specs.Bonds.{GroupWeight, room}
-use Rattle.branch_rules.specs.Prices.{Prices, no_weight, signed_sum, value_of, weigh, weight_value}
+use Rattle.branch_rules.specs.Prices.{Prices, no_weight, signed_sum, value_of, weigh, weigh_bonds, weight_value}
 use Rattle.branch_rules.specs.Refusals.{IsWithoutUpper}
 use Rattle.branch_rules.specs.declared.branch.NoUpper.{NoUpper}
 use Rattle.plan_model.specs.Offers.{smaller}
@@ -107,18 +107,13 @@ weigh_small (negsuc w) low high within small few =
     let most : suc w * high ≤ 1000000000000000 * 1000000 = mul-le-mul bound few in
     record { low = omega (arith, ints, most); high = omega (arith, ints, most) }
 
--- no group weighs more than its weight for each of its edges
-rooms_small : (p : Problem) (groups : List GroupWeight) → All IsFineGroup groups → sum_by (λ w. w.weight * room p w.edges) groups ≤ length groups * 600000000000000000
-rooms_small p [] fine = omega arith
-rooms_small p (w ∷ groups) fine =
-    let own = All-head IsFineGroup w groups fine in
-    let few : room p w.edges ≤ 600 = omega (arith, own.few) in
-    omega (
-      arith,
-      sum_by-cons (λ (x : GroupWeight). x.weight * room p x.edges) w groups,
-      mul-le-mul own.small few,
-      rooms_small p groups (All-tail IsFineGroup w groups fine),
-    )
+-- a weight on bonds, counted by a room of at most 600
+bonds_small : (z : ℤ) (most : ℕ) → IsPriceNumber z → most ≤ 600 → IsUpTo 600000000000000000 (weigh_bonds z most)
+bonds_small (pos w) most within few =
+    let bound : w ≤ 1000000000000000 = omega (arith, ints, within.high) in
+    let product : w * most ≤ 1000000000000000 * 600 = mul-le-mul bound few in
+    record { low = omega (arith, ints, product); high = omega (arith, ints, product) }
+bonds_small (negsuc w) most within few = record { low = omega (arith, ints, within.low); high = omega (arith, ints) }
 
 module _ (p : Problem) (pool : List (List ℕ)) (branch : List Decision) (set : Prices) (valid : IsValid p) (decisions : All IsFineDecision branch) (fine : IsPriceSet set) where
   weight_small : (w : Weight) → IsFineWeight w → IsUpTo 40000000000000000000000 (weight_value (rules_of p pool branch) w)
@@ -136,9 +131,13 @@ module _ (p : Problem) (pool : List (List ℕ)) (branch : List Decision) (set : 
       let weights =
       sum_small (weight_value (rules_of p pool branch)) 40000000000000000000000 set.weights
       (All-weaker IsFineWeight (λ (w : Weight). IsUpTo 40000000000000000000000 (weight_value (rules_of p pool branch) w)) weight_small set.weights fine.weights) in
+      let rooms =
+      sum_small (λ (w : GroupWeight). weigh_bonds w.weight (room p w.edges)) 600000000000000000 set.groups
+      (All-weaker IsFineGroup (λ (w : GroupWeight). IsUpTo 600000000000000000 (weigh_bonds w.weight (room p w.edges)))
+      (λ w is. bonds_small w.weight (room p w.edges) is.within (omega (arith, is.few))) set.groups fine.groups) in
       record {
-        low = omega (arith, ints, services.low, weights.low, fine.few_services, fine.few_weights, rooms_small p set.groups fine.groups, fine.few_groups);
-        high = omega (arith, ints, services.high, weights.high, fine.few_services, fine.few_weights);
+        low = omega (arith, ints, services.low, weights.low, rooms.high, fine.few_services, fine.few_weights, fine.few_groups);
+        high = omega (arith, ints, services.high, weights.high, rooms.low, fine.few_services, fine.few_weights, fine.few_groups);
       }
 
 -- a value times a denominator

@@ -1,6 +1,6 @@
 -- Sets of shores that pack: they fit, and their value is at least what the shores ask for.
-use Rattle.std.proofs.Common.{◌≡◌, ℕ, ◌+◌, ◌*◌, ◌≤◌, max, List, [], ◌∷◌, refl, ap, ◌∙◌, arith, ℤ, pos, negsuc, ◌-ℤ◌, ◌≤ℤ◌, ◌<ℤ◌, nat_abs}
-use Rattle.std.specs.Prelude.{if◌then◌else◌, IsSome}
+use Rattle.std.proofs.Common.{◌≡◌, ℕ, ◌+◌, ◌*◌, ◌≤◌, max, List, [], ◌∷◌, map, refl, sym, subst, ap, ◌∙◌, arith, ℤ, pos, negsuc, ◌-ℤ◌, ◌≤ℤ◌, ◌<ℤ◌, nat_abs}
+use Rattle.std.specs.Prelude.{if◌then◌else◌, IsSome, IsTrue}
 use Rattle.std.specs.List.{All, AllByRecursion, sum_by}
 use Rattle.std.proofs.Math.Nat.{mul-le-mul_left}
 use Rattle.std.proofs.lemmas.Int.{ints}
@@ -12,7 +12,8 @@ use Rattle.plan_model.specs.Plans.{crosses}
 use Rattle.cut_pool.specs.Shores.{is_in, need, required_crossings, Belongs}
 use Rattle.cut_pool.specs.declared.shore.Weighted.{Weighted}
 use Rattle.branch_rules.specs.declared.weight.Weight.{Weight}
-use Rattle.branch_rules.specs.Decisions.{lowest, to_parity}
+use Rattle.branch_rules.specs.Bonds.{GroupWeight, bond_weight}
+use Rattle.branch_rules.specs.Decisions.{is_yes_pair, lowest, to_parity}
 use Rattle.branch_rules.specs.Limits.{IsPriceSet, IsShoreOf}
 use Rattle.branch_rules.specs.Prices.{Prices, price_in, task_adds, signed_sum, weigh}
 use Rattle.floor_prices.specs.Floors.{FitsAlways, plain_value, shores_of}
@@ -44,7 +45,9 @@ packing_law p pool set serves pack branch = record {
     has_upper =
         recursion_from_All (λ (w : Weight). w.weight <ℤ pos 0 → IsSome (lowest w.shore branch)) set.weights
         (All-weaker (λ (w : Weight). pos 0 ≤ℤ w.weight) (λ (w : Weight). w.weight <ℤ pos 0 → IsSome (lowest w.shore branch)) (λ w most less. absurd (omega (arith, ints, most, less))) set.weights pack.none_negative);
-    tours = λ tasks n tour joined. omega (arith, ints, nothing_added p set serves tasks tour.required);
+    has_yes = subst (AllByRecursion (λ (w : GroupWeight). w.weight <ℤ pos 0 → IsTrue (is_yes_pair branch w.edges))) (sym serves.no_groups) tt;
+    tours = λ tasks n tour joined.
+        omega (arith, ints, nothing_added p set serves tasks tour.required, ap (λ groups. bond_weight groups (map (λ (t : Task). t.edge) tasks)) serves.no_groups);
   };
 }
 
@@ -60,6 +63,7 @@ pub serves_at_cost : (p : Problem) (unit : ℕ) (shores : List Weighted) → IsV
 serves_at_cost p unit shores valid = record {
   one_each = prices_long p unit 0 valid;
   at_cost = λ e is. price_at p (prices_of p unit shores) unit 0 e valid refl is ∙ ap pos (omega arith);
+  no_groups = refl;
 }
 
 -- the set is within its limits
@@ -74,6 +78,7 @@ set_fine p unit shores valid some few placeable = record {
   rising = numbers_rise 1 shores;
   few_groups = omega arith;
   groups = λ k d below. absurd (omega (arith, below));
+  few_edges = omega arith;
 }
 
 module _ (p : Problem) (pool : List (List ℕ)) (unit : ℕ) (shores : List Weighted) (valid : IsValid p) (held : pool ≡ shores_of shores) (placeable : ArePlaceable p shores) where

@@ -135,6 +135,7 @@ module _ (few : FewStepsAreLeast) (there : LeastDeadheadIsThere) (p : Problem) (
     fits = record {
       not_negative = λ e number. omega (arith, ints);
       has_upper = tt;
+      has_yes = tt;
       tours = λ tasks n tour joined.
           let free : IsFreeTour p tasks = record {
             some = tour.some;
@@ -174,6 +175,7 @@ ratio_set_fine p a b valid is = record {
   rising = λ k below. absurd (omega (arith, below));
   few_groups = omega arith;
   groups = λ k d below. absurd (omega (arith, below));
+  few_edges = omega arith;
 }
 
 pub nothing_in : (p : Problem) → IsValid p → IsRatioIn p 0 1
@@ -183,5 +185,5 @@ nothing_in p valid = record { some = omega arith; few = omega arith; small = ome
 pub plain_fits : (p : Problem) (pool : List (List ℕ)) → IsValid p → FitsAlways p pool (ratio_set p 0 1)
 plain_fits p pool valid =
     packing_law p pool (ratio_set p 0 1)
-    (record { one_each = prices_long p 1 0 valid; at_cost = λ e is. price_at p (ratio_set p 0 1) 1 0 e valid refl is ∙ ap pos (omega arith) })
+    (record { one_each = prices_long p 1 0 valid; at_cost = λ e is. price_at p (ratio_set p 0 1) 1 0 e valid refl is ∙ ap pos (omega arith); no_groups = refl })
     (record { none_negative = λ k d below. absurd (omega (arith, below)); packs = λ e number. omega (arith, ints) })

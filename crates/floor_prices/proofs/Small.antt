@@ -265,8 +265,8 @@ module _ (weigh : ShellsWeighTheirNeeds) where
 
 -- Sets that are made.
 
-at_cost : (set : Prices) → length set.services ≡ 1 → price_in set 1 ≡ pos (set.unit * 7) → ServesAtCost town set
-at_cost set long one = record { one_each = long; at_cost = λ e is. each e (only_task e is) }
+at_cost : (set : Prices) → length set.services ≡ 1 → price_in set 1 ≡ pos (set.unit * 7) → set.groups ≡ [] → ServesAtCost town set
+at_cost set long one none = record { one_each = long; at_cost = λ e is. each e (only_task e is); no_groups = none }
   where
     each : (e : ℕ) → e ≡ 1 → price_in set e ≡ pos (set.unit * (edge_at town e).service)
     each e is = rw is one
@@ -275,7 +275,7 @@ pub shell_made : IsShellSet town town_pool town_prices
 shell_made = record {
   shells = town_shells;
   are = town_are_shells;
-  weighs = record { denominator = refl; services = at_cost town_prices refl refl; held = refl; weights = refl };
+  weighs = record { denominator = refl; services = at_cost town_prices refl refl refl; held = refl; weights = refl };
 }
 
 pub shell_weightless : IsShellSet town town_pool bare_prices → ⊥
@@ -316,7 +316,7 @@ join_made = record {
   shores = town_halves;
   value = 5;
   show = town_bound;
-  weighs = record { denominator = refl; services = at_cost half_prices refl refl; held = refl; weights = refl };
+  weighs = record { denominator = refl; services = at_cost half_prices refl refl refl; held = refl; weights = refl };
 }
 
 pub join_wholes : IsJoinSet town town_pool town_prices → ⊥

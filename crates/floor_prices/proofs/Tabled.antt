@@ -5,13 +5,15 @@ use Rattle.std.specs.Option.{MatchOption}
 use Rattle.std.proofs.lemmas.Bool.{false≢true, eq-eqb, ne_eqb}
 use Rattle.std.proofs.lemmas.Int.{ints}
 use Rattle.std.proofs.lemmas.List.{length-append}
+use Rattle.std.proofs.lemmas.List.Elements.{All-weaker}
 use Rattle.carp_base.specs.Allowed.{Relation, AllowsAll, IsOf, allows}
 use Rattle.carp_base.specs.declared.edge.Task.{Task}
 use Rattle.carp_base.specs.Problem.{Problem, IsValid, IsRequired}
 use Rattle.deadhead_paths.specs.Prices.{costs_of}
 use Rattle.deadhead_paths.specs.Tours.{IsTaskTour}
-use Rattle.pricing_grid.specs.Pricing.{AreSurcharges, Pricing, IsAllowed, IsServicePrice, service_adds}
+use Rattle.pricing_grid.specs.Pricing.{AreSurcharges, IsSurcharge, Pricing, IsAllowed, IsServicePrice, service_adds}
 use Rattle.branch_rules.specs.Bonds.{IsSurchargeTable}
+use Rattle.branch_rules.specs.Limits.{IsGroupSurcharge}
 use Rattle.route_pricing.specs.Tables.{IsFilled}
 use Rattle.route_pricing.specs.declared.table.Ratio.{Ratio}
 use Rattle.route_pricing.specs.declared.table.Table.{Table}
@@ -39,7 +41,7 @@ followed_required p (t ∷ (u ∷ tasks)) a b [] after is all =
     (subst (IsRequired p) (ap hd is) all.0, subst (IsRequired p) (ap (λ es. hd (tl es)) is) all.1.0)
 followed_required p (t ∷ tasks) a b (c ∷ before) after is all = followed_required p tasks a b before after (ap tl is) all.1
 
-module _ (p : Problem) (r : Relation) (all : AllowsAll p.required r) (surcharges : List ℕ) (charged : IsSurchargeTable p.required [] surcharges) where
+module _ (p : Problem) (r : Relation) (all : AllowsAll p.required r) (surcharges : List ℤ) (charged : IsSurchargeTable p.required [] surcharges) where
   of : (e : ℕ) → IsRequired p e → IsOf r e
   of e is = record { from_one = is.from_one; in_range = omega (arith, is.in_range, all.on) }
 
@@ -86,7 +88,7 @@ module _ (p : Problem) (r : Relation) (all : AllowsAll p.required r) (surcharges
     joined = least.attained.deadheads;
     loaded = least.loaded;
     least = λ other n tour joined.
-        least.least other n (services_add cost_pricing other +ℤ pos (n + tour_surcharge cost_pricing other)) (record { tour = free_to other tour; deadheads = joined; sum = refl });
+        least.least other n (services_add cost_pricing other +ℤ (pos n +ℤ tour_surcharge cost_pricing other)) (record { tour = free_to other tour; deadheads = joined; sum = refl });
   }
 
   found_from_table : (found : Option Ratio) → MatchOption found (p.required ≡ 0) (λ q. IsLeastRatio cost_pricing q.deadhead q.load) → MatchOption found (p.required ≡ 0) (λ q. IsLeastCostRatio p q.deadhead q.load)
@@ -103,12 +105,12 @@ module _ (p : Problem) (r : Relation) (all : AllowsAll p.required r) (surcharges
       let second = subst (λ zs. IsFilled (record { problem = p; prices = costs_of p; unit = 1; services = zs; relation = r; surcharges = surcharges }) table) services_are first in
       found_from_table found (says cost_pricing second (cost_is_free valid))
 
--- without groups there is no surcharge
-pub none_charged : (m : ℕ) (surcharges : List ℕ) → IsSurchargeTable m [] surcharges → AreSurcharges m surcharges
-none_charged m surcharges charged = record {
+-- the table without groups is one of surcharges
+pub none_charged : (m : ℕ) (surcharges : List ℤ) → IsSurchargeTable m [] surcharges → All IsGroupSurcharge surcharges → AreSurcharges m surcharges
+none_charged m surcharges charged small = record {
   long = charged.long;
   both_orders = λ e f e_from e_in f_from f_in. charged.same e f e_from e_in f_from f_in ∙ sym (charged.same f e f_from f_in e_from e_in);
-  small = λ e f e_from e_in f_from f_in. omega (arith, charged.same e f e_from e_in f_from f_in);
+  small = All-weaker IsGroupSurcharge IsSurcharge (λ s is. record { low = omega (arith, ints, is.low); high = omega (arith, ints, is.high) }) surcharges small;
 }
 
 -- services at cost are within the limits of the table

@@ -1,13 +1,14 @@
 -- Price sets that fit because their weights pack, and sets that reach what others reach.
-use Rattle.std.specs.Prelude.{◌≡◌, ℕ, ◌*◌, ◌≤◌, List, length, All, pos, ◌*ℤ◌, ◌≤ℤ◌}
+use Rattle.std.specs.Prelude.{◌≡◌, ℕ, ◌*◌, ◌≤◌, List, [], length, All, pos, ◌*ℤ◌, ◌≤ℤ◌}
 use Rattle.carp_base.specs.Problem.{Problem, IsRequired, IsEdgeNumber, edge_at}
 use Rattle.branch_rules.specs.Prices.{Prices, price_in, signed_sum, crossing_weight}
 use Rattle.floor_prices.specs.Floors.{FitsAlways, ReachesShell, ReachesRatio, ReachesJoin, plain_value}
 
--- the price of each required edge is its service cost, in parts of the denominator
+-- the price of each required edge is its service cost, in parts of the denominator, and no group has a weight
 pub record ServesAtCost (p : Problem) (set : Prices) : Type 0 where
   pub one_each : length set.services ≡ p.required
   pub at_cost : (e : ℕ) → IsRequired p e → price_in set e ≡ pos (set.unit * (edge_at p e).service)
+  pub no_groups : set.groups ≡ []
 
 -- no weight is negative, and over each edge the weights sum to at most its cost, in parts of the denominator
 pub record WeightsPack (p : Problem) (pool : List (List ℕ)) (set : Prices) : Type 0 where

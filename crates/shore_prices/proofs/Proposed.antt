@@ -41,6 +41,7 @@ set_fine p valid limit weights few are = record {
   rising = are.rising;
   few_groups = omega arith;
   groups = λ k d below. absurd (omega (arith, below));
+  few_edges = omega arith;
 }
 
 shore_in : (p : Problem) (pool : List (List ℕ)) → All (Belongs p) pool → (shore : ℕ) → 1 ≤ shore → shore < length pool + 1 → IsShoreOf p pool shore

@@ -21,6 +21,7 @@ price_set_fine set e d fine within = record {
   rising = fine.rising;
   few_groups = fine.few_groups;
   groups = fine.groups;
+  few_edges = fine.few_edges;
 }
 
 -- the shores of a set rise from 1
@@ -43,4 +44,5 @@ weight_set_fine pool set s d few fine numbers number within =
       rising = rising_from 0 (add_weight s d set.weights) above;
       few_groups = fine.few_groups;
       groups = fine.groups;
+      few_edges = fine.few_edges;
     }

@@ -14,9 +14,10 @@ use Rattle.deadhead_paths.specs.Laws.{LeastDeadheadIsThere}
 use Rattle.decision_chains.specs.declared.decision.Decision.{Decision}
 use Rattle.branch_rules.specs.Laws.{FitsBranch}
 use Rattle.branch_rules.specs.Limits.{IsPriceSet}
-use Rattle.branch_rules.specs.Prices.{Prices, no_weight}
-use Rattle.branch_rules.specs.Refusals.{HasUpper, IsWithoutUpper, NoneTooHeavy}
+use Rattle.branch_rules.specs.Prices.{Prices, no_group, no_weight}
+use Rattle.branch_rules.specs.Refusals.{HasUpper, HasYes, IsWithoutUpper, IsWithoutYes, NoneTooHeavy}
 use Rattle.branch_rules.specs.declared.branch.NoUpper.{NoUpper}
+use Rattle.branch_rules.specs.declared.yes_pairs.NoYes.{NoYes}
 use Rattle.route_pricing.specs.declared.table.Table.{Table}
 use Rattle.tight_prices.specs.Fillings.{IsFilledFor}
 use Rattle.tight_prices.specs.Probes.{Ground, IsPaying, ProbeSays}
@@ -82,6 +83,11 @@ pub uppers_say : {X : Type 0} (branch : List Decision) (set : Prices) (r : Resul
 uppers_say branch set (Ok x) all without = ((λ so. all), (λ so. refl))
 uppers_say branch set (Err e) all without = ((λ so. absurd (false≢true so)), (λ every. absurd (without.lacks (every without.place no_weight without.in_range))))
 
+pub yes_say : {X : Type 0} (branch : List Decision) (set : Prices) (r : Result X NoYes) → OnOk r (All (HasYes branch) set.groups) → IfErr r (IsWithoutYes branch set) →
+    (IsTrue (is_ok r) ↔ All (HasYes branch) set.groups)
+yes_say branch set (Ok x) all without = ((λ so. all), (λ so. refl))
+yes_say branch set (Err e) all without = ((λ so. absurd (false≢true so)), (λ every. absurd (without.lacks (every without.place no_group without.in_range))))
+
 pub filled_by : (g : Ground) (set : Prices) (table : Table) (found : Probe) → ProbeSays g set table found → NoneTooHeavy g.problem g.pool set → IsFilledFor g.problem g.pool g.branch set table
 filled_by g set table Pays says light = says.1
 filled_by g set table (Lacks value) says light = says.1
@@ -92,22 +98,27 @@ pays_found g set table Pays says pays = refl
 pays_found g set table (Lacks value) says pays = absurd (says.0 pays)
 pays_found g set table TooHeavy says pays = absurd (says pays.light)
 
-pub fits_by : (g : Ground) (set : Prices) (table : Table) (found : Probe) (uppers answer : Bool) → ProbeSays g set table found → (IsTrue uppers ↔ All (HasUpper g.branch) set.weights) →
-    (IsTrue answer → IsTrue uppers × (found ≡ Pays)) → (IsTrue uppers → found ≡ Pays → IsTrue answer) → length set.services ≡ g.problem.required → (IsTrue answer ↔ FitsBranch g.problem g.pool g.branch set)
-fits_by g set table found uppers answer says upper yes' no' long = (to, back)
+pub fits_by : (g : Ground) (set : Prices) (table : Table) (found : Probe) (uppers yes answer : Bool) → ProbeSays g set table found → (IsTrue uppers ↔ All (HasUpper g.branch) set.weights) →
+    (IsTrue yes ↔ All (HasYes g.branch) set.groups) → (IsTrue answer → IsTrue uppers × IsTrue yes × (found ≡ Pays)) → (IsTrue uppers → IsTrue yes → found ≡ Pays → IsTrue answer) → length set.services ≡ g.problem.required → (IsTrue answer ↔ FitsBranch g.problem g.pool g.branch set)
+fits_by g set table found uppers yes answer says upper said yes' no' long = (to, back)
   where
     to : IsTrue answer → FitsBranch g.problem g.pool g.branch set
     to so =
         let parts = yes' so in
-        let pays : IsPaying g.problem g.pool g.branch set = (subst (ProbeSays g set table) parts.1 says).0 in
+        let pays : IsPaying g.problem g.pool g.branch set = (subst (ProbeSays g set table) parts.2 says).0 in
         record {
           one_each = long;
-          fits = record { not_negative = pays.light; has_upper = recursion_from_All (HasUpper g.branch) set.weights (upper.0 parts.0); tours = pays.tours };
+          fits = record {
+            not_negative = pays.light;
+            has_upper = recursion_from_All (HasUpper g.branch) set.weights (upper.0 parts.0);
+            has_yes = recursion_from_All (HasYes g.branch) set.groups (said.0 parts.1);
+            tours = pays.tours;
+          };
         }
 
     back : FitsBranch g.problem g.pool g.branch set → IsTrue answer
     back is =
-        no' (upper.1 (All-from_recursion (HasUpper g.branch) set.weights is.fits.has_upper)) (pays_found g set table found says (paying_of g.problem g.pool g.branch set is))
+        no' (upper.1 (All-from_recursion (HasUpper g.branch) set.weights is.fits.has_upper)) (said.1 (All-from_recursion (HasYes g.branch) set.groups is.fits.has_yes)) (pays_found g set table found says (paying_of g.problem g.pool g.branch set is))
 
 -- The least price over a shore.
 

@@ -149,11 +149,11 @@ pub fits_from_paying : (p : Problem) (pool : List (List ℕ)) (branch : List Dec
     IsPaying p pool branch (raised set place d) → FitsBranch p pool branch (raised set place d)
 fits_from_paying p pool branch set (places.Edge e) d is pays = record {
   one_each = add_long e d set.services ∙ is.one_each;
-  fits = record { not_negative = pays.light; has_upper = is.fits.has_upper; tours = pays.tours };
+  fits = record { not_negative = pays.light; has_upper = is.fits.has_upper; has_yes = is.fits.has_yes; tours = pays.tours };
 }
 fits_from_paying p pool branch set (places.Shore s) d is pays = record {
   one_each = is.one_each;
-  fits = record { not_negative = pays.light; has_upper = add_upper (rules_of p pool branch).upper s d set.weights is.fits.has_upper; tours = pays.tours };
+  fits = record { not_negative = pays.light; has_upper = add_upper (rules_of p pool branch).upper s d set.weights is.fits.has_upper; has_yes = is.fits.has_yes; tours = pays.tours };
 }
 
 -- the number is within its limits

@@ -1,9 +1,9 @@
 -- What the table says of the tours of a set.
 use Rattle.std.proofs.Common.{◌≡◌, ℕ, zero, suc, ◌+◌, ◌-◌, ◌*◌, ◌≤◌, Bool, true, false, List, [], ◌∷◌, ◌++◌, length, map, refl, sym, ap, ◌∙◌, subst, arith, inl, inr, ◌⊎◌, ℤ, pos, ◌+ℤ◌, ◌-ℤ◌, ◌*ℤ◌, ◌≤ℤ◌, ◌<ℤ◌, Option, Some, None, MatchOption}
 use Rattle.std.specs.List.{All, AllByRecursion}
-use Rattle.std.proofs.lemmas.Nat.{mul-add-lt}
-use Rattle.pricing_grid.specs.Pricing.{AreSurcharges}
+use Rattle.pricing_grid.specs.Pricing.{AreSurcharges, IsSurcharge}
 use Rattle.std.proofs.lemmas.Int.{ints}
+use Rattle.std.proofs.lemmas.List.Elements.{All-weaker}
 use Rattle.carp_base.specs.Problem.{Problem, IsRequired}
 use Rattle.carp_base.specs.Allowed.{Relation, allows}
 use Rattle.carp_base.specs.declared.edge.Task.{Task}
@@ -12,6 +12,7 @@ use Rattle.deadhead_paths.specs.Tours.{IsFollowed, IsTaskTour}
 use Rattle.decision_chains.specs.declared.decision.Decision.{Decision}
 use Rattle.decision_chains.specs.Exclusions.{Excluded, PermitsUnexcluded}
 use Rattle.branch_rules.specs.Laws.{FitsBranch, SurchargeIsSymmetric, SurchargesAreBondWeights}
+use Rattle.branch_rules.specs.Limits.{IsGroupSurcharge}
 use Rattle.branch_rules.specs.Bonds.{GroupWeight, IsSurchargeTable, bond_weight, surcharge, surcharges_after}
 use Rattle.branch_rules.specs.Prices.{Prices, PaysAtLeast, crossing_prices, signed_sum, task_adds}
 use Rattle.branch_rules.specs.Refusals.{NoneTooHeavy}
@@ -47,7 +48,7 @@ not_false true not = refl
 not_false false not = absurd (not refl)
 
 module _ (p : Problem) (pool : List (List ℕ)) (branch : List Decision) (set : Prices) (relation : Relation) (permits : PermitsUnexcluded p branch relation)
-    (surcharges_now : List ℕ) (charged : IsSurchargeTable p.required set.groups surcharges_now) (law : SurchargesAreBondWeights) where
+    (surcharges_now : List ℤ) (charged : IsSurchargeTable p.required set.groups surcharges_now) (law : SurchargesAreBondWeights) where
   one_adds : (e : ℕ) → service_adds (pricing_of p pool set relation surcharges_now) e ≡ task_adds p set e
   one_adds zero = refl
   one_adds (suc k) = refl
@@ -63,6 +64,7 @@ module _ (p : Problem) (pool : List (List ℕ)) (branch : List Decision) (set : 
   after_are t (u ∷ tasks) t_in required =
       omega (
         arith,
+        ints,
         charged.same t.edge u.edge t_in.from_one t_in.in_range required.0.from_one required.0.in_range,
         after_are u tasks required.0 required.1,
       )
@@ -95,7 +97,7 @@ module _ (p : Problem) (pool : List (List ℕ)) (branch : List Decision) (set : 
   -- where the least value is not negative, each tour pays
   all_pay : (value : ℤ) → IsLeastValue (pricing_of p pool set relation surcharges_now) value → pos 0 ≤ℤ value → PaysAtLeast p (λ a b. ¬ (Excluded p branch a b)) (task_adds p set) (price_of (crossing_prices p pool set)) set.groups
   all_pay value is enough tasks n tour deadheads =
-      let least = is.least tasks n (services_add (pricing_of p pool set relation surcharges_now) tasks +ℤ pos (n + tour_surcharge (pricing_of p pool set relation surcharges_now) tasks)) (record { tour = tour_from tasks tour; deadheads = deadheads; sum = refl }) in
+      let least = is.least tasks n (services_add (pricing_of p pool set relation surcharges_now) tasks +ℤ (pos n +ℤ tour_surcharge (pricing_of p pool set relation surcharges_now) tasks)) (record { tour = tour_from tasks tour; deadheads = deadheads; sum = refl }) in
       omega (arith, ints, least, enough, all_add tasks, bonds_are tasks tour.required)
 
   -- where it is negative, one does not
@@ -183,7 +185,7 @@ still_most law g set table place e most n value is edge says less (inr bounded) 
     subst (λ q. IsMost g set q n) (sym is) bound
 
 -- the table is filled for a set by its parts
-pub filled_for : (p : Problem) (pool : List (List ℕ)) (branch : List Decision) (set : Prices) (relation : Relation) (table : Table) (prices : List ℕ) (unit : ℕ) (services : List ℤ) (surcharges_now : List ℕ) →
+pub filled_for : (p : Problem) (pool : List (List ℕ)) (branch : List Decision) (set : Prices) (relation : Relation) (table : Table) (prices : List ℕ) (unit : ℕ) (services : List ℤ) (surcharges_now : List ℤ) →
     PermitsUnexcluded p branch relation → prices ≡ crossing_prices p pool set → unit ≡ set.unit → services ≡ set.services → IsSurchargeTable p.required set.groups surcharges_now →
     IsFilled (record { problem = p; prices = prices; unit = unit; services = services; relation = relation; surcharges = surcharges_now }) table → IsFilledFor p pool branch set table
 filled_for p pool branch set relation table prices unit services surcharges_now permits prices_are unit_is services_are charged filled =
@@ -198,11 +200,9 @@ filled_for p pool branch set relation table prices unit services surcharges_now 
     }
 
 -- the table of the surcharges of groups is one of surcharges
-pub are_surcharges : SurchargeIsSymmetric → (m : ℕ) (groups : List GroupWeight) (table : List ℕ) → IsSurchargeTable m groups table → All (λ s. s ≤ 2000000000000000000) table → AreSurcharges m table
+pub are_surcharges : SurchargeIsSymmetric → (m : ℕ) (groups : List GroupWeight) (table : List ℤ) → IsSurchargeTable m groups table → All IsGroupSurcharge table → AreSurcharges m table
 are_surcharges symmetric m groups table charged small = record {
   long = charged.long;
   both_orders = λ e f e_from e_in f_from f_in. charged.same e f e_from e_in f_from f_in ∙ symmetric groups e f ∙ sym (charged.same f e f_from f_in e_from e_in);
-  small = λ e f e_from e_in f_from f_in.
-      let within = mul-add-lt (e - 1) m (f - 1) m (omega (arith, e_from, e_in)) (omega (arith, f_from, f_in)) in
-      omega (arith, small ((e - 1) * m + (f - 1)) 0 (omega (arith, within, charged.long)));
+  small = All-weaker IsGroupSurcharge IsSurcharge (λ s is. record { low = omega (arith, ints, is.low); high = omega (arith, ints, is.high) }) table small;
 }

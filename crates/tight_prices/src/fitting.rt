@@ -2,7 +2,7 @@
 ghost use Rattle.std.specs.Prelude.{◌≡◌, ◌↔◌, All, IfOk, IsTrue, length, OnOk};
 ghost use Rattle.branch_rules.specs.Laws.{FitsBranch};
 ghost use Rattle.branch_rules.specs.Limits.{IsShoreOf};
-ghost use Rattle.branch_rules.specs.Refusals.{HasUpper, NoneTooHeavy};
+ghost use Rattle.branch_rules.specs.Refusals.{HasUpper, HasYes, NoneTooHeavy};
 ghost use Rattle.decision_chains.specs.Pairs.{ArePairsIn};
 ghost use Rattle.route_pricing.specs.Tables.{IsRoom};
 ghost use Rattle.tight_prices.specs.Fillings.{IsFilledFor};
@@ -16,9 +16,9 @@ use road_network::Network;
 use route_pricing::Table;
 use std::alloc::Global;
 
-/// Whether a price set fits under a branch: no deadhead price is negative, each shore of negative weight has an upper number, and
-/// each relaxed tour that the branch leaves free pays for its services. Afterwards the table is filled for the set and the branch,
-/// where no deadhead price is negative.
+/// Whether a price set fits under a branch: no deadhead price is negative, each shore of negative weight has an upper number, each group
+/// of negative weight is a pair that the branch says yes to, and each relaxed tour that the branch leaves free pays for its services and
+/// bonds. Afterwards the table is filled for the set and the branch, if no deadhead price is negative.
 ///
 /// It asks for the network of the instance, a table that was made for it, a branch whose pairs are of required edges, a price for each
 /// required edge, and weights on shores of the pool that belong to the instance. The one error is want of memory. With m required
@@ -54,7 +54,8 @@ pub fn fits(
     };
     let found = try_set(alloc, &setting, table, set)?;
     let uppers = has_uppers(inst, pool, branch, set);
-    Ok(both(uppers, found))
+    let yes = has_yes(branch, set);
+    Ok(all_hold(uppers, yes, found))
 }
 
 // Whether each shore of negative weight has an upper number.
@@ -65,13 +66,20 @@ fn has_uppers(inst: &Instance, pool: &ShorePool, branch: &Branch, set: &PriceSet
     branch.value_at(inst, pool, set).is_ok()
 }
 
-// Whether both are so: each shore has its upper number, and each tour was found to pay.
-fn both(uppers: bool, found: Probe) -> bool
-    ensures yes { IsTrue result → IsTrue uppers × (found ≡ Pays) }
-    ensures no { IsTrue uppers → found ≡ Pays → IsTrue result }
+// Whether the branch says yes to the pair of each group of negative weight.
+fn has_yes(branch: &Branch, set: &PriceSet) -> bool
+    ensures { IsTrue result ↔ All (HasYes branch.now) set.now.groups }
+{
+    branch.check_yes(set).is_ok()
+}
+
+// Whether all three are so: each shore has its upper number and each pair its yes, and each tour was found to pay.
+fn all_hold(uppers: bool, yes: bool, found: Probe) -> bool
+    ensures yes { IsTrue result → IsTrue uppers × IsTrue yes × (found ≡ Pays) }
+    ensures no { IsTrue uppers → IsTrue yes → found ≡ Pays → IsTrue result }
 {
     match found {
-        Probe::Pays => uppers,
+        Probe::Pays => uppers && yes,
         Probe::Lacks(_) | Probe::TooHeavy => false,
     }
 }
