@@ -13,7 +13,7 @@ use crate::touring::{Cover, best_tour, excess_over, load_of, tour_over};
 use carp_base::{Allowed, Instance, Memory};
 use deadhead_paths::{Distances, distances};
 use road_network::Network;
-use route_pricing::{Rate, Table, no_surcharges};
+use route_pricing::{Rate, Table};
 use std::alloc::Global;
 
 /// An instance with its network, and the pairs that are not excluded.
@@ -60,8 +60,7 @@ pub(crate) fn score(
     let weights = eased_weights(alloc, inst.edges(), actives, &point.weights)?;
     let deadheads = deadhead_prices(alloc, inst, actives, &weights)?;
     let dist = distances(alloc, inst, town.net, &deadheads)?;
-    let surcharges = no_surcharges(alloc, inst.required())?;
-    table.fill(inst, &dist, UNIT, &point.prices, town.allowed, &surcharges);
+    table.fill(inst, &dist, UNIT, &point.prices, town.allowed, &[]);
     let Some(rate) = table.least_rate() else {
         return Ok(None);
     };
