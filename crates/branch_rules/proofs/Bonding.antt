@@ -16,7 +16,7 @@ use Rattle.plan_model.specs.Sums.{sum_to}
 use Rattle.deadhead_paths.specs.Tidy.{served_steps}
 use Rattle.decision_chains.specs.Neighbours.{served_edges}
 use Rattle.cut_pool.specs.Shores.{vehicles}
-use Rattle.branch_rules.specs.Bonds.{is_of, bond, bonds_after, bonds, plan_bonds, group_demand, GroupWeight, bond_weight, surcharge, surcharges, surcharges_after, IsApart}
+use Rattle.branch_rules.specs.Bonds.{is_of, bonds_after, bonds, plan_bonds, group_demand}
 use Rattle.branch_rules.proofs.Services.{map-cond}
 
 -- sums that agree, and sums that differ at one number alone
@@ -61,6 +61,18 @@ module _ (group : List ℕ) where
   few_after : (e : ℕ) (es : List ℕ) → bonds_after group e es ≤ members es
   few_after e [] = omega arith
   few_after e (f ∷ es) = omega (arith, after_most (has e) (has f), few_after f es)
+
+  -- there are fewer bonds than edges, if there are edges
+  short : (es : List ℕ) → members es ≤ length es
+  short [] = omega arith
+  short (e ∷ es) = omega (arith, one_more_most (has e), short es)
+    where
+      one_more_most : (b : Bool) → bit b ≤ 1
+      one_more_most true = omega arith
+      one_more_most false = omega arith
+
+  pub bonds_short : (e : ℕ) (es : List ℕ) → bonds group (e ∷ es) ≤ length es
+  bonds_short e es = omega (arith, few_after e es, short es)
 
   first_not : (h k : Bool) → h ≡ false → bit (h && k) ≡ 0
   first_not true k not = cc
@@ -271,92 +283,3 @@ module _ (p : Problem) (valid : IsValid p) where
       let enough : group_demand p group ≤ p.capacity * (start.begins + spare) =
       omega (arith, own.heavy, start.carried, carried_once, ap (λ n. p.capacity * n) whole) in
       omega (arith, vehicles_most (group_demand p group) (start.begins + spare) enough, start.bonded, counted_once, whole)
-
--- what the bonds of all walks weigh is, for each group, its weight times its bonds in the plan
-no_weight : (groups : List GroupWeight) → sum_by (λ (w : GroupWeight). w.weight * 0) groups ≡ 0
-no_weight [] = refl
-no_weight (w ∷ groups) = omega (arith, sum_by-cons (λ (x : GroupWeight). x.weight * 0) w groups, no_weight groups)
-
-walk_more : (groups : List GroupWeight) (walk : List Step) (plan : List (List Step)) →
-    sum_by (λ w. w.weight * plan_bonds w.edges (walk ∷ plan)) groups ≡ bond_weight groups (served_edges walk) + sum_by (λ w. w.weight * plan_bonds w.edges plan) groups
-walk_more [] walk plan = refl
-walk_more (w ∷ groups) walk plan =
-    omega (
-      arith,
-      sum_by-cons (λ (x : GroupWeight). x.weight * plan_bonds x.edges (walk ∷ plan)) w groups,
-      sum_by-cons (λ (x : GroupWeight). x.weight * bonds x.edges (served_edges walk)) w groups,
-      sum_by-cons (λ (x : GroupWeight). x.weight * plan_bonds x.edges plan) w groups,
-      ap (λ n. w.weight * n) (sum_by-cons (λ x. bonds w.edges (served_edges x)) walk plan),
-      walk_more groups walk plan,
-    )
-
-plan_weight : (groups : List GroupWeight) (plan : List (List Step)) →
-    sum_by (λ walk. bond_weight groups (served_edges walk)) plan ≡ sum_by (λ w. w.weight * plan_bonds w.edges plan) groups
-plan_weight groups [] = sym (no_weight groups)
-plan_weight groups (walk ∷ plan) = omega (arith, sum_by-cons (λ x. bond_weight groups (served_edges x)) walk plan, plan_weight groups plan, walk_more groups walk plan)
-
-pub bonds_paid : (groups : List GroupWeight) (plan : List (List Step)) (most : List ℕ → ℕ) → ((group : List ℕ) → plan_bonds group plan ≤ most group) →
-    sum_by (λ walk. bond_weight groups (served_edges walk)) plan ≤ sum_by (λ w. w.weight * most w.edges) groups
-bonds_paid groups plan most rooms =
-    omega (
-      arith,
-      plan_weight groups plan,
-      sum_by-le-sum_by (λ (w : GroupWeight). w.weight * plan_bonds w.edges plan) (λ w. w.weight * most w.edges) groups (λ w. mul-le-mul_left w.weight (rooms w.edges)),
-    )
-
--- bonds weigh what surcharges add
-bond_turned : (a b : Bool) → bit (a && b) ≡ bit (b && a)
-bond_turned true true = refl
-bond_turned true false = refl
-bond_turned false true = refl
-bond_turned false false = refl
-
-bond_none : (a b : Bool) (n : ℕ) → a ≡ false → n * bit (a && b) ≡ 0
-bond_none true b n not = absurd (false≢true (sym not))
-bond_none false b n not = omega arith
-
-pub surcharge_turned : (groups : List GroupWeight) (e f : ℕ) → surcharge groups e f ≡ surcharge groups f e
-surcharge_turned [] e f = refl
-surcharge_turned (w ∷ groups) e f =
-    omega (
-      arith,
-      sum_by-cons (λ (x : GroupWeight). x.weight * bond x.edges e f) w groups,
-      sum_by-cons (λ (x : GroupWeight). x.weight * bond x.edges f e) w groups,
-      ap (λ n. w.weight * n) (bond_turned (is_of w.edges e) (is_of w.edges f)),
-      surcharge_turned groups e f,
-    )
-
-pub surcharge_apart : (groups : List GroupWeight) (e f : ℕ) → IsApart groups e → surcharge groups e f ≡ 0
-surcharge_apart [] e f apart = refl
-surcharge_apart (w ∷ groups) e f apart =
-    omega (
-      arith,
-      sum_by-cons (λ (x : GroupWeight). x.weight * bond x.edges e f) w groups,
-      bond_none (is_of w.edges e) (is_of w.edges f) w.weight apart.0,
-      surcharge_apart groups e f apart.1,
-    )
-
-weight_after : List GroupWeight → ℕ → List ℕ → ℕ
-weight_after groups e es = sum_by (λ (w : GroupWeight). w.weight * bonds_after w.edges e es) groups
-
-one_follows : (groups : List GroupWeight) (e f : ℕ) (es : List ℕ) → weight_after groups e (f ∷ es) ≡ surcharge groups e f + weight_after groups f es
-unfolding weight_after
-one_follows [] e f es = refl
-one_follows (w ∷ groups) e f es =
-    omega (
-      arith,
-      sum_by-cons (λ (x : GroupWeight). x.weight * (bond x.edges e f + bonds_after x.edges f es)) w groups,
-      sum_by-cons (λ (x : GroupWeight). x.weight * bond x.edges e f) w groups,
-      sum_by-cons (λ (x : GroupWeight). x.weight * bonds_after x.edges f es) w groups,
-      one_follows groups e f es,
-    )
-
-after_is : (groups : List GroupWeight) (e : ℕ) (es : List ℕ) → weight_after groups e es ≡ surcharges_after (surcharge groups) e es
-unfolding weight_after
-after_is groups e [] = no_weight groups
-after_is groups e (f ∷ es) = omega (arith, one_follows groups e f es, after_is groups f es)
-
-pub surcharges_are : (groups : List GroupWeight) (es : List ℕ) → bond_weight groups es ≡ surcharges (surcharge groups) es
-unfolding weight_after
-surcharges_are groups [] = no_weight groups
-surcharges_are groups (e ∷ es) = after_is groups e es

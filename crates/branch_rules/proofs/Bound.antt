@@ -1,6 +1,6 @@
 -- A plan's cost, split into the prices of its walks, the prices of its services and the weights of its deadheads.
 use Rattle.std.proofs.Common.{◌≡◌, ℕ, zero, suc, take, get_or, add-one, sym, ◌+◌, ◌*◌, ◌≤◌, Bool, true, false, ◌&&◌, not, cond, List, [], ◌∷◌, length, refl, ap, ◌∙◌, arith, pos, negsuc, ◌+ℤ◌, ◌-ℤ◌, ◌*ℤ◌, ◌≤ℤ◌, ◌<ℤ◌, ℤ, Some, None, Option}
-use Rattle.std.specs.Prelude.{if◌then◌else◌, IsSome, IfSome, unwrap_or}
+use Rattle.std.specs.Prelude.{if◌then◌else◌, IsSome, IfSome, IsTrue, unwrap_or}
 use Rattle.std.specs.List.{AllByRecursion, sum_by, count_by}
 use Rattle.std.proofs.lemmas.List.Sums.{sum_by-cons, sum_by_more}
 use Rattle.std.proofs.lemmas.Int.{ints}
@@ -17,7 +17,7 @@ use Rattle.branch_rules.specs.Bonds.{bond_weight, plan_bonds}
 use Rattle.branch_rules.specs.Prices.{weigh, KeepsRules, Prices, signed_sum, crosses_shore, price_in, task_adds, deadhead_price, Rules, weight_value, value_of}
 use Rattle.branch_rules.specs.declared.weight.Weight.{Weight}
 use Rattle.branch_rules.proofs.Signed.{signed_sum-append, signed_sum-none, signed_sum-split, product_up, product_down, sum_by-same}
-use Rattle.branch_rules.proofs.Bonding.{bonds_paid}
+use Rattle.branch_rules.proofs.Weighing.{bonds_paid}
 use Rattle.std.proofs.lemmas.List.{take_all}
 
 module _ (p : Problem) (pool : List (List ℕ)) (set : Prices) where
@@ -127,11 +127,11 @@ module _ (p : Problem) (pool : List (List ℕ)) (set : Prices) where
 
   -- a lawful walk whose services are allowed pays for them, with what its bonds weigh
   abbrev pub Pays : (ℕ → ℕ → Type 0) → Type 0
-  Pays allowed = (walk : List Step) → IsLawfulWalk p walk → ((a b : ℕ) → IsFollowed (served_edges walk) a b → allowed a b) → pos 0 ≤ℤ (tour_price walk +ℤ pos (bond_weight set.groups (served_edges walk)))
+  Pays allowed = (walk : List Step) → IsLawfulWalk p walk → ((a b : ℕ) → IsFollowed (served_edges walk) a b → allowed a b) → pos 0 ≤ℤ (tour_price walk +ℤ bond_weight set.groups (served_edges walk))
 
   pub walks_paid : (allowed : ℕ → ℕ → Type 0) → Pays allowed →
       (plan : List (List Step)) → AllByRecursion (IsLawfulWalk p) plan → AllByRecursion (λ walk. (a b : ℕ) → IsFollowed (served_edges walk) a b → allowed a b) plan →
-      pos 0 ≤ℤ (tour_price (steps_of plan) +ℤ pos (sum_by (λ walk. bond_weight set.groups (served_edges walk)) plan))
+      pos 0 ≤ℤ (tour_price (steps_of plan) +ℤ signed_sum (λ walk. bond_weight set.groups (served_edges walk)) plan)
   walks_paid allowed pays [] lawful follow = omega (arith, ints)
   walks_paid allowed pays (walk ∷ plan) lawful follow =
       omega (
@@ -139,19 +139,20 @@ module _ (p : Problem) (pool : List (List ℕ)) (set : Prices) where
         ints,
         walks_paid allowed pays plan lawful.1 follow.1,
         signed_sum-append step_price walk (steps_of plan),
-        sum_by-cons (λ w. bond_weight set.groups (served_edges w)) walk plan,
         pays walk lawful.0 follow.0,
       )
 
   -- the value is at most the plan's cost
   pub value_le : ServedOnceByNumber → (rules : Rules) (allowed : ℕ → ℕ → Type 0) → Pays allowed →
-      AllByRecursion (λ w. w.weight <ℤ pos 0 → IsSome (rules.upper w.shore)) set.weights → length set.services ≡ p.required →
+      AllByRecursion (λ w. w.weight <ℤ pos 0 → IsSome (rules.upper w.shore)) set.weights →
+      AllByRecursion (λ w. w.weight <ℤ pos 0 → IsTrue (rules.together w.edges)) set.groups → length set.services ≡ p.required →
       (plan : List (List Step)) → IsLawful p plan →
       AllByRecursion (λ walk. (a b : ℕ) → IsFollowed (served_edges walk) a b → allowed a b) plan →
       AllByRecursion (λ w. KeepsRules rules w.shore (count_by (deadheads_at w.shore) (steps_of plan))) set.weights →
       ((group : List ℕ) → plan_bonds group plan ≤ rules.room group) →
+      ((group : List ℕ) → IsTrue (rules.together group) → 1 ≤ plan_bonds group plan) →
       value_of rules set ≤ℤ pos (set.unit * plan_cost p plan)
-  value_le served_once rules allowed pays has_upper long plan lawful follow keeps rooms =
+  value_le served_once rules allowed pays has_upper has_yes long plan lawful follow keeps rooms pairs =
       omega (
         arith,
         ints,
@@ -159,5 +160,5 @@ module _ (p : Problem) (pool : List (List ℕ)) (set : Prices) where
         services_paid served_once plan lawful long,
         shores_paid rules set.weights (steps_of plan) has_upper keeps,
         walks_paid allowed pays plan lawful.walks follow,
-        bonds_paid set.groups plan rules.room rooms,
+        bonds_paid rules plan rooms pairs set.groups has_yes,
       )

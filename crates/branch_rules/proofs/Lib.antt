@@ -19,3 +19,7 @@ pub mod Small
 pub mod SmallTrees
 pub mod Voiding
 pub mod Bonding
+pub mod Together
+pub mod Weighing
+pub mod Adding
+pub mod SmallPairs

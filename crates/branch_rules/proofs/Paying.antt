@@ -18,6 +18,7 @@ use Rattle.decision_chains.specs.Neighbours.{served_edges}
 use Rattle.branch_rules.specs.Bonds.{bond_weight}
 use Rattle.branch_rules.specs.Prices.{signed_sum, Prices, PaysAtLeast, task_adds, deadhead_price, crossing_prices}
 use Rattle.branch_rules.proofs.Services.{map-cond}
+use Rattle.branch_rules.proofs.Weighing.{no_bonds}
 use Rattle.branch_rules.proofs.Bound.{tour_price, Pays}
 
 -- the edges of the tasks of a walk are those that it serves
@@ -95,5 +96,6 @@ module _ (p : Problem) (pool : List (List ℕ)) (set : Prices) (least : (e : ℕ
           ints,
           price_splits p.depot p.depot walk lawful.leads,
           ap (signed_sum (λ (t : Task). task_adds p set t.edge)) (no_tasks walk none),
+          ap (bond_weight set.groups) (sym (edges_of (served_steps walk)) ∙ ap (map (λ (t : Task). t.edge)) (no_tasks walk none)) ∙ no_bonds set.groups,
         )
   ]

@@ -21,3 +21,7 @@ one_more P i before here k less = elim (cases_eq k i) [
   | inl last ↦ rw last here
   | inr other ↦ before k (omega (arith, less, other))
 ]
+
+-- an item of a list that was read is the item there, whatever stands where there is none
+pub item_at : {X : Type 0} (read xs : List X) (i : ℕ) (x d : X) → read ≡ xs → i < length read → x ≡ get_or read i x → x ≡ get_or xs i d
+item_at read xs i x d same within is = is ∙ get_or_default read i x d within ∙ ap (λ l. get_or l i d) same

@@ -4,7 +4,7 @@ use Rattle.std.specs.List.{sum_by}
 use Rattle.std.proofs.lemmas.List.Sums.{sum_by-cons}
 use Rattle.std.proofs.lemmas.Int.{ints}
 use Rattle.std.proofs.lemmas.List.{take_more}
-use Rattle.std.proofs.Common.{take, length, get_or}
+use Rattle.std.proofs.Common.{take, length, get_or, ap, sym}
 use Rattle.std.proofs.lemmas.Bool.{cases_lt}
 use Rattle.std.proofs.Math.Nat.{mul-le-mul_left}
 use borrow.Author.Differences.{up, down}
@@ -52,6 +52,11 @@ sum_by-same f g (x ∷ xs) same = omega (arith, sum_by-cons f x xs, sum_by-cons 
 -- one more term, as at a step of a loop
 pub signed_sum_more : {X : Type 0} (f : X → ℤ) (xs : List X) (i : ℕ) (d : X) → i < length xs → signed_sum f (take (i + 1) xs) ≡ signed_sum f (take i xs) +ℤ f (get_or xs i d)
 signed_sum_more f xs i d short = rw (take_more xs i d short) (signed_sum-append f (take i xs) (get_or xs i d ∷ []) ∙ omega (arith, ints))
+
+-- the same, for an item that is known to stand there
+pub signed_sum_item : {X : Type 0} (f : X → ℤ) (xs : List X) (i : ℕ) (x : X) → i < length xs → x ≡ get_or xs i x →
+    signed_sum f (take (i + 1) xs) ≡ signed_sum f (take i xs) +ℤ f x
+signed_sum_item f xs i x short is = signed_sum_more f xs i x short ∙ ap (λ y. signed_sum f (take i xs) +ℤ f y) (sym is)
 
 -- the same, for a sum and a term that were computed
 pub signed_sum_step : {X : Type 0} (f : X → ℤ) (xs : List X) (i : ℕ) (d : X) (sum term joined : ℤ) → i < length xs →

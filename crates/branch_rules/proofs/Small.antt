@@ -46,6 +46,7 @@ town_fits branch = record {
   fits = record {
     not_negative = λ e number. free_crossing e (only_edge e number);
     has_upper = ((λ less. absurd (omega (arith, ints, less))), tt);
+    has_yes = tt;
     tours = λ tasks n tour joined. omega (arith, ints, free_tasks tasks tour.required);
   };
 }

@@ -22,6 +22,7 @@ use Rattle.branch_rules.specs.Trees.{Tree, pair, cut, price, void, fixed, Suppor
 use Rattle.branch_rules.specs.Laws.{NoDepot, IsMet, FitsBranch}
 use Rattle.branch_rules.proofs.Signed.{bound_from_value}
 use Rattle.branch_rules.proofs.Bonding.{bonds_law}
+use Rattle.branch_rules.proofs.Together.{some_bond}
 use Rattle.branch_rules.proofs.Bound.{value_le, deadheads_at}
 use Rattle.branch_rules.proofs.Paying.{each_pays}
 use Rattle.branch_rules.proofs.Ruling.{excluded_law, lower_law, upper_law, void_law, spells_fixed}
@@ -81,10 +82,11 @@ module _ (known : Known) (p : Problem) (pool : List (List ℕ)) (branch : List D
   value_law =
       value_le p pool set known.served_once (rules_of p pool branch) (λ a b. ¬ (Excluded p branch a b))
       (each_pays p pool set fits.fits.not_negative is.valid known.is_tour known.there known.below (λ a b. ¬ (Excluded p branch a b)) fits.fits.tours)
-      fits.fits.has_upper fits.one_each plan is.lawful
+      fits.fits.has_upper fits.fits.has_yes fits.one_each plan is.lawful
       (none_excluded (λ a b. ¬ (Excluded p branch a b)) plan (λ a b near excluded. excluded_law known.chains p pool plan branch is.lawful is.meets a b excluded near))
       (keeps set.weights)
       (λ group. omega (arith, bonds_law p is.valid known.served_once group plan is.lawful))
+      (some_bond known.chains p pool branch plan is.meets)
 
   pub price_law : (bound : ℕ) → (pos set.unit *ℤ (pos bound -ℤ pos 1)) <ℤ value_of (rules_of p pool branch) set → bound ≤ plan_cost p plan
   price_law bound above = bound_from_value set.unit bound (plan_cost p plan) _ value_law above

@@ -56,11 +56,11 @@ row_prices = record { unit = 1; services = pos 4 ∷ pos 4 ∷ []; weights = [];
 abbrev pub both_weights : List GroupWeight
 both_weights = record { edges = 1 ∷ 2 ∷ 3 ∷ []; weight = pos 2 } ∷ row_weights
 
--- a weight of 5 below 0 on the pair of streets
+-- a negative weight on the pair of streets, of size 4
 abbrev pub yes_weights : List GroupWeight
-yes_weights = record { edges = row; weight = negsuc 4 } ∷ []
+yes_weights = record { edges = row; weight = negsuc 3 } ∷ []
 
--- a price of 1 for the one street, and that weight
+-- a price of 1 for each of the two streets, and that weight
 abbrev pub yes_prices : Prices
 yes_prices = record { unit = 1; services = pos 1 ∷ pos 1 ∷ []; weights = []; groups = yes_weights }
 

@@ -109,11 +109,11 @@ impl Branch {
     }
 
     /// The value of a price set under the decisions, in parts of its denominator: the sum of the prices, plus each positive
-    /// weight times the lower number of its shore, less the size of each negative weight times the upper number, and less the weight of
-    /// each group times its room.
+    /// weight times the lower number of its shore, less the size of each negative weight times the upper number; less each positive
+    /// weight on a group times the room of the group, plus the size of each negative weight on a group.
     ///
-    /// It is refused exactly where the shore of a negative weight has no upper number. It takes no memory; with m required
-    /// edges, d decisions and k weights it takes time in proportion to (m + d) k.
+    /// It is refused exactly if the shore of a negative weight has no upper number. It takes no memory; with m required
+    /// edges, d decisions, k weights on shores and groups of n edges together it takes time in proportion to (m + d) k + n.
     pub fn value_at(
         &self,
         inst: &Instance,
@@ -158,18 +158,19 @@ impl Branch {
     }
 }
 
-// What prices and weights come to, less what bonds can weigh.
-fn net(prices: i128, weights: i128, rooms: u128) -> i128
+// What prices and weights on shores come to, less the most that bonds can weigh.
+fn net(prices: i128, weights: i128, rooms: i128) -> i128
     requires prices_low { neg_ℤ (pos 600000000000000000) ≤ℤ prices }
     requires prices_high { prices ≤ℤ pos 600000000000000000 }
     requires weights_low { neg_ℤ (pos 80000000000000000000000000) ≤ℤ weights }
     requires weights_high { weights ≤ℤ pos 80000000000000000000000000 }
-    requires rooms { rooms ≤ 1200000000000000000000 }
-    ensures value { result ≡ (prices +ℤ weights) -ℤ pos rooms }
+    requires rooms_low { neg_ℤ (pos 1200000000000000000000) ≤ℤ rooms }
+    requires rooms_high { rooms ≤ℤ pos 1200000000000000000000 }
+    ensures value { result ≡ (prices +ℤ weights) -ℤ rooms }
     ensures low { neg_ℤ (pos 100000000000000000000000000) ≤ℤ result }
     ensures high { result ≤ℤ pos 100000000000000000000000000 }
 {
-    prices + weights - rooms as i128
+    prices + weights - rooms
 }
 
 // The sum of prices.

@@ -1,5 +1,5 @@
 // Small data on which a fact that no call decides holds, and on which it does not.
-ghost use Rattle.std.specs.Prelude.{◌≡◌, ℕ, pos, negsuc, [], ◌∷◌, Some, None};
+ghost use Rattle.std.specs.Prelude.{◌≡◌, ℕ, pos, negsuc, [], ◌∷◌, IsTrue, Some, None, false};
 ghost use Rattle.deadhead_paths.specs.Examples.{town};
 ghost use Rattle.cut_pool.specs.Examples.{in_a_row};
 ghost use Rattle.carp_base.specs.Problem.{edge_at};
@@ -7,7 +7,7 @@ ghost use Rattle.decision_chains.specs.Neighbours.{AreNeighbours};
 ghost use Rattle.branch_rules.specs.Bonds.{IsGroup, bond_weight, bonds, plan_bonds, room, surcharge};
 ghost use Rattle.branch_rules.specs.Prices.{KeepsRules, deadhead_price, task_adds, value_of};
 ghost use Rattle.decision_chains.specs.Exclusions.{Excluded};
-ghost use Rattle.branch_rules.specs.Decisions.{IsFixed, IsVoid, Meets, MeetsAll, Spells, cuts_of, lower_of, lowest, rules_of};
+ghost use Rattle.branch_rules.specs.Decisions.{IsFixed, IsVoid, Meets, MeetsAll, Spells, cuts_of, is_yes_pair, lower_of, lowest, rules_of};
 ghost use Rattle.chain_plans.specs.FixedValue.{HasFixedValue};
 ghost use Rattle.branch_rules.specs.Laws.{FitsBranch, IsMet};
 ghost use Rattle.decision_chains.specs.Pairs.{ArePairsIn};
@@ -15,7 +15,7 @@ ghost use Rattle.branch_rules.specs.Limits.{AreShoresIn, IsNodeIn};
 ghost use Rattle.branch_rules.specs.Trees.{HasTurns, IsLean, IsLeanNode, IsSoundSupport, NodesShow, PairsIn, Shows, Tree, cut, fixed, pair, preorder, price, void};
 ghost use Rattle.decision_chains.specs.declared.decision.Decision.TheVariants.{High, Low, No, Yes};
 ghost use Rattle.branch_rules.specs.declared.node.Node.TheVariants.{Cut, Fixed, Pair, Price};
-ghost use Rattle.branch_rules.specs.Examples.{heavy_prices, light_prices, one_row_tour, row, row_prices, row_weights, town_plan, town_pool, town_prices, town_support, two_row_tours};
+ghost use Rattle.branch_rules.specs.Examples.{both_weights, heavy_prices, light_prices, one_row_tour, row, row_prices, row_weights, town_plan, town_pool, town_prices, town_support, two_row_tours, yes_prices, yes_weights};
 
 use crate::fixed_value_bounds;
 use decision_chains::{distinct_edges_sum_to_no_more, yes_pairs_join};
@@ -106,11 +106,25 @@ fn bonds_of_a_group()
     ensures two_tours { plan_bonds row two_row_tours ≡ 0 }
     ensures one_vehicle { room (in_a_row 3) row ≡ 1 }
     ensures two_vehicles { room (in_a_row 2) row ≡ 0 }
-    ensures weigh { bond_weight row_weights (1 ∷ 2 ∷ 1 ∷ []) ≡ 6 }
-    ensures surcharge { surcharge row_weights 2 1 ≡ 3 }
-    ensures none { surcharge row_weights 2 3 ≡ 0 }
+    ensures weigh { bond_weight row_weights (1 ∷ 2 ∷ 1 ∷ []) ≡ pos 6 }
+    ensures surcharge { surcharge row_weights 2 1 ≡ pos 3 }
+    ensures none { surcharge row_weights 2 3 ≡ pos 0 }
+    ensures added { surcharge both_weights 2 1 ≡ pos 5 }
+    ensures of_one { surcharge both_weights 2 3 ≡ pos 2 }
     ensures value { value_of (rules_of (in_a_row 3) [] []) row_prices ≡ pos 5 }
     ensures full { value_of (rules_of (in_a_row 2) [] []) row_prices ≡ pos 8 }
+{}
+
+fn a_yes_weight()
+    ensures yes { IsTrue (is_yes_pair (Yes 2 1 ∷ []) row) }
+    ensures said_no { is_yes_pair (No 1 2 ∷ []) row ≡ false }
+    ensures three_edges { is_yes_pair (Yes 1 2 ∷ []) (1 ∷ 2 ∷ 3 ∷ []) ≡ false }
+    ensures surcharge { surcharge yes_weights 1 2 ≡ negsuc 3 }
+    ensures weigh { bond_weight yes_weights (1 ∷ 2 ∷ 1 ∷ []) ≡ negsuc 7 }
+    ensures value { value_of (rules_of (in_a_row 3) [] (Yes 1 2 ∷ [])) yes_prices ≡ pos 6 }
+    ensures fits { FitsBranch (in_a_row 3) [] (Yes 1 2 ∷ []) yes_prices }
+    ensures no_yes { ¬ (FitsBranch (in_a_row 3) [] [] yes_prices) }
+    ensures another_pair { ¬ (FitsBranch (in_a_row 3) [] (Yes 1 3 ∷ []) yes_prices) }
 {}
 
 fn a_tree_that_shows_a_bound()

@@ -1,8 +1,10 @@
 // Weights on the bonds of groups.
-ghost use Rattle.std.specs.Prelude.{◌≡◌, ◌*◌, ◌≤◌, length, sum_by, All, IfOk};
+ghost use Rattle.std.specs.Prelude.{◌≡◌, ◌≤◌, pos, neg_ℤ, ◌*ℤ◌, ◌≤ℤ◌, length, All, IfOk};
 ghost use Rattle.carp_base.specs.Problem.{edge_at};
-ghost use Rattle.branch_rules.specs.Bonds.{GroupWeight, IsSurchargeTable, bond, group_demand, is_of, room, surcharge};
-ghost use Rattle.branch_rules.specs.Limits.{IsFineGroup};
+ghost use Rattle.branch_rules.specs.Bonds.{GroupWeight, bond, group_demand, is_of, room, surcharge};
+ghost use Rattle.branch_rules.specs.Limits.{IsFineGroup, IsPriceNumber, IsSurcharge};
+ghost use Rattle.branch_rules.specs.Prices.{weigh_bonds};
+ghost use Rattle.branch_rules.specs.Sums.{signed_sum};
 
 use carp_base::{Instance, Memory};
 use std::alloc::Global;
@@ -11,11 +13,12 @@ use std::marker::Model;
 /// A weight on the bonds of a group, which is two or more required edges: a bond is a place where a tour serves two edges of the group one
 /// directly after the other.
 ///
-/// The weight is 1 to 10^15, in parts of the denominator of its price set. Contracts see the edges and the weight.
+/// The weight is not 0 and within 10^15 either way, in parts of the denominator of its price set. A weight above 0 is charged for each bond.
+/// A weight below 0 stands on a group of two edges, and its size is gained for each bond. Contracts see the edges and the weight.
 #[derive(Drop)]
 pub struct WeightedGroup {
     edges: Vec<u32>,
-    weight: u64,
+    weight: i64,
 }
 
 impl Model for WeightedGroup {
@@ -31,7 +34,7 @@ impl Model for WeightedGroup {
 
 impl WeightedGroup {
     /// This weight on the group of these edges, by their rising numbers. The one error is want of memory.
-    pub fn new(alloc: Global, edges: &[u32], weight: u64) -> Result<WeightedGroup, Memory>
+    pub fn new(alloc: Global, edges: &[u32], weight: i64) -> Result<WeightedGroup, Memory>
         requires { IsFineGroup (record { edges = edges.now; weight = weight }) }
         ensures { IfOk result (λ group. group ≡ record { edges = edges.now; weight = weight }) }
     {
@@ -41,14 +44,6 @@ impl WeightedGroup {
         })
     }
 
-    /// The edges, by their numbers.
-    pub fn edges(&self) -> &[u32]
-        ensures value { result.now ≡ self.now.edges }
-        ensures fine { IsFineGroup self.now }
-    {
-        &self.edges
-    }
-
     /// The same weight on the same group. The one error is want of memory.
     pub fn copy(&self, alloc: Global) -> Result<WeightedGroup, Memory>
         ensures { IfOk result (λ group. group ≡ self.now) }
@@ -56,7 +51,23 @@ impl WeightedGroup {
         WeightedGroup::new(alloc, self.edges(), self.weight())
     }
 
-    /// Whether an edge is of the group. It takes time in proportion to the number of edges.
+    /// The edges, two to 600, by their rising numbers.
+    pub fn edges(&self) -> &[u32]
+        ensures value { result.now ≡ self.now.edges }
+        ensures fine { IsFineGroup self.now }
+    {
+        &self.edges
+    }
+
+    /// The weight, within 10^15 either way and not 0.
+    pub fn weight(&self) -> i64
+        ensures value { result ≡ self.now.weight }
+        ensures fine { IsFineGroup self.now }
+    {
+        self.weight
+    }
+
+    /// Whether an edge is of the group. It takes time in proportion to the number of edges of the group.
     pub fn has(&self, e: u32) -> bool
         ensures { result ≡ is_of self.now.edges e }
     {
@@ -64,9 +75,9 @@ impl WeightedGroup {
     }
 
     // What two edges that follow each other weigh in this group alone.
-    fn bond_weighs(&self, e: u32, f: u32) -> u64
-        ensures value { result ≡ self.now.weight * bond self.now.edges e f }
-        ensures small { result ≤ 1000000000000000 }
+    fn bond_weighs(&self, e: u32, f: u32) -> i64
+        ensures value { result ≡ self.now.weight *ℤ pos (bond self.now.edges e f) }
+        ensures within { IsPriceNumber result }
     {
         let weight = self.weight();
         if self.has(e) && self.has(f) {
@@ -75,71 +86,29 @@ impl WeightedGroup {
             0
         }
     }
-
-    /// The weight, 1 to 10^15.
-    pub fn weight(&self) -> u64
-        ensures value { result ≡ self.now.weight }
-        ensures fine { IsFineGroup self.now }
-    {
-        self.weight
-    }
 }
 
-/// The surcharge of two edges that follow each other: the weights of the groups that both are of. What the bonds of a tour weigh is the
-/// sum of the surcharges of its edges ([`surcharges_are_bond_weights`](crate::surcharges_are_bond_weights)).
+/// The surcharge of two edges that follow each other: the sum of the weights of the groups that both are of, within 2 * 10^18 either way. What
+/// the bonds of a tour weigh is the sum of the surcharges of its edges that follow each other
+/// ([`surcharges_are_bond_weights`](crate::surcharges_are_bond_weights)).
 ///
-/// It takes no memory, and time in proportion to the numbers of edges of all groups.
-pub fn surcharge_of(groups: &[WeightedGroup], e: u32, f: u32) -> u64
+/// It takes no memory, and time in proportion to the number of edges of all groups together.
+pub fn surcharge_of(groups: &[WeightedGroup], e: u32, f: u32) -> i64
     requires { length groups.now ≤ 2000 }
     ensures value { result ≡ surcharge groups.now e f }
-    ensures small { result ≤ 2000000000000000000 }
+    ensures within { IsSurcharge result }
 {
-    let mut sum: u64 = 0;
+    let mut sum: i64 = 0;
     for group in groups {
         sum += group.bond_weighs(e, f);
     }
     sum
 }
 
-/// The surcharge of each pair of so many required edges, a row for each edge. The one error is want of memory.
+/// The room of a group: how many bonds a lawful plan can have in it ([`bonds_are_bounded`](crate::bonds_are_bounded)), which is the number of
+/// its edges less the vehicles that its demand takes. It is 0 to 600, and is also said of a list of at most 600 edges that is no group.
 ///
-/// For m edges it takes time in proportion to `m * m` times the number of edges of all groups.
-pub fn surcharge_table(
-    alloc: Global,
-    required: u32,
-    groups: &[WeightedGroup],
-) -> Result<Vec<u64>, Memory>
-    requires required { required ≤ 600 }
-    requires groups { length groups.now ≤ 2000 }
-    ensures table { IfOk result (λ table. IsSurchargeTable required groups.now table.items) }
-    ensures small { IfOk result (λ table. All (λ s. s ≤ 2000000000000000000) table.items) }
-{
-    let m = required as usize;
-    let mut table = vec![in alloc; 0; m * m]?;
-    fill_table(&mut table, required, groups);
-    Ok(table)
-}
-
-// Writes the surcharge of each pair.
-fn fill_table(table: &mut [u64], required: u32, groups: &[WeightedGroup])
-    requires few { required ≤ 600 }
-    requires groups { length groups.now ≤ 2000 }
-    requires long { length table.old ≡ required * required }
-    ensures table { IsSurchargeTable required groups.now table.new }
-    ensures small { All (λ s. s ≤ 2000000000000000000) table.new }
-{
-    let m = required as usize;
-    for place in 0..m * m {
-        let first = (place / m) as u32 + 1;
-        let second = (place % m) as u32 + 1;
-        table[place] = surcharge_of(groups, first, second);
-    }
-}
-
-/// The room of a group, or of any list of at most 600 edges: how many bonds it can have in a lawful plan ([`bonds_are_bounded`](crate::bonds_are_bounded)), which is the
-/// number of its edges less the vehicles that its demand takes.
-///
-/// It takes no memory, and time in proportion to the number of edges.
+/// It takes no memory, and time in proportion to the number of edges of the list.
 pub fn bond_room(inst: &Instance, edges: &[u32]) -> u64
     requires { length edges.now ≤ 600 }
     ensures value { result ≡ room inst.now edges.now }
@@ -162,7 +131,7 @@ fn demand_of(inst: &Instance, edges: &[u32]) -> u64
     demand
 }
 
-// The demand of the edge of a number, which is 0 where it is not to be served.
+// The demand of the edge of a number, which is 0 if it is not to be served.
 fn demand_at(inst: &Instance, e: u32) -> u64
     ensures value { result ≡ (edge_at inst.now e).demand }
     ensures small { result ≤ 30000 }
@@ -174,23 +143,30 @@ fn demand_at(inst: &Instance, e: u32) -> u64
     }
 }
 
-// What the bonds of groups can weigh in a plan: for each group its weight times its room.
-pub(crate) fn rooms_weigh(inst: &Instance, groups: &[WeightedGroup]) -> u128
+// The most that the bonds of all groups can weigh in a plan.
+pub(crate) fn rooms_weigh(inst: &Instance, groups: &[WeightedGroup]) -> i128
     requires { length groups.now ≤ 2000 }
-    ensures value { result ≡ sum_by (λ w. w.weight * room inst.now w.edges) groups.now }
-    ensures small { result ≤ 1200000000000000000000 }
+    ensures value { result ≡ signed_sum (λ w. weigh_bonds w.weight (room inst.now w.edges)) groups.now }
+    ensures low { neg_ℤ (pos 1200000000000000000000) ≤ℤ result }
+    ensures high { result ≤ℤ pos 1200000000000000000000 }
 {
-    let mut sum: u128 = 0;
+    let mut sum: i128 = 0;
     for group in groups {
         sum += room_weighs(inst, group);
     }
     sum
 }
 
-// What the bonds of a group can weigh in a plan.
-fn room_weighs(inst: &Instance, group: &WeightedGroup) -> u128
-    ensures value { result ≡ group.now.weight * room inst.now group.now.edges }
-    ensures small { result ≤ 600000000000000000 }
+// The most that the bonds of a group can weigh in a plan.
+fn room_weighs(inst: &Instance, group: &WeightedGroup) -> i128
+    ensures value { result ≡ weigh_bonds group.now.weight (room inst.now group.now.edges) }
+    ensures low { neg_ℤ (pos 600000000000000000) ≤ℤ result }
+    ensures high { result ≤ℤ pos 600000000000000000 }
 {
-    u128::from(group.weight()) * u128::from(bond_room(inst, group.edges()))
+    let weight = i128::from(group.weight());
+    if weight < 0 {
+        weight
+    } else {
+        weight * i128::from(bond_room(inst, group.edges()))
+    }
 }

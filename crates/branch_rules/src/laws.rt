@@ -1,5 +1,5 @@
 // Laws over branches, price sets and trees, as functions whose contract is the law.
-ghost use Rattle.branch_rules.specs.Laws.{ApartHasNoSurcharge, BondsAreBounded, SurchargeIsSymmetric, SurchargesAreBondWeights, ExcludedAreApart, VoidIsMetByNone, NumbersAreKept, FixedValueBounds, FixedBranchBounds, ValueIsBelow, PricesBound, TreeBounds, LeanIsSmall, NodesShowTree};
+ghost use Rattle.branch_rules.specs.Laws.{ApartHasNoSurcharge, BondsAreBounded, SurchargeIsSymmetric, SurchargesAreBondWeights, YesPairsHaveOneBond, ExcludedAreApart, VoidIsMetByNone, NumbersAreKept, FixedValueBounds, FixedBranchBounds, ValueIsBelow, PricesBound, TreeBounds, LeanIsSmall, NodesShowTree};
 ghost use Rattle.decision_chains.specs.Laws.{ExcludedIsSymmetric};
 
 use cut_pool::need_is_met;
@@ -11,6 +11,16 @@ use plan_model::required_edges_are_served_once;
 pub fn bonds_are_bounded()
     ensures { BondsAreBounded }
 {
+    required_edges_are_served_once();
+}
+
+/// A lawful plan that meets a branch has exactly one bond in each pair that the branch says yes to. So the size of a negative weight on such a
+/// pair is gained just once.
+pub fn yes_pairs_have_one_bond()
+    ensures { YesPairsHaveOneBond }
+{
+    yes_pairs_join();
+    distinct_edges_sum_to_no_more();
     required_edges_are_served_once();
 }
 

@@ -1,8 +1,9 @@
-// Prices of services and weights of shores.
-ghost use Rattle.std.specs.Prelude.{◌≡◌, ◌-◌, ◌*◌, ◌+◌, ◌<◌, ◌≤◌, pos, neg_ℤ, ◌-ℤ◌, ◌≤ℤ◌, [], length, IfErr, IfOk, OnOk, All};
+// Prices of services, and weights on shores and on the bonds of groups.
+ghost use Rattle.std.specs.Prelude.{◌≡◌, ◌-◌, ◌*◌, ◌+◌, ◌<◌, ◌≤◌, pos, neg_ℤ, ◌-ℤ◌, ◌≤ℤ◌, [], length, sum_by, IfErr, IfOk, OnOk, All};
 ghost use Rattle.carp_base.specs.declared.edge.Edge.{Edge};
 ghost use Rattle.cut_pool.specs.Pools.{IsShoreNumber};
 ghost use Rattle.deadhead_paths.specs.Prices.{ArePrices};
+ghost use Rattle.branch_rules.specs.Bonds.{GroupWeight};
 ghost use Rattle.branch_rules.specs.Limits.{IsFineGroup, IsFineWeight, IsPriceNumber, IsPriceSet};
 ghost use Rattle.branch_rules.specs.Prices.{Prices, crossing_prices, crossing_weight, deadhead_price, price_in, signed_sum, weight_at};
 ghost use Rattle.branch_rules.specs.Refusals.{NoneTooHeavy, RefusesHeavy};
@@ -24,11 +25,11 @@ pub struct TooHeavy {
     pub price: i128,
 }
 
-/// A price for each required edge and weights on shores, as whole numbers of one part of a denominator (Bode and Irnich
-/// 2012).
+/// A price for each required edge, weights on shores, and weights on the bonds of groups, as whole numbers of one part of a denominator
+/// (Bode and Irnich 2012).
 ///
-/// All are within 10^15 either way, on at most 600 services and 2,000 shores, and the denominator is 1 to 1,000,000.
-/// Contracts see them as they are.
+/// All are within 10^15 either way, on at most 600 services, 2,000 shores, and 2,000 groups of 60,000 edges together, and the denominator is 1 to
+/// 1,000,000. Contracts see them as they are.
 #[derive(Drop)]
 pub struct PriceSet {
     unit: u64,
@@ -50,7 +51,7 @@ impl Model for PriceSet {
 
 impl PriceSet {
     /// The set of these prices, by the numbers of the required edges, and of these weights, which are not 0 and on shores of
-    /// rising numbers. The one error is want of memory.
+    /// rising numbers, with no weights on groups. The one error is want of memory.
     pub fn new(
         alloc: Global,
         unit: u64,
@@ -68,9 +69,10 @@ impl PriceSet {
         })
     }
 
-    /// The same prices and weights on shores, with these weights on the bonds of groups in place of what it had.
+    /// The same prices and weights on shores, with these weights on the bonds of groups in place of those that it had.
     pub fn with_groups(self, groups: Vec<WeightedGroup>) -> PriceSet
         requires few { length groups.items ≤ 2000 }
+        requires few_edges { sum_by (λ (w : GroupWeight). length w.edges) groups.items ≤ 60000 }
         requires fine { All IsFineGroup groups.items }
         ensures { result ≡ record { unit = self.unit; services = self.services; weights = self.weights; groups = groups.items } }
     {
@@ -169,7 +171,7 @@ impl PriceSet {
         &self.weights
     }
 
-    /// The weights on the bonds of groups, in order.
+    /// The weights on the bonds of groups in order, at most 2,000.
     pub fn groups(&self) -> &[WeightedGroup]
         ensures value { result.now ≡ self.now.groups }
         ensures fine { IsPriceSet self.now }
@@ -177,7 +179,7 @@ impl PriceSet {
         &self.groups
     }
 
-    /// The weights on the bonds of groups, as a list of its own.
+    /// The weights on the bonds of groups, as a list of its own. The one error is want of memory.
     pub fn copy_groups(&self, alloc: Global) -> Result<Vec<WeightedGroup>, Memory>
         ensures { IfOk result (λ groups. groups.items ≡ self.now.groups) }
     {

@@ -1,4 +1,4 @@
-use Rattle.std.proofs.Common.{◌≡◌, ◌*◌, ◌≤◌, take}
+use Rattle.std.proofs.Common.{◌≡◌, ◌*◌, take, pos, neg_ℤ, ◌≤ℤ◌}
 use Rattle.branch_rules.specs.Bonds.{surcharge}
 use Rattle.branch_rules.proofs.group.surcharge_of.Given as goal
 
@@ -6,5 +6,6 @@ use Rattle.branch_rules.proofs.group.surcharge_of.Given as goal
 abbrev pub invariant-loop-group : goal.invariant-loop-group
 invariant-loop-group l = record {
   value : l.sum ≡ surcharge (take l.group-index l.groups) l.e l.f;
-  small : l.sum ≤ 1000000000000000 * l.group-index;
+  low : neg_ℤ (pos (1000000000000000 * l.group-index)) ≤ℤ l.sum;
+  high : l.sum ≤ℤ pos (1000000000000000 * l.group-index);
 }

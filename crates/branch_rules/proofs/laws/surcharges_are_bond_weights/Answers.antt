@@ -1,4 +1,4 @@
-use Rattle.branch_rules.proofs.Bonding.{surcharge_apart, surcharge_turned, surcharges_are}
+use Rattle.branch_rules.proofs.Weighing.{surcharge_apart, surcharge_turned, surcharges_are}
 use Rattle.branch_rules.proofs.laws.surcharges_are_bond_weights.Goals as goal
 
 pub returns-clause-sum : goal.returns-clause-sum

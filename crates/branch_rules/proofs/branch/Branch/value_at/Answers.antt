@@ -1,5 +1,5 @@
 use Rattle.std.specs.Int.{w128}
-use Rattle.std.proofs.Common.{◌≡◌, ℕ, ℤ, pos, ◌+ℤ◌, ◌-ℤ◌, rules, FitsSigned, arith, ap, ◌∙◌, ◌+◌, ◌≤◌, get_or, length, subst, List}
+use Rattle.std.proofs.Common.{◌≡◌, ℤ, ◌+ℤ◌, ◌-ℤ◌, rules, FitsSigned, arith, ap, ◌∙◌, ◌+◌, ◌≤◌, get_or, length, subst, List}
 use Rattle.std.proofs.lemmas.Int.{ints, to_z-of_z}
 use Rattle.branch_rules.specs.Decisions.{rules_of}
 use Rattle.std.proofs.lemmas.List.{take_all}
@@ -36,8 +36,10 @@ returns-clause-value c =
     let rooms = c.rooms_weigh.ensures.value ∙ ap (room_weight rules_here) c.groups.ensures.value in
     let services = c.sum_of-prices.ensures.value ∙ ap (signed_sum (λ z. z)) c.prices.ensures.value in
     let fits : FitsSigned w128 c.sum_of-prices.result = search rules in
+    let fits_rooms : FitsSigned w128 c.rooms_weigh.result = search rules in
     let fits_net : FitsSigned w128 c.net.result = search rules in
-    to_z-of_z w128 c.net.result fits_net ∙ c.net.ensures.value ∙ net_of (to_z-of_z w128 c.sum_of-prices.result fits ∙ services) whole rooms
+    to_z-of_z w128 c.net.result fits_net ∙ c.net.ensures.value
+    ∙ net_of (to_z-of_z w128 c.sum_of-prices.result fits ∙ services) whole (to_z-of_z w128 c.rooms_weigh.result fits_rooms ∙ rooms)
   where
-    net_of : {a b c d : ℤ} {m n : ℕ} → a ≡ b → c ≡ d → m ≡ n → ((a +ℤ c) -ℤ pos m) ≡ ((b +ℤ d) -ℤ pos n)
-    net_of first second third = λ i. (first i +ℤ second i) -ℤ pos (third i)
+    net_of : {a b c d m n : ℤ} → a ≡ b → c ≡ d → m ≡ n → ((a +ℤ c) -ℤ m) ≡ ((b +ℤ d) -ℤ n)
+    net_of first second third = λ i. (first i +ℤ second i) -ℤ third i
