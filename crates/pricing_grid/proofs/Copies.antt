@@ -1,5 +1,6 @@
 -- What is copied into a grid.
 use Rattle.std.proofs.Common.{◌≡◌, ℕ, ◌+◌, ◌-◌, ◌*◌, ◌^◌, ◌<◌, ◌≤◌, List, [], ◌∷◌, length, slice_index, slice_index_or, slice_set, get_or, true, false, Bool, sym, ap, ◌∙◌, arith, inl, inr, subst, pos, ◌+ℤ◌, ◌-ℤ◌}
+use Rattle.std.proofs.lemmas.Int.{ints}
 use Rattle.std.proofs.lemmas.Bool.{cases_eq}
 use Rattle.std.proofs.lemmas.List.{get_or-set_same, get_or-set_other}
 use Rattle.std.proofs.Math.Nat.{mul-le-mul_right}
@@ -8,8 +9,10 @@ use Rattle.carp_base.specs.Allowed.{IsOf, allows}
 use Rattle.deadhead_paths.specs.Prices.{IsLeastPrice, price_of}
 use Rattle.carp_base.specs.declared.edge.Task.{Task}
 use Rattle.pricing_grid.specs.declared.grid.Grid.{Grid}
-use Rattle.pricing_grid.specs.Partial.{IsGrid, between}
+use Rattle.pricing_grid.specs.Partial.{base, IsGrid, between}
 use Rattle.pricing_grid.specs.Pricing.{AreSurcharges, Pricing, service_price, IsGridOf, lift, IsWay}
+use Rattle.pricing_grid.specs.declared.charging.Charge.{Charge}
+use Rattle.pricing_grid.specs.Charging.{AreCharged}
 use Rattle.pricing_grid.proofs.Links.{linked}
 use Rattle.pricing_grid.proofs.Ways.{least_stay, least_back, least_triangle, least_led}
 
@@ -66,9 +69,9 @@ module _ (x : Pricing) (g : Grid) (valid : IsValid g.inst) (problem : x.problem 
     (symmetric : (a b : ℕ) → IsOf x.relation a → IsOf x.relation b → allows x.relation a b ≡ allows x.relation b a)
     (ways : (a b : ℕ) → IsVertex g.inst a → IsVertex g.inst b → IsWay g.inst x.prices a b (slice_index g.dist.items (a * (g.inst.vertices + 1) + b)))
     (lengths : (e : ℕ) → IsEdgeNumber g.inst e → slice_index g.lengths.items (e - 1) ≡ slice_index g.dist.items ((edge_at g.inst e).u * (g.inst.vertices + 1) + (edge_at g.inst e).v))
-    (value : (e : ℕ) → IsRequired g.inst e → pos (slice_index g.adds.items (e - 1)) ≡ pos (x.unit * (edge_at g.inst e).service) -ℤ service_price x.services e +ℤ pos (lift * (edge_at g.inst e).demand))
-    (small : (e : ℕ) → e < g.inst.required → slice_index g.adds.items e ≤ 2 ^ 72)
-    (surcharges : g.surcharges.items ≡ x.surcharges) (are_surcharges : AreSurcharges g.inst.required g.surcharges.items) where
+    (value : (e : ℕ) → IsRequired g.inst e → pos (slice_index g.adds.items (e - 1) + base) ≡ pos (x.unit * (edge_at g.inst e).service) -ℤ service_price x.services e +ℤ pos (lift * (edge_at g.inst e).demand))
+    (small : (e : ℕ) → IsRequired g.inst e → slice_index g.adds.items (e - 1) ≤ lift * (edge_at g.inst e).demand + 2 ^ 51)
+    (surcharges : AreSurcharges g.inst.required x.surcharges) (charged : AreCharged g.inst.required x.surcharges g.charges.items g.raised.items) where
   of_relation : (a : ℕ) → IsRequired g.inst a → IsOf x.relation a
   of_relation a a_in = record { from_one = a_in.from_one; in_range = omega (arith, a_in.in_range, on) }
 
@@ -94,9 +97,13 @@ module _ (x : Pricing) (g : Grid) (valid : IsValid g.inst) (problem : x.problem 
         same s.edge t.edge a b ∙ symmetric s.edge t.edge a b ∙ sym (same t.edge s.edge b a);
     small_dist = λ a b a_in b_in. (ways a b (reached_in g.inst a valid a_in) (reached_in g.inst b valid b_in)).small (linked g.inst a b a_in b_in);
     small_adds = small;
-    surcharges_long = are_surcharges.long;
-    both_orders = λ e f e_in f_in. are_surcharges.both_orders e f e_in.from_one e_in.in_range f_in.from_one f_in.in_range;
-    small_surcharges = λ e f e_in f_in. are_surcharges.small e f e_in.from_one e_in.in_range f_in.from_one f_in.in_range;
+    charges_long = charged.charges_long;
+    raised_long = charged.raised_long;
+    both_orders = λ e f e_in f_in.
+        let same = surcharges.both_orders e f e_in.from_one e_in.in_range f_in.from_one f_in.in_range in
+        omega (arith, ints, charged.value e f e_in.from_one e_in.in_range f_in.from_one f_in.in_range, charged.value f e f_in.from_one f_in.in_range e_in.from_one e_in.in_range, same);
+    small_surcharges = λ e f e_in f_in. charged.small e f e_in.from_one e_in.in_range f_in.from_one f_in.in_range;
+    charged = λ e f e_in f_in is. charged.charged e f e_in.from_one e_in.in_range f_in.from_one f_in.in_range is;
   }
 
   pub copied : IsGridOf x g
@@ -106,11 +113,13 @@ module _ (x : Pricing) (g : Grid) (valid : IsValid g.inst) (problem : x.problem 
     dist = least;
     adds = λ e e_in. value e e_in ∙ ap (λ p. pos (x.unit * (edge_at p e).service) -ℤ service_price x.services e +ℤ pos (lift * (edge_at g.inst e).demand)) (sym problem);
     may = λ a b a_in b_in. same a b (of_relation a a_in) (of_relation b b_in);
-    surcharges = surcharges;
+    surcharges = λ e f e_in f_in.
+        let same = surcharges.both_orders e f e_in.from_one e_in.in_range f_in.from_one f_in.in_range in
+        omega (arith, ints, charged.value e f e_in.from_one e_in.in_range f_in.from_one f_in.in_range, same);
   }
 
 -- the same from the lists that were copied, for an instance that is the grid's
-pub record AreCopied (x : Pricing) (p : Problem) (pairs : List Bool) (ways_now lengths_now adds : List ℕ) : Type 0 where
+pub record AreCopied (x : Pricing) (p : Problem) (pairs : List Bool) (ways_now lengths_now adds : List ℕ) (charges : List Charge) (raised : List ℕ) : Type 0 where
   pub pairs_long : length pairs ≡ p.required * p.required
   pub ways_long : length ways_now ≡ (p.vertices + 1) * (p.vertices + 1)
   pub lengths_long : length lengths_now ≡ length p.edges
@@ -120,31 +129,34 @@ pub record AreCopied (x : Pricing) (p : Problem) (pairs : List Bool) (ways_now l
   pub symmetric : (a b : ℕ) → IsOf x.relation a → IsOf x.relation b → allows x.relation a b ≡ allows x.relation b a
   pub ways : (a b : ℕ) → IsVertex p a → IsVertex p b → IsWay p x.prices a b (slice_index ways_now (a * (p.vertices + 1) + b))
   pub lengths : (e : ℕ) → IsEdgeNumber p e → slice_index lengths_now (e - 1) ≡ slice_index ways_now ((edge_at p e).u * (p.vertices + 1) + (edge_at p e).v)
-  pub value : (e : ℕ) → IsRequired p e → pos (slice_index adds (e - 1)) ≡ pos (x.unit * (edge_at p e).service) -ℤ service_price x.services e +ℤ pos (lift * (edge_at p e).demand)
-  pub small : (e : ℕ) → e < p.required → slice_index adds e ≤ 2 ^ 72
+  pub value : (e : ℕ) → IsRequired p e → pos (slice_index adds (e - 1) + base) ≡ pos (x.unit * (edge_at p e).service) -ℤ service_price x.services e +ℤ pos (lift * (edge_at p e).demand)
+  pub small : (e : ℕ) → IsRequired p e → slice_index adds (e - 1) ≤ lift * (edge_at p e).demand + 2 ^ 51
   pub surcharges : AreSurcharges p.required x.surcharges
+  pub charged : AreCharged p.required x.surcharges charges raised
 
-pub copied_from : (x : Pricing) (g : Grid) (pairs : List Bool) (ways lengths adds : List ℕ) → g.may.items ≡ pairs → g.dist.items ≡ ways → g.lengths.items ≡ lengths → g.adds.items ≡ adds → g.surcharges.items ≡ x.surcharges →
-    IsValid x.problem → g.inst ≡ x.problem → g.net ≡ x.problem → AreCopied x x.problem pairs ways lengths adds → IsGridOf x g
-copied_from x g pairs ways lengths adds pairs_are ways_are lengths_are adds_are surcharges_are valid inst net are =
-    let here : AreCopied x g.inst g.may.items g.dist.items g.lengths.items g.adds.items =
-    subst (λ xs. AreCopied x g.inst xs g.dist.items g.lengths.items g.adds.items) (sym pairs_are)
-    (subst (λ xs. AreCopied x g.inst pairs xs g.lengths.items g.adds.items) (sym ways_are)
-    (subst (λ xs. AreCopied x g.inst pairs ways xs g.adds.items) (sym lengths_are)
-    (subst (λ xs. AreCopied x g.inst pairs ways lengths xs) (sym adds_are) (subst (λ p. AreCopied x p pairs ways lengths adds) (sym inst) are)))) in
+pub copied_from : (x : Pricing) (g : Grid) (pairs : List Bool) (ways lengths adds : List ℕ) (charges : List Charge) (raised : List ℕ) → g.may.items ≡ pairs → g.dist.items ≡ ways → g.lengths.items ≡ lengths → g.adds.items ≡ adds →
+    g.charges.items ≡ charges → g.raised.items ≡ raised → IsValid x.problem → g.inst ≡ x.problem → g.net ≡ x.problem → AreCopied x x.problem pairs ways lengths adds charges raised → IsGridOf x g
+copied_from x g pairs ways lengths adds charges raised pairs_are ways_are lengths_are adds_are charges_are raised_are valid inst net are =
+    let here : AreCopied x g.inst g.may.items g.dist.items g.lengths.items g.adds.items g.charges.items g.raised.items =
+    subst (λ xs. AreCopied x g.inst xs g.dist.items g.lengths.items g.adds.items g.charges.items g.raised.items) (sym pairs_are)
+    (subst (λ xs. AreCopied x g.inst pairs xs g.lengths.items g.adds.items g.charges.items g.raised.items) (sym ways_are)
+    (subst (λ xs. AreCopied x g.inst pairs ways xs g.adds.items g.charges.items g.raised.items) (sym lengths_are)
+    (subst (λ xs. AreCopied x g.inst pairs ways lengths xs g.charges.items g.raised.items) (sym adds_are)
+    (subst (λ xs. AreCopied x g.inst pairs ways lengths adds xs g.raised.items) (sym charges_are)
+    (subst (λ xs. AreCopied x g.inst pairs ways lengths adds charges xs) (sym raised_are) (subst (λ p. AreCopied x p pairs ways lengths adds charges raised) (sym inst) are)))))) in
     copied x g (subst IsValid (sym inst) valid) (sym inst) (net ∙ sym inst) here.pairs_long here.ways_long here.lengths_long here.adds_long here.on here.same here.symmetric here.ways here.lengths here.value here.small
-    surcharges_are (subst (AreSurcharges g.inst.required) (sym surcharges_are) here.surcharges)
+    here.surcharges here.charged
 
 -- what the copies are, by the numbers that they were made with
-pub copies : (x : Pricing) (m n : ℕ) (q : Problem) (pairs : List Bool) (ways lengths adds : List ℕ) → m ≡ x.problem.required → n ≡ x.problem.vertices → q ≡ x.problem →
+pub copies : (x : Pricing) (m n : ℕ) (q : Problem) (pairs : List Bool) (ways lengths adds : List ℕ) (charges : List Charge) (raised : List ℕ) → m ≡ x.problem.required → n ≡ x.problem.vertices → q ≡ x.problem →
     length pairs ≡ m * m → length ways ≡ (n + 1) * (n + 1) → length lengths ≡ length x.problem.edges → length adds ≡ x.problem.required → x.relation.size ≡ x.problem.required →
     ((a b : ℕ) → IsOf x.relation a → IsOf x.relation b → slice_index_or pairs ((a - 1) * m + (b - 1)) false ≡ allows x.relation a b) →
     ((a b : ℕ) → IsOf x.relation a → IsOf x.relation b → allows x.relation a b ≡ allows x.relation b a) →
     ((a b : ℕ) → IsVertex q a → IsVertex q b → IsWay q x.prices a b (slice_index ways (a * (n + 1) + b))) →
     ((e : ℕ) → IsEdgeNumber x.problem e → slice_index lengths (e - 1) ≡ slice_index ways ((edge_at x.problem e).u * (x.problem.vertices + 1) + (edge_at x.problem e).v)) →
-    ((e : ℕ) → IsRequired x.problem e → pos (slice_index adds (e - 1)) ≡ pos (x.unit * (edge_at x.problem e).service) -ℤ service_price x.services e +ℤ pos (lift * (edge_at x.problem e).demand)) →
-    ((e : ℕ) → e < x.problem.required → slice_index adds e ≤ 2 ^ 72) → AreSurcharges x.problem.required x.surcharges → AreCopied x x.problem pairs ways lengths adds
-copies x m n q pairs ways lengths adds m_is n_is q_is pairs_long ways_long lengths_long adds_long on same symmetric way length_is value small surcharges = record {
+    ((e : ℕ) → IsRequired x.problem e → pos (slice_index adds (e - 1) + base) ≡ pos (x.unit * (edge_at x.problem e).service) -ℤ service_price x.services e +ℤ pos (lift * (edge_at x.problem e).demand)) →
+    ((e : ℕ) → IsRequired x.problem e → slice_index adds (e - 1) ≤ lift * (edge_at x.problem e).demand + 2 ^ 51) → AreSurcharges x.problem.required x.surcharges → AreCharged m x.surcharges charges raised → AreCopied x x.problem pairs ways lengths adds charges raised
+copies x m n q pairs ways lengths adds charges raised m_is n_is q_is pairs_long ways_long lengths_long adds_long on same symmetric way length_is value small surcharges charged = record {
   pairs_long = subst (λ k. length pairs ≡ k * k) m_is pairs_long;
   ways_long = subst (λ k. length ways ≡ (k + 1) * (k + 1)) n_is ways_long;
   lengths_long = lengths_long;
@@ -158,4 +170,5 @@ copies x m n q pairs ways lengths adds m_is n_is q_is pairs_long ways_long lengt
   value = value;
   small = small;
   surcharges = surcharges;
+  charged = subst (λ k. AreCharged k x.surcharges charges raised) m_is charged;
 }

@@ -5,7 +5,7 @@ use Rattle.std.proofs.Math.Nat.{mul-le-mul_right}
 use Rattle.std.proofs.lemmas.List.{length-set, get_or-set_same, get_or-set_other}
 use Rattle.carp_base.specs.declared.edge.Task.{Task}
 use Rattle.carp_base.specs.Problem.{Problem, IsValid, IsRequired, IsEdgeNumber, IsReached, TasksLead, edge_at, tail_of, head_of}
-use Rattle.pricing_grid.specs.Partial.{no_value, IsGrid, width, column_task, task_start, task_end, demand_of, between, leg, adds_of, may_follow, IsPartial, Reaches, IsCell, IsJoin, IsLeastJoin, IsJoinFrom, IsPredecessor, IsPredecessorUpTo, IsLeastFrom, IsLeastUpTo, cell_place, AreFilled, AreBegun}
+use Rattle.pricing_grid.specs.Partial.{base, no_value, IsGrid, width, column_task, task_start, task_end, demand_of, between, leg, adds_of, may_follow, IsPartial, Reaches, IsCell, IsJoin, IsLeastJoin, IsJoinFrom, IsPredecessor, IsPredecessorUpTo, IsLeastFrom, IsLeastUpTo, cell_place, AreFilled, AreBegun}
 use Rattle.pricing_grid.specs.declared.grid.Grid.{Grid}
 
 -- the depot reaches both ends of a required edge
@@ -71,7 +71,7 @@ partial_small g grid [] t l v partial =
       partial.value_is,
       (grid.valid.tasks t.edge partial.required).some_demand,
       grid.small_dist g.inst.depot (task_start g t) (depot_reached g.inst) (tail_reached g.inst t.edge t.forward grid.valid partial.required),
-      grid.small_adds (t.edge - 1) (omega (arith, partial.required.from_one, partial.required.in_range)),
+      grid.small_adds t.edge partial.required,
     )
 partial_small g grid (u ∷ us) t l v partial =
     omega (
@@ -82,7 +82,7 @@ partial_small g grid (u ∷ us) t l v partial =
       (grid.valid.tasks t.edge partial.3.required).some_demand,
       grid.small_dist (task_end g u) (task_start g t) (head_reached g.inst u.edge u.forward grid.valid (partial_required g us u _ _ partial.2))
           (tail_reached g.inst t.edge t.forward grid.valid partial.3.required),
-      grid.small_adds (t.edge - 1) (omega (arith, partial.3.required.from_one, partial.3.required.in_range)),
+      grid.small_adds t.edge partial.3.required,
       grid.small_surcharges u.edge t.edge (partial_required g us u _ _ partial.2) partial.3.required,
     )
 
@@ -102,14 +102,14 @@ module _ (g : Grid) (grid : IsGrid g) where
   pub between_small : (u t : Task) → IsRequired g.inst u.edge → IsRequired g.inst t.edge → between g (task_end g u) (task_start g t) ≤ 2 ^ 73
   between_small u t u_in t_in = grid.small_dist (task_end g u) (task_start g t) (head_reached g.inst u.edge u.forward grid.valid u_in) (tail_reached g.inst t.edge t.forward grid.valid t_in)
 
-  pub leg_small : (u t : Task) → IsRequired g.inst u.edge → IsRequired g.inst t.edge → leg g u t ≤ 2 ^ 73 + 2 ^ 61
+  pub leg_small : (u t : Task) → IsRequired g.inst u.edge → IsRequired g.inst t.edge → leg g u t ≤ 2 ^ 73 + 2 ^ 62
   leg_small u t u_in t_in = omega (arith, between_small u t u_in t_in, grid.small_surcharges u.edge t.edge u_in t_in)
 
   pub first_small : (t : Task) → IsRequired g.inst t.edge → between g g.inst.depot (task_start g t) ≤ 2 ^ 73
   first_small t t_in = grid.small_dist g.inst.depot (task_start g t) (depot_reached g.inst) (tail_reached g.inst t.edge t.forward grid.valid t_in)
 
-  pub adds_small : (t : Task) → IsRequired g.inst t.edge → adds_of g t ≤ 2 ^ 72
-  adds_small t t_in = grid.small_adds (t.edge - 1) (omega (arith, t_in.from_one, t_in.in_range))
+  pub adds_small : (t : Task) → IsRequired g.inst t.edge → adds_of g t ≤ 2 ^ 77
+  adds_small t t_in = omega (arith, grid.small_adds t.edge t_in, (grid.valid.tasks t.edge t_in).demand_fits, grid.valid.capacity_in)
 
   pub join_small : (t : Task) (l n : ℕ) → IsJoin g l t n → l ≤ g.inst.capacity → IsRequired g.inst t.edge → n ≤ 2 ^ 90
   join_small t l n j fits t_in =
@@ -290,11 +290,11 @@ module _ (g : Grid) (grid : IsGrid g) where
   load_one t v k [] partial = omega (arith, partial.load_is)
   load_one t v k (u ∷ us) partial = omega (arith, partial.3.load_is)
 
-  pub first_one : (t : Task) (v : ℕ) (us : List Task) → IsPartial g us t (demand_of g t) v → v ≡ between g g.inst.depot (task_start g t) + adds_of g t
+  pub first_one : (t : Task) (v : ℕ) (us : List Task) → IsPartial g us t (demand_of g t) v → v ≡ between g g.inst.depot (task_start g t) + (adds_of g t + base)
   first_one t v [] partial = partial.value_is
   first_one t v (u ∷ us) partial = absurd (omega (arith, partial.3.load_is, partial_heavy g grid us u partial.0 partial.1 partial.2))
 
-  pub first_cell : (t : Task) (n : ℕ) → IsRequired g.inst t.edge → n ≡ between g g.inst.depot (task_start g t) + adds_of g t → IsCell g (demand_of g t) t n
+  pub first_cell : (t : Task) (n : ℕ) → IsRequired g.inst t.edge → n ≡ between g g.inst.depot (task_start g t) + (adds_of g t + base) → IsCell g (demand_of g t) t n
   first_cell t n required is = record {
     attained = λ _. record { before = []; partial = record { required = required; load_is = refl; value_is = is } };
     least = λ v reaches. omega (arith, is, first_one t v reaches.before reaches.partial);
@@ -307,7 +307,7 @@ module _ (g : Grid) (grid : IsGrid g) where
   }
 
   pub begun_more : (cells : List ℕ) (column place value : ℕ) → AreBegun g cells column → column < width g → place ≡ cell_place g (demand_of g (column_task column)) column →
-      value ≡ between g g.inst.depot (task_start g (column_task column)) + adds_of g (column_task column) → AreBegun g (slice_set cells place value) (column + 1)
+      value ≡ between g g.inst.depot (task_start g (column_task column)) + (adds_of g (column_task column) + base) → AreBegun g (slice_set cells place value) (column + 1)
   begun_more cells column place value begun below is value_is =
       let required = column_required column below in
       let fits = (grid.valid.tasks (column_task column).edge required).demand_fits in
@@ -317,7 +317,7 @@ module _ (g : Grid) (grid : IsGrid g) where
           | inl same ↦
               ap (λ i. get_or (slice_set cells place value) i 0) (ap (λ d. cell_place g (demand_of g (column_task d)) d) same ∙ sym is)
               ∙ get_or-set_same cells place value 0 (omega (arith, is, place_in _ column cells begun.long fits below)) ∙ value_is
-              ∙ ap (λ d. between g g.inst.depot (task_start g (column_task d)) + adds_of g (column_task d)) (sym same)
+              ∙ ap (λ d. between g g.inst.depot (task_start g (column_task d)) + (adds_of g (column_task d) + base)) (sym same)
           | inr other ↦
               get_or-set_other cells place (cell_place g (demand_of g (column_task c)) c) value 0 (λ e. place_column _ _ c column c_in below other (e ∙ is))
               ∙ begun.first c (omega (arith, before, other)) c_in

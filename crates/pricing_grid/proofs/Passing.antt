@@ -5,9 +5,11 @@ use Rattle.std.proofs.lemmas.List.{length-set, get_or-set_same, get_or-set_other
 use Rattle.std.proofs.lemmas.List.Sums.{sum_by-set}
 use Rattle.carp_base.specs.declared.edge.Task.{Task}
 use Rattle.carp_base.specs.Problem.{IsReached, IsRequired, IsEdgeNumber, TasksLead, edge_at, tail_of, head_of}
-use Rattle.pricing_grid.specs.Partial.{no_value, IsGrid, width, column_task, task_start, task_end, between, leg, surcharge_at, crossed, Reaches, IsCell, IsJoin, IsLeastJoin}
+use Rattle.pricing_grid.specs.Partial.{base, no_value, IsGrid, width, column_task, task_start, task_end, between, leg, charge_at, raised_from, surcharge_at, crossed, Reaches, IsCell, IsJoin, IsLeastJoin}
 use Rattle.pricing_grid.specs.declared.grid.Grid.{Grid}
 use Rattle.pricing_grid.specs.declared.labels.Labels.{Labels}
+use Rattle.pricing_grid.specs.declared.charging.Charge.{Charge}
+use Rattle.pricing_grid.specs.declared.charging.Charge.TheVariants.{Charged, Free}
 use Rattle.pricing_grid.specs.Labels.{no_labels, labels_at, AreTwo, IsBounded, IsInserted, IsFromEither, AreLabelsJoined, IsLayer, IsCarried, AreSoundAt, AreLabelsSound, Keeps, BoundsEnds, label_sum, AreStreetsSettled, AreSpread, label_joined}
 use Rattle.pricing_grid.proofs.Partials.{leads_more, column_of, task_is, column_in, reaches_required, reaches_small, head_reached, tail_reached}
 use Rattle.pricing_grid.proofs.Copies.{reached_in}
@@ -220,16 +222,26 @@ module _ (g : Grid) (grid : IsGrid g) where
     joined_false : (v e n : ℕ) → n ≡ label_joined g v e t → may_edge e ≡ false → n ≡ no_value
     joined_false v e n is excluded = is ∙ ap {B = ℕ} (λ b. cond b (v + extra e) no_value) excluded
 
-    -- what follows the edge of the first label is no less than that label joined, and all else no less than the second label
-    module _ (n : ℕ) (is : n ≡ label_joined g here.first here.first_edge t) where
+    -- surcharges of an edge that has none, and of one of which none is below 0
+    extra_free : charge_at g t.edge ≡ Free → (e : ℕ) → extra e ≡ base
+    extra_free free e = ap {A = Charge} {B = ℕ} (λ c. raised_from c (slice_index g.raised.items ((t.edge - 1) * g.inst.required + (e - 1)))) free
+
+    pub raised_free : charge_at g t.edge ≡ Free → (e : ℕ) → IsRequired g.inst e → base ≤ extra e
+    raised_free free e e_in = omega (arith, extra_free free e)
+
+    pub raised_charged : charge_at g t.edge ≡ Charged → (e : ℕ) → IsRequired g.inst e → base ≤ extra e
+    raised_charged charged e e_in = grid.charged e t.edge e_in t_in charged
+
+    -- what follows the edge of the first label is no less than that label joined, and all else no less than the second label raised
+    module _ (raised : (e : ℕ) → IsRequired g.inst e → base ≤ extra e) (n : ℕ) (is : n ≡ label_joined g here.first here.first_edge t) where
       first_most : (m : ℕ) (j : IsJoin g load t m) → j.last.edge ≡ here.first_edge → n ≤ m
       first_most m j same =
           omega (arith, joined_true here.first here.first_edge n is (subst (λ d. may_edge d ≡ true) same j.allowed), (way_bound m j).first, leg_is m j, ap extra same)
 
-      second_most : (m : ℕ) (j : IsJoin g load t m) → j.last.edge ≢ here.first_edge → here.second ≤ m
-      second_most m j other = omega (arith, (way_bound m j).second other, leg_is m j)
+      second_most : (m : ℕ) (j : IsJoin g load t m) → j.last.edge ≢ here.first_edge → here.second + base ≤ m
+      second_most m j other = omega (arith, (way_bound m j).second other, leg_is m j, raised j.last.edge (reaches_required g grid j.last load j.value j.reaches))
 
-      pub best_first : here.first ≢ no_value → n ≤ here.second → IsLeastJoin g load t n
+      pub best_first : here.first ≢ no_value → n ≤ here.second + base → IsLeastJoin g load t n
       best_first some below = record {
         attained = λ less. elim (cases_Bool (may_edge here.first_edge)) [
           | inl allowed ↦
@@ -244,24 +256,40 @@ module _ (g : Grid) (grid : IsGrid g) where
         ];
       }
 
-      second_least : here.second < n → (m : ℕ) (j : IsJoin g load t m) → here.second ≤ m
+      second_least : here.second + base < n → (m : ℕ) (j : IsJoin g load t m) → here.second + base ≤ m
       second_least above m j = elim (cases_eq j.last.edge here.first_edge) [
         | inl same ↦ omega (arith, above, first_most m j same)
         | inr other ↦ second_most m j other
       ]
 
-      pub best_second : here.second < n → (k : ℕ) → k ≡ label_joined g here.second here.second_edge t → k ≡ here.second → IsLeastJoin g load t here.second
+      pub best_second : here.second + base < n → (k : ℕ) → k ≡ label_joined g here.second here.second_edge t → k ≡ here.second + base → IsLeastJoin g load t k
       best_second above k joined free = record {
         attained = λ less. elim (cases_Bool (may_edge here.second_edge)) [
           | inl allowed ↦
               let sum = joined_true here.second here.second_edge k joined allowed in
-              let none : here.second + extra here.second_edge ≡ here.second = omega (arith, sum, free) in
-              subst (IsJoin g load t) none
-              (label_join here.second here.second_edge ((are.sound at here_in).second less) allowed (λ m j _. omega (arith, none, second_least above m j)))
-          | inr excluded ↦ absurd (omega (arith, less, free, joined_false here.second here.second_edge k joined excluded))
+              subst (IsJoin g load t) (sym sum)
+              (label_join here.second here.second_edge ((are.sound at here_in).second (omega (arith, less, free))) allowed (λ m j _. omega (arith, sum, free, second_least above m j)))
+          | inr excluded ↦ absurd (omega (arith, less, joined_false here.second here.second_edge k joined excluded))
         ];
-        least = second_least above;
+        least = λ m j. omega (arith, free, second_least above m j);
       }
+
+    module _ (free : charge_at g t.edge ≡ Free) where
+      free_true : (v e : ℕ) → may_edge e ≡ true → v + base ≡ label_joined g v e t
+      free_true v e allowed = omega (arith, extra_free free e, ap {B = ℕ} (λ b. cond b (v + extra e) no_value) allowed)
+
+      free_false : (v e : ℕ) → may_edge e ≡ false → no_value ≡ label_joined g v e t
+      free_false v e excluded = sym (ap {B = ℕ} (λ b. cond b (v + extra e) no_value) excluded)
+
+      pub free_first : here.first ≢ no_value → may_edge here.first_edge ≡ true → IsLeastJoin g load t (here.first + base)
+      free_first some allowed = best_first (raised_free free) (here.first + base) (free_true here.first here.first_edge allowed) some (omega (arith, are_two.ordered))
+
+      pub free_none : here.first ≢ no_value → may_edge here.first_edge ≡ false → here.second ≡ no_value → IsLeastJoin g load t no_value
+      free_none some excluded none = best_first (raised_free free) no_value (free_false here.first here.first_edge excluded) some (omega (arith, none))
+
+      pub free_second : here.second + base < no_value → may_edge here.first_edge ≡ false → may_edge here.second_edge ≡ true → IsLeastJoin g load t (here.second + base)
+      free_second less excluded allowed =
+          best_second (raised_free free) no_value (free_false here.first here.first_edge excluded) less (here.second + base) (free_true here.second here.second_edge allowed) refl
 
     -- labels are small
     module _ (fits : load ≤ g.inst.capacity) where
@@ -283,3 +311,6 @@ module _ (g : Grid) (grid : IsGrid g) where
             carried_small here.second here.second_edge c,
             (are.bounds c.last c.own at c.reaches at_reached).second (λ same. are_two.differ less (sym same ∙ c.edge_is)),
           )
+
+      pub second_below_small : here.second ≢ no_value → here.second ≤ 2 ^ 90
+      second_below_small some = second_small_label (second_below some)

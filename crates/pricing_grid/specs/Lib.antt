@@ -1,3 +1,4 @@
 pub mod Partial
 pub mod Labels
 pub mod Pricing
+pub mod Charging

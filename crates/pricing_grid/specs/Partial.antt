@@ -3,11 +3,21 @@
 use Rattle.std.specs.Prelude.{◌≡◌, ◌==◌, ℕ, ◌+◌, ◌-◌, ◌*◌, ◌/◌, ◌%◌, ◌^◌, ◌<◌, ◌≤◌, Bool, true, false, List, [], ◌∷◌, length, slice_index, slice_index_or}
 use Rattle.carp_base.specs.declared.edge.Task.{Task}
 use Rattle.carp_base.specs.Problem.{IsValid, IsRequired, IsEdgeNumber, IsReached, TasksLead, edge_at, tail_of, head_of}
+use Rattle.pricing_grid.specs.declared.charging.Charge.{Charge}
+use Rattle.pricing_grid.specs.declared.charging.Charge.TheVariants.{Free, Charged, Gained}
 use Rattle.pricing_grid.specs.declared.grid.Grid.{Grid}
 
 -- what stands where there is no partial tour
 abbrev pub no_value : ℕ
 no_value = 2 ^ 128 - 1
+
+-- each leg from a task to the next is raised by this, so that none is negative, whatever its surcharge
+abbrev pub base : ℕ
+base = 2305843009213693952
+
+-- each unit of load adds this to the numbers of the table, so that none is negative
+abbrev pub lift : ℕ
+lift = 2306843009213693952
 
 -- the number of tasks, two for each required edge
 abbrev pub width : Grid → ℕ
@@ -30,18 +40,35 @@ demand_of g t = (edge_at g.inst t.edge).demand
 abbrev pub between : Grid → ℕ → ℕ → ℕ
 between g a b = slice_index g.dist.items (a * (g.inst.vertices + 1) + b)
 
--- what serving the edge of a task adds to the value
+-- what serving the edge of a task adds to the value where it follows another: so much less than it is as the leg is raised by
 abbrev pub adds_of : Grid → Task → ℕ
 adds_of g t = slice_index g.adds.items (t.edge - 1)
 
 abbrev pub may_follow : Grid → Task → Task → Bool
 may_follow g t u = slice_index_or g.may.items ((t.edge - 1) * g.inst.required + (u.edge - 1)) false
 
--- what is added where an edge is served directly after another, by their numbers
-abbrev pub surcharge_at : Grid → ℕ → ℕ → ℕ
-surcharge_at g e f = slice_index g.surcharges.items ((e - 1) * g.inst.required + (f - 1))
+-- a raised surcharge, by what is known of all of its edge
+abbrev pub raised_from : Charge → ℕ → ℕ
+raised_from Free n = base
+raised_from Charged n = n
+raised_from Gained n = n
 
--- a leg from a task to the next: the least price of deadheads between them, and the surcharge of their edges
+-- what is known of the surcharges of an edge of a number from 1
+abbrev pub charge_in : List Charge → ℕ → Charge
+charge_in charges f = slice_index_or charges (f - 1) Free
+
+-- the raised surcharge of an edge f that is served directly after e, in the row of f
+abbrev pub raised_in : ℕ → List Charge → List ℕ → ℕ → ℕ → ℕ
+raised_in required charges raised e f = raised_from (charge_in charges f) (slice_index raised ((f - 1) * required + (e - 1)))
+
+abbrev pub charge_at : Grid → ℕ → Charge
+charge_at g f = charge_in g.charges.items f
+
+-- what is added where an edge is served directly after another, by their numbers: their surcharge, raised
+abbrev pub surcharge_at : Grid → ℕ → ℕ → ℕ
+surcharge_at g e f = raised_in g.inst.required g.charges.items g.raised.items e f
+
+-- a leg from a task to the next: the least price of deadheads between them, and the raised surcharge of their edges
 abbrev pub leg : Grid → Task → Task → ℕ
 leg g t u = between g (task_end g t) (task_start g u) + surcharge_at g t.edge u.edge
 
@@ -72,16 +99,18 @@ pub record IsGrid (g : Grid) : Type 0 where
   pub led : (a b : ℕ) → IsReached g.inst a → IsReached g.inst b → IsLedBy g a b
   pub symmetric : (a b : Task) → IsRequired g.inst a.edge → IsRequired g.inst b.edge → may_follow g a b ≡ may_follow g b a
   pub small_dist : (a b : ℕ) → IsReached g.inst a → IsReached g.inst b → between g a b ≤ 2 ^ 73
-  pub small_adds : (e : ℕ) → e < g.inst.required → slice_index g.adds.items e ≤ 2 ^ 72
-  pub surcharges_long : length g.surcharges.items ≡ g.inst.required * g.inst.required
+  pub small_adds : (e : ℕ) → IsRequired g.inst e → slice_index g.adds.items (e - 1) ≤ lift * (edge_at g.inst e).demand + 2 ^ 51
+  pub charges_long : length g.charges.items ≡ g.inst.required
+  pub raised_long : length g.raised.items ≡ g.inst.required * g.inst.required
   pub both_orders : (e f : ℕ) → IsRequired g.inst e → IsRequired g.inst f → surcharge_at g e f ≡ surcharge_at g f e
-  pub small_surcharges : (e f : ℕ) → IsRequired g.inst e → IsRequired g.inst f → surcharge_at g e f ≤ 2 ^ 61
+  pub small_surcharges : (e f : ℕ) → IsRequired g.inst e → IsRequired g.inst f → surcharge_at g e f ≤ 2 ^ 62
+  pub charged : (e f : ℕ) → IsRequired g.inst e → IsRequired g.inst f → charge_at g f ≡ Charged → base ≤ surcharge_at g e f
 
 -- a tour of this one task so far
 pub record IsFirst (g : Grid) (t : Task) (load value : ℕ) : Type 0 where
   pub required : IsRequired g.inst t.edge
   pub load_is : load ≡ demand_of g t
-  pub value_is : value ≡ between g g.inst.depot (task_start g t) + adds_of g t
+  pub value_is : value ≡ between g g.inst.depot (task_start g t) + (adds_of g t + base)
 
 -- a task after a partial tour that ends with another
 pub record IsNext (g : Grid) (u t : Task) (before w load value : ℕ) : Type 0 where
@@ -147,7 +176,7 @@ pub record AreFilled (g : Grid) (cells : List ℕ) (load column : ℕ) : Type 0 
 -- filled with the tours of one task alone, in the columns before one
 pub record AreBegun (g : Grid) (cells : List ℕ) (column : ℕ) : Type 0 where
   pub long : length cells ≡ (g.inst.capacity + 1) * width g
-  pub first : (c : ℕ) → c < column → c < width g → slice_index cells (cell_place g (demand_of g (column_task c)) c) ≡ between g g.inst.depot (task_start g (column_task c)) + adds_of g (column_task c)
+  pub first : (c : ℕ) → c < column → c < width g → slice_index cells (cell_place g (demand_of g (column_task c)) c) ≡ between g g.inst.depot (task_start g (column_task c)) + (adds_of g (column_task c) + base)
   pub empty : (k c : ℕ) → c < width g → k ≤ g.inst.capacity → (k ≡ demand_of g (column_task c) → column ≤ c) → slice_index cells (cell_place g k c) ≡ no_value
 
 -- a task before t from which the least join comes

@@ -2,9 +2,10 @@
 ghost use Rattle.std.specs.Prelude.{◌≡◌, ℕ, ◌+◌, ◌*◌, ◌^◌, ◌<◌, ◌≤◌, ◌-◌, length, slice_index, slice_index_or, false, pos, ◌+ℤ◌, ◌-ℤ◌, All, IfOk};
 ghost use Rattle.carp_base.specs.Problem.{IsVertex, IsRequired, IsEdgeNumber, edge_at};
 ghost use Rattle.carp_base.specs.Allowed.{IsOf, allows};
-ghost use Rattle.pricing_grid.specs.Pricing.{lift, AreSurcharges, IsServicePrice, IsWay, service_price, IsGridOf, IsGridRoom};
+ghost use Rattle.pricing_grid.specs.Pricing.{base, lift, AreSurcharges, IsServicePrice, IsWay, service_price, IsGridOf, IsGridRoom};
 
-use crate::grid::{Grid, LIFT, UNREACHED};
+use crate::charging::{Charge, copy_surcharges};
+use crate::grid::{BASE, Grid, LIFT, UNREACHED};
 use carp_base::{Allowed, Edge, Instance, Memory};
 use deadhead_paths::Distances;
 use road_network::Network;
@@ -21,7 +22,8 @@ impl Grid {
         let dist = vec![in alloc; 0u128; (vertices + 1) * (vertices + 1)]?;
         let lengths = vec![in alloc; 0u128; inst.edge_count() as usize]?;
         let adds = vec![in alloc; 0u128; required]?;
-        let surcharges = vec![in alloc; 0u64; required * required]?;
+        let charges = vec![in alloc; Charge::Free; required]?;
+        let raised = vec![in alloc; 0u64; required * required]?;
         let net = Network::new(alloc, inst)?;
         let inst = inst.copy(alloc)?;
         Ok(Grid {
@@ -31,14 +33,16 @@ impl Grid {
             dist,
             lengths,
             adds,
-            surcharges,
+            charges,
+            raised,
         })
     }
 
     /// Copies what tours are priced by, for the instance that the grid was made for: distances over its streets, a unit of at
     /// most 1,000,000 by which service costs count, a price for each required edge in their order, each within 10^15 either way,
-    /// the pairs of edges that may be served one directly after the other, and a surcharge for each pair. For n vertices, m required edges and E edges it
-    /// takes `n * n + m * m + E` steps, and no memory.
+    /// the pairs of edges that may be served one directly after the other, and a surcharge within 2^61 either way for each pair of required
+    /// edges, in rows, the same in either order, or an empty slice for none. For n vertices, m required edges and E edges it takes
+    /// `n * n + m * m + E` steps, and no memory.
     pub fn copy_from(
         &mut self,
         inst: &Instance,
@@ -46,7 +50,7 @@ impl Grid {
         unit: u64,
         services: &[i64],
         allowed: &Allowed,
-        surcharges: &[u64],
+        surcharges: &[i64],
     )
         requires room { IsGridRoom inst.now self.old }
         requires dist { dist.now.problem ≡ inst.now }
@@ -64,7 +68,7 @@ impl Grid {
         copy_distances(&mut self.dist, dist, vertices);
         copy_lengths(&mut self.lengths, &self.dist, inst);
         copy_services(&mut self.adds, inst, unit, services);
-        self.surcharges.copy_from_slice(surcharges);
+        copy_surcharges(&mut self.charges, &mut self.raised, surcharges, required);
     }
 }
 
@@ -142,29 +146,29 @@ fn way(dist: &Distances, from: u32, to: u32) -> u128
 }
 
 // A number less a price.
-fn less(base: u128, price: &i64) -> u128
-    requires low { 1000000000000000 ≤ base }
-    requires high { base ≤ 2 ^ 71 }
+fn less(number: u128, price: &i64) -> u128
+    requires low { 1000000000000000 ≤ number }
+    requires high { number ≤ 2 ^ 77 }
     requires price { IsServicePrice price.now }
-    ensures value { pos result ≡ pos base -ℤ price.now }
-    ensures small { result ≤ 2 ^ 72 }
+    ensures value { pos result ≡ pos number -ℤ price.now }
+    ensures small { result ≤ number + 1000000000000000 }
 {
     let size = price.unsigned_abs() as u128;
-    if *price < 0 { base + size } else { base - size }
+    if *price < 0 { number + size } else { number - size }
 }
 
-// What serving an edge adds to the numbers of the table.
+// What serving an edge adds to the numbers of the table, where it follows another.
 fn service_adds(edge: &Edge, unit: u64, price: &i64) -> u128
     requires some { 1 ≤ edge.now.demand }
     requires demand { edge.now.demand ≤ 30000 }
     requires service { edge.now.service ≤ 1000000 }
     requires unit { unit ≤ 1000000 }
     requires price { IsServicePrice price.now }
-    ensures value { pos result ≡ pos (unit * edge.now.service) -ℤ price.now +ℤ pos (lift * edge.now.demand) }
-    ensures small { result ≤ 2 ^ 72 }
+    ensures value { pos (result + base) ≡ pos (unit * edge.now.service) -ℤ price.now +ℤ pos (lift * edge.now.demand) }
+    ensures small { result ≤ lift * edge.now.demand + 2 ^ 51 }
 {
-    let base = unit as u128 * edge.service as u128 + LIFT * edge.demand as u128;
-    less(base, price)
+    let lifted = LIFT * edge.demand as u128 - BASE;
+    less(unit as u128 * edge.service as u128 + lifted, price)
 }
 
 fn copy_services(adds: &mut [u128], inst: &Instance, unit: u64, services: &[i64])
@@ -173,8 +177,8 @@ fn copy_services(adds: &mut [u128], inst: &Instance, unit: u64, services: &[i64]
     requires unit { unit ≤ 1000000 }
     requires prices { All IsServicePrice services.now }
     ensures long { length adds.new ≡ inst.now.required }
-    ensures value { (e : ℕ) → IsRequired inst.now e → pos (slice_index adds.new (e - 1)) ≡ pos (unit * (edge_at inst.now e).service) -ℤ service_price services.now e +ℤ pos (lift * (edge_at inst.now e).demand) }
-    ensures small { (e : ℕ) → e < inst.now.required → slice_index adds.new e ≤ 2 ^ 72 }
+    ensures value { (e : ℕ) → IsRequired inst.now e → pos (slice_index adds.new (e - 1) + base) ≡ pos (unit * (edge_at inst.now e).service) -ℤ service_price services.now e +ℤ pos (lift * (edge_at inst.now e).demand) }
+    ensures small { (e : ℕ) → IsRequired inst.now e → slice_index adds.new (e - 1) ≤ lift * (edge_at inst.now e).demand + 2 ^ 51 }
 {
     for e in 0..inst.required() as usize {
         adds[e] = service_adds(&inst.edge(e as u32 + 1), unit, &services[e]);

@@ -1,10 +1,10 @@
 // The cells of a table, and the least partial tour before a task.
 ghost use Rattle.std.specs.Prelude.{◌≡◌, ◌+◌, ◌*◌, ◌<◌, ◌≤◌, length};
-ghost use Rattle.pricing_grid.specs.Partial.{IsGrid, IsLeastJoin, IsLeastFrom, IsPredecessor, IsCell, AreFilled, width, column_task, cell_place, demand_of};
+ghost use Rattle.pricing_grid.specs.Partial.{IsGrid, IsLeastJoin, IsLeastFrom, IsPredecessor, IsCell, AreFilled, adds_of, base, between, task_start, width, column_task, cell_place, demand_of};
 
-use crate::grid::{Grid, UNREACHED};
+use crate::grid::{BASE, Grid, UNREACHED};
 
-/// A column, and the least value of a partial tour that ends with its task, with the way from there to another task; with
+/// A column, and the least value of a partial tour that ends with its task, with the leg from there to another task, raised by [`BASE`]; with
 /// [`UNREACHED`] there is none.
 #[derive(Clone, Copy)]
 pub struct Before {
@@ -23,7 +23,7 @@ impl Grid {
         load * self.width() + column
     }
 
-    // The least value of a partial tour of this load that ends with the task of one column, with the way to that of another.
+    // The least value of a partial tour of this load that ends with the task of one column, with the raised leg to that of another.
     pub(crate) fn join(&self, cells: &[u128], load: usize, before: usize, column: usize) -> u128
         requires grid { IsGrid self.now }
         requires filled { AreFilled self.now cells.now load column }
@@ -41,7 +41,7 @@ impl Grid {
         }
     }
 
-    // The least value of a partial tour of this load that the task may follow, with the way to it.
+    // The least value of a partial tour of this load that the task may follow, with the raised leg to it.
     pub(crate) fn least_join(&self, cells: &[u128], load: usize, column: usize) -> u128
         requires grid { IsGrid self.now }
         requires filled { AreFilled self.now cells.now load column }
@@ -85,7 +85,7 @@ impl Grid {
     }
 
     // The least value of a partial tour that ends with the task of the column, where this is the least of those that it
-    // may follow, with the way to it.
+    // may follow, with the raised leg to it.
     pub(crate) fn extended(&self, best: u128, load: usize, column: usize) -> u128
         requires grid { IsGrid self.now }
         requires best { IsLeastJoin self.now load (column_task column) best }
@@ -101,6 +101,16 @@ impl Grid {
         }
     }
 
+    // The value of the tour of one task so far.
+    fn alone(&self, column: usize) -> u128
+        requires grid { IsGrid self.now }
+        requires column { column < width self.now }
+        ensures { result ≡ between self.now self.now.inst.depot (task_start self.now (column_task column)) + (adds_of self.now (column_task column) + base) }
+    {
+        let way = self.between(self.inst.depot(), self.start(column));
+        way + (self.adds(column) + BASE)
+    }
+
     // Fills the cells of the tours of one task; all others are empty.
     pub(crate) fn begin(&self, cells: &mut [u128])
         requires grid { IsGrid self.now }
@@ -110,7 +120,7 @@ impl Grid {
         cells.fill(UNREACHED);
         for column in 0..self.width() {
             let place = self.place(self.demand(column), column);
-            cells[place] = self.between(self.inst.depot(), self.start(column)) + self.adds(column);
+            cells[place] = self.alone(column);
         }
     }
 }

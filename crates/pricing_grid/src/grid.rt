@@ -1,19 +1,24 @@
 // What a table is filled from: an instance, the pairs that may follow each other, distances, and what services add.
-ghost use Rattle.std.specs.Prelude.{◌≡◌, ◌+◌, ◌*◌, ◌/◌, ◌^◌, ◌<◌, ◌≤◌, length};
+ghost use Rattle.std.specs.Prelude.{◌≡◌, ◌+◌, ◌*◌, ◌/◌, ◌^◌, ◌<◌, ◌≤◌, ◌-◌, length, slice_index};
 ghost use Rattle.carp_base.specs.Problem.{IsVertex, IsRequired, IsFineTask, IsFineEdge, edge_at};
 ghost use Rattle.pricing_grid.specs.Partial.{IsGrid, width, column_task, between, may_follow, adds_of, demand_of, surcharge_at, task_start, task_end};
 
+use crate::charging::Charge;
 use carp_base::{Instance, Task};
 use road_network::Network;
 
 /// A number above the value of each partial tour: it stands where there is none.
 pub const UNREACHED: u128 = u128::MAX;
 
-/// What each unit of load adds to the values, so that none is negative: the greatest price of a service.
-pub const LIFT: u128 = 1_000_000_000_000_000;
+/// What each leg from a task to the next is raised by, so that none is negative: the greatest surcharge, `2^61`.
+pub const BASE: u128 = 2_305_843_009_213_693_952;
+
+/// What each unit of load adds to the values, so that none is negative: the greatest price of a service, and [`BASE`].
+pub const LIFT: u128 = 2_306_843_009_213_693_952;
 
 /// What partial tours are priced by: an instance with its network, the pairs of edges that may follow each other, the least prices
-/// between vertices, a surcharge for each pair, and what serving each edge adds, lifted by [`LIFT`] for each unit of its demand.
+/// between vertices, a surcharge for each pair, raised by [`BASE`], and what serving each edge adds, lifted by [`LIFT`] for each unit
+/// of its demand and less by [`BASE`], since the leg to it is raised.
 ///
 /// A column is a task: that of number 2k serves the required edge k + 1 forward, and the next serves it backward. For n vertices, m required edges
 /// and E edges a grid takes memory for `n * n + m * m + E` numbers.
@@ -26,7 +31,10 @@ pub struct Grid {
     pub(crate) dist: Vec<u128>,
     pub(crate) lengths: Vec<u128>,
     pub(crate) adds: Vec<u128>,
-    pub(crate) surcharges: Vec<u64>,
+    // What is known of the surcharges of each required edge.
+    pub(crate) charges: Vec<Charge>,
+    // The raised surcharges, a row for each edge; not read where an edge has none.
+    pub(crate) raised: Vec<u64>,
 }
 
 impl Grid {
@@ -104,19 +112,32 @@ impl Grid {
         self.may[(before / 2) * self.inst.required() as usize + column / 2]
     }
 
-    // The surcharge of an edge and that of a column, where the column's task is done directly after a task on the edge.
+    // The raised surcharge of an edge and that of a column, where the column's task is done directly after a task on the edge.
     pub(crate) fn surcharge(&self, edge: u32, column: usize) -> u128
         requires grid { IsGrid self.now }
         requires edge { IsRequired self.now.inst edge }
         requires column { column < width self.now }
         ensures value { result ≡ surcharge_at self.now edge (column_task column).edge }
-        ensures small { result ≤ 2 ^ 61 }
+        ensures small { result ≤ 2 ^ 62 }
     {
-        let place = (edge as usize - 1) * self.inst.required() as usize + column / 2;
-        u128::from(self.surcharges[place])
+        match self.charges[column / 2] {
+            Charge::Free => BASE,
+            Charge::Charged | Charge::Gained => self.row_surcharge(edge, column),
+        }
     }
 
-    /// What serving the edge of a column adds to a value, lifted by its demand. It is at most `2^73`.
+    // The number in the row of a column's edge.
+    fn row_surcharge(&self, edge: u32, column: usize) -> u128
+        requires grid { IsGrid self.now }
+        requires edge { IsRequired self.now.inst edge }
+        requires column { column < width self.now }
+        ensures { result ≡ slice_index self.now.raised.items (((column_task column).edge - 1) * self.now.inst.required + (edge - 1)) }
+    {
+        let place = (column / 2) * self.inst.required() as usize + (edge as usize - 1);
+        u128::from(self.raised[place])
+    }
+
+    /// What serving the edge of a column adds to a value, lifted by its demand, and less by [`BASE`]. It is at most `2^77`.
     pub fn adds(&self, column: usize) -> u128
         requires grid { IsGrid self.now }
         requires column { column < width self.now }

@@ -1,10 +1,12 @@
 // Two labels for each vertex.
 ghost use Rattle.std.specs.Prelude.{◌≡◌, ◌+◌, ◌*◌, ◌^◌, ◌<◌, ◌≤◌, ◌-◌, false, length, slice_index_or};
 ghost use Rattle.carp_base.specs.Problem.{IsRequired};
-ghost use Rattle.pricing_grid.specs.Partial.{IsGrid, AreFilled, IsLeastJoin, width, column_task};
+ghost use Rattle.pricing_grid.specs.Partial.{IsGrid, AreFilled, IsLeastJoin, charge_at, width, column_task};
+ghost use Rattle.pricing_grid.specs.declared.charging.Charge.TheVariants.{Charged, Free};
 ghost use Rattle.pricing_grid.specs.Labels.{AreTwo, IsInserted, AreLabelsJoined, IsLayer, AreLabelsSound, BoundsEnds, AreSpread, label_joined};
 
-use crate::grid::{Grid, UNREACHED};
+use crate::charging::Charge;
+use crate::grid::{BASE, Grid, UNREACHED};
 
 /// The least partial tour at a vertex, and the least with another last edge. A caller only holds room for them.
 #[derive(Clone, Copy)]
@@ -125,7 +127,7 @@ impl Grid {
         self.carry(layer, marks);
     }
 
-    // A label with the surcharge of its last edge, where the task of a column may follow it.
+    // A label with the raised surcharge of its last edge, where the task of a column may follow it.
     fn label_joined(&self, value: u128, edge: u32, column: usize) -> u128
         requires grid { IsGrid self.now }
         requires value { value ≤ 2 ^ 90 }
@@ -140,9 +142,7 @@ impl Grid {
         }
     }
 
-    // The least value of a partial tour of this load that the task may follow, with the leg to it: the first of the two labels where
-    // the task starts, with its surcharge, if that is no more than the second; or the second, if it has no surcharge; and else found
-    // among all tasks.
+    // The least value of a partial tour of this load that the task may follow, with the raised leg to it.
     pub(crate) fn best(&self, cells: &[u128], load: usize, layer: &[Labels], column: usize) -> u128
         requires grid { IsGrid self.now }
         requires filled { AreFilled self.now cells.now load column }
@@ -151,16 +151,62 @@ impl Grid {
         requires column { column < width self.now }
         ensures { IsLeastJoin self.now load (column_task column) result }
     {
+        match self.charges[column / 2] {
+            Charge::Free => self.best_free(cells, load, layer, column),
+            Charge::Charged => self.best_charged(cells, load, layer, column),
+            Charge::Gained => self.least_join(cells, load, column),
+        }
+    }
+
+    // The same where the edge of the task has no surcharge: one of the two labels where the task starts, or where it may follow
+    // neither, found among all tasks.
+    fn best_free(&self, cells: &[u128], load: usize, layer: &[Labels], column: usize) -> u128
+        requires grid { IsGrid self.now }
+        requires filled { AreFilled self.now cells.now load column }
+        requires layer { AreSpread self.now load layer.now }
+        requires load { load ≤ self.now.inst.capacity }
+        requires column { column < width self.now }
+        requires free { charge_at self.now (column_task column).edge ≡ Free }
+        ensures { IsLeastJoin self.now load (column_task column) result }
+    {
+        let x = layer[self.start(column) as usize];
+        if x.first == UNREACHED {
+            return UNREACHED;
+        }
+        if self.may_follow_edge(x.first_edge, column) {
+            return x.first + BASE;
+        }
+        if x.second == UNREACHED {
+            return UNREACHED;
+        }
+        if self.may_follow_edge(x.second_edge, column) {
+            return x.second + BASE;
+        }
+        self.least_join(cells, load, column)
+    }
+
+    // The same where no surcharge of the edge of the task is below 0: the first of the two labels where the task starts, with its surcharge, if
+    // that is no more than the second; or the second, if it has no surcharge; and else found among all tasks.
+    fn best_charged(&self, cells: &[u128], load: usize, layer: &[Labels], column: usize) -> u128
+        requires grid { IsGrid self.now }
+        requires filled { AreFilled self.now cells.now load column }
+        requires layer { AreSpread self.now load layer.now }
+        requires load { load ≤ self.now.inst.capacity }
+        requires column { column < width self.now }
+        requires charged { charge_at self.now (column_task column).edge ≡ Charged }
+        ensures { IsLeastJoin self.now load (column_task column) result }
+    {
         let x = layer[self.start(column) as usize];
         if x.first == UNREACHED {
             return UNREACHED;
         }
         let first = self.label_joined(x.first, x.first_edge, column);
-        if first <= x.second {
+        let second = x.second.saturating_add(BASE);
+        if first <= second {
             return first;
         }
-        if self.label_joined(x.second, x.second_edge, column) == x.second {
-            return x.second;
+        if self.label_joined(x.second, x.second_edge, column) == second {
+            return second;
         }
         self.least_join(cells, load, column)
     }
@@ -210,7 +256,8 @@ impl Grid {
     /// At each load two labels stand at each vertex: the least partial tour there, and the least with another last edge. They are
     /// carried over the streets by sweeps over the vertices in rising and falling number in turn, until none changes (Ford 1956,
     /// Moore 1959). For n vertices and m required edges each load takes m steps for the tasks, n for each sweep, and the degree
-    /// of a vertex each time that a sweep finds its labels changed; and m steps for each task that may follow neither label.
+    /// of a vertex each time that a sweep finds its labels changed; and m steps for each task that may follow neither label, for each
+    /// on an edge with a surcharge below 0, and for each on another edge with surcharges for which neither label is seen to serve.
     pub fn fill_by_labels(&self, cells: &mut [u128], layer: &mut [Labels], marks: &mut [bool])
         requires grid { IsGrid self.now }
         requires long { length cells.old ≡ (self.now.inst.capacity + 1) * width self.now }

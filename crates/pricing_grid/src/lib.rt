@@ -7,6 +7,7 @@
 #![tactic(auto)]
 
 mod carrying;
+mod charging;
 mod copying;
 mod examples;
 mod filling;
@@ -14,5 +15,5 @@ mod grid;
 mod labels;
 
 pub use filling::Before;
-pub use grid::{Grid, LIFT, UNREACHED};
+pub use grid::{BASE, Grid, LIFT, UNREACHED};
 pub use labels::{Labels, NO_LABELS};

@@ -3,7 +3,7 @@ use Rattle.std.proofs.Common.{◌≡◌, ℕ, ◌+◌, ◌-◌, ◌*◌, ◌^◌
 use Rattle.std.proofs.lemmas.Int.{ints}
 use Rattle.carp_base.specs.declared.edge.Task.{Task}
 use Rattle.carp_base.specs.Problem.{IsRequired}
-use Rattle.pricing_grid.specs.Partial.{no_value, IsGrid, task_start, demand_of, adds_of, between, Reaches, IsCell}
+use Rattle.pricing_grid.specs.Partial.{base, no_value, IsGrid, task_start, demand_of, adds_of, between, Reaches, IsCell}
 use Rattle.pricing_grid.specs.declared.grid.Grid.{Grid}
 use Rattle.route_pricing.specs.declared.table.Rate.{Rate}
 use Rattle.route_pricing.specs.declared.through.Pair.{Pair}
@@ -40,7 +40,7 @@ module _ (g : Grid) (grid : IsGrid g) (t : Task) (t_in : IsRequired g.inst t.edg
   pub demand_in : demand_of g t ≤ g.inst.capacity
   demand_in = (grid.valid.tasks t.edge t_in).demand_fits
 
-  alone : (s : Task) → IsRequired g.inst s.edge → Reaches g s (demand_of g s) (between g g.inst.depot (task_start g s) + adds_of g s)
+  alone : (s : Task) → IsRequired g.inst s.edge → Reaches g s (demand_of g s) (between g g.inst.depot (task_start g s) + (adds_of g s + base))
   alone s s_in = record { before = []; partial = record { required = s_in; load_is = refl; value_is = refl } }
 
   pub pair_reached : p.weight < no_value
@@ -58,7 +58,7 @@ module _ (g : Grid) (grid : IsGrid g) (t : Task) (t_in : IsRequired g.inst t.edg
 module _ (x : Pricing) (g : Grid) (of : IsGridOf x g) (t : Task) (t_in : IsRequired g.inst t.edge) (r : Rate) (c : ℕ) (few : r.load ≤ 30000) (c_small : c ≤ 2 ^ 100) (c_is : pos c ≡ r.value +ℤ pos (lift * r.load))
     (p : Pair) (least : IsLeastPair g r.load c t p) where
   abbrev pub over : ℕ
-  over = r.load * adds_of g t + c * (g.inst.capacity - demand_of g t + g.inst.capacity)
+  over = r.load * (adds_of g t + base) + c * (g.inst.capacity - demand_of g t + g.inst.capacity)
 
   cells : IsOfCells g r.load c t p
   cells = cells_of g of.grid t t_in r.load c few c_small p least
@@ -77,14 +77,14 @@ module _ (x : Pricing) (g : Grid) (of : IsGridOf x g) (t : Task) (t_in : IsRequi
       let one = load_one g of.grid t pair.v pair.k pair.reaches.before pair.reaches.partial in
       let two = load_one g of.grid (turned t) pair.w pair.j pair.back.before pair.back.partial in
       let most = least.least _ (record { k = pair.k; v = pair.v; reaches = pair.reaches; j = pair.j; w = pair.w; back = pair.back; fits = fits; sum = refl }) in
-      let sum = halves r.load c g.inst.capacity (demand_of g t) (adds_of g t) pair.k pair.v pair.j pair.w (load_of x other) it.1 (omega (arith, fits, two)) (omega (arith, fits, one)) fits_alone pair.load_is pair.home_is in
+      let sum = halves r.load c g.inst.capacity (demand_of g t) (adds_of g t + base) pair.k pair.v pair.j pair.w (load_of x other) it.1 (omega (arith, fits, two)) (omega (arith, fits, one)) fits_alone pair.load_is pair.home_is in
       omega (arith, ints, most, sum, weighed_is r.load c (load_of x other) it.1 v r.value home_is c_is)
 
   -- the weight of the tour of the pair
-  same : (load home k v j w : ℕ) (value : ℤ) (m : ℕ) → load ≡ m → p.first ≡ k → p.back ≡ j → k + j ≡ load + demand_of g t → v + w ≡ home + adds_of g t → pos home ≡ value +ℤ pos (lift * load) →
+  same : (load home k v j w : ℕ) (value : ℤ) (m : ℕ) → load ≡ m → p.first ≡ k → p.back ≡ j → k + j ≡ load + demand_of g t → v + w ≡ home + (adds_of g t + base) → pos home ≡ value +ℤ pos (lift * load) →
       p.weight ≡ weight_of g r.load c k v + weight_of g r.load c j w → pos p.weight -ℤ pos over ≡ weighed r value m
   same load home k v j w value m m_is k_is j_is loads homes home_is weight =
-      let sum = halves r.load c g.inst.capacity (demand_of g t) (adds_of g t) k v j w load home (omega (arith, cells.first_in, k_is)) (omega (arith, cells.back_in, j_is)) fits_alone loads homes in
+      let sum = halves r.load c g.inst.capacity (demand_of g t) (adds_of g t + base) k v j w load home (omega (arith, cells.first_in, k_is)) (omega (arith, cells.back_in, j_is)) fits_alone loads homes in
       subst (λ n. pos p.weight -ℤ pos over ≡ weighed r value n) m_is (omega (arith, ints, weight, sum, weighed_is r.load c load home value r.value home_is c_is))
 
   pub least_through : (weight : ℤ) → weight ≡ pos p.weight -ℤ pos over → IsLeastThrough x t.edge r weight
@@ -94,7 +94,7 @@ module _ (x : Pricing) (g : Grid) (of : IsGridOf x g) (t : Task) (t_in : IsRequi
       let load = p.first + turns.k in
       let home = cells.v + turns.w in
       let loads : p.first + p.back ≡ load + demand_of g t = omega (arith, turns.load_is) in
-      let homes : cells.v + cells.w ≡ home + adds_of g t = omega (arith, turns.value_is) in
+      let homes : cells.v + cells.w ≡ home + (adds_of g t + base) = omega (arith, turns.value_is) in
       let pair : IsPair g t load home = record { k = p.first; v = cells.v; reaches = cells.cell.attained cells.reached; j = p.back; w = cells.w; back = back; load_is = loads; home_is = homes } in
       let made = pair_serving x g of t load home (omega (arith, cells.fits, loads)) pair in
       record {
@@ -118,7 +118,7 @@ module _ (x : Pricing) (g : Grid) (of : IsGridOf x g) (t : Task) (t_in : IsRequi
       let v_is = cells_same t p.first is.v cells.v is.cell cells.cell cells.reached in
       let w_is = cells_same (turned t) p.back is.w cells.w is.back_cell cells.back_cell cells.back_reached in
       let load_is : is.load ≡ load_of x tasks = sym made.4 ∙ sym (load_same x g of tasks) in
-      let homes : cells.v + cells.w ≡ is.home + adds_of g t = omega (arith, is.home_is, v_is, w_is) in
+      let homes : cells.v + cells.w ≡ is.home + (adds_of g t + base) = omega (arith, is.home_is, v_is, w_is) in
       let own = same is.load is.home p.first cells.v p.back cells.w made.1 (load_of x tasks) load_is refl refl is.load_is homes made.3 cells.sum in
       record {
         deadhead = made.0;

@@ -44,14 +44,6 @@ adds_nothing (suc zero) from_one in_range = refl
 adds_nothing (suc (suc zero)) from_one in_range = refl
 adds_nothing (suc (suc (suc e))) from_one in_range = absurd (omega (arith, in_range))
 
--- no pair of the two has a surcharge
-pub no_surcharge : (k : ℕ) → get_or {A = ℕ} (0 ∷ 0 ∷ 0 ∷ 0 ∷ []) k 0 ≡ 0
-no_surcharge zero = refl
-no_surcharge (suc zero) = refl
-no_surcharge (suc (suc zero)) = refl
-no_surcharge (suc (suc (suc zero))) = refl
-no_surcharge (suc (suc (suc (suc k)))) = refl
-
 -- the first of the two may be followed by the second
 pub allowed : (a b : ℕ) → (a ≡ 1) × (b ≡ 2) → IsAllowed paid_twins a b
 allowed a b is = cc

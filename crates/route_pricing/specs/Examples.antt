@@ -1,5 +1,5 @@
 -- Small data for the examples beside the tests. No public contract speaks of this.
-use Rattle.std.specs.Prelude.{ℕ, true, false, [], ◌∷◌, List, ℤ, pos}
+use Rattle.std.specs.Prelude.{ℕ, true, false, [], ◌∷◌, List, ℤ, pos, neg_ℤ}
 use Rattle.carp_base.specs.declared.edge.Edge.{Edge}
 use Rattle.carp_base.specs.declared.edge.Task.{Task}
 use Rattle.carp_base.specs.Problem.{Problem}
@@ -21,7 +21,7 @@ twins_at services = record {
   unit = 2;
   services = services;
   relation = record { size = 2; table = false ∷ true ∷ true ∷ false ∷ [] };
-  surcharges = 0 ∷ 0 ∷ 0 ∷ 0 ∷ [];
+  surcharges = [];
 }
 
 -- with the prices 10 and 8 for the services
@@ -30,7 +30,11 @@ paid_twins = twins_at (pos 10 ∷ pos 8 ∷ [])
 
 -- the same with a surcharge of 3 where one is served directly after the other
 abbrev pub charged_twins : Pricing
-charged_twins = record paid_twins { surcharges = 0 ∷ 3 ∷ 3 ∷ 0 ∷ [] }
+charged_twins = record paid_twins { surcharges = pos 0 ∷ pos 3 ∷ pos 3 ∷ pos 0 ∷ [] }
+
+-- the same where 3 is gained
+abbrev pub gained_twins : Pricing
+gained_twins = record paid_twins { surcharges = pos 0 ∷ neg_ℤ (pos 3) ∷ neg_ℤ (pos 3) ∷ pos 0 ∷ [] }
 
 -- each street served from the depot and to it
 abbrev pub outward : ℕ → Task
