@@ -13,7 +13,7 @@ use Rattle.deadhead_paths.specs.Prices.{costs_of}
 use Rattle.deadhead_paths.specs.Tours.{IsTaskTour}
 use Rattle.pricing_grid.specs.Pricing.{AreSurcharges, IsSurcharge, Pricing, IsAllowed, IsServicePrice, service_adds}
 use Rattle.branch_rules.specs.Bonds.{IsSurchargeTable}
-use Rattle.branch_rules.specs.Limits.{IsGroupSurcharge}
+use Rattle.branch_rules.specs.Limits as limits
 use Rattle.route_pricing.specs.Tables.{IsFilled}
 use Rattle.route_pricing.specs.declared.table.Ratio.{Ratio}
 use Rattle.route_pricing.specs.declared.table.Table.{Table}
@@ -106,11 +106,11 @@ module _ (p : Problem) (r : Relation) (all : AllowsAll p.required r) (surcharges
       found_from_table found (says cost_pricing second (cost_is_free valid))
 
 -- the table without groups is one of surcharges
-pub none_charged : (m : ℕ) (surcharges : List ℤ) → IsSurchargeTable m [] surcharges → All IsGroupSurcharge surcharges → AreSurcharges m surcharges
+pub none_charged : (m : ℕ) (surcharges : List ℤ) → IsSurchargeTable m [] surcharges → All limits.IsSurcharge surcharges → AreSurcharges m surcharges
 none_charged m surcharges charged small = record {
   long = charged.long;
   both_orders = λ e f e_from e_in f_from f_in. charged.same e f e_from e_in f_from f_in ∙ sym (charged.same f e f_from f_in e_from e_in);
-  small = All-weaker IsGroupSurcharge IsSurcharge (λ s is. record { low = omega (arith, ints, is.low); high = omega (arith, ints, is.high) }) surcharges small;
+  small = All-weaker limits.IsSurcharge IsSurcharge (λ s is. record { low = omega (arith, ints, is.low); high = omega (arith, ints, is.high) }) surcharges small;
 }
 
 -- services at cost are within the limits of the table

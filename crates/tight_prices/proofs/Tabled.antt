@@ -12,7 +12,7 @@ use Rattle.deadhead_paths.specs.Tours.{IsFollowed, IsTaskTour}
 use Rattle.decision_chains.specs.declared.decision.Decision.{Decision}
 use Rattle.decision_chains.specs.Exclusions.{Excluded, PermitsUnexcluded}
 use Rattle.branch_rules.specs.Laws.{FitsBranch, SurchargeIsSymmetric, SurchargesAreBondWeights}
-use Rattle.branch_rules.specs.Limits.{IsGroupSurcharge}
+use Rattle.branch_rules.specs.Limits as limits
 use Rattle.branch_rules.specs.Bonds.{GroupWeight, IsSurchargeTable, bond_weight, surcharge, surcharges_after}
 use Rattle.branch_rules.specs.Prices.{Prices, PaysAtLeast, crossing_prices, signed_sum, task_adds}
 use Rattle.branch_rules.specs.Refusals.{NoneTooHeavy}
@@ -200,9 +200,9 @@ filled_for p pool branch set relation table prices unit services surcharges_now 
     }
 
 -- the table of the surcharges of groups is one of surcharges
-pub are_surcharges : SurchargeIsSymmetric → (m : ℕ) (groups : List GroupWeight) (table : List ℤ) → IsSurchargeTable m groups table → All IsGroupSurcharge table → AreSurcharges m table
+pub are_surcharges : SurchargeIsSymmetric → (m : ℕ) (groups : List GroupWeight) (table : List ℤ) → IsSurchargeTable m groups table → All limits.IsSurcharge table → AreSurcharges m table
 are_surcharges symmetric m groups table charged small = record {
   long = charged.long;
   both_orders = λ e f e_from e_in f_from f_in. charged.same e f e_from e_in f_from f_in ∙ symmetric groups e f ∙ sym (charged.same f e f_from f_in e_from e_in);
-  small = All-weaker IsGroupSurcharge IsSurcharge (λ s is. record { low = omega (arith, ints, is.low); high = omega (arith, ints, is.high) }) table small;
+  small = All-weaker limits.IsSurcharge IsSurcharge (λ s is. record { low = omega (arith, ints, is.low); high = omega (arith, ints, is.high) }) table small;
 }

@@ -2,7 +2,7 @@ use Rattle.std.proofs.Common.{All, [], sym, subst, ◌∙◌, arith}
 use Rattle.pricing_grid.specs.Pricing.{IsServicePrice}
 use Rattle.floor_prices.proofs.Packed.{costs_small}
 use Rattle.branch_rules.specs.Bonds.{IsSurchargeTable}
-use Rattle.branch_rules.specs.Limits.{IsGroupSurcharge}
+use Rattle.branch_rules.specs.Limits as limits
 use Rattle.floor_prices.proofs.Tabled.{costs_servable, none_charged, ratio_from_filled}
 use Rattle.floor_prices.proofs.ratio.least_ratio.Goals as goal
 
@@ -17,7 +17,7 @@ fill-requires-clause-surcharges c =
     none_charged c.args.inst.now.required c.deref-2.result.now
     (subst (λ n. IsSurchargeTable n [] c.deref-2.result.now) c.required.ensures.value
     (subst (IsSurchargeTable c.required.result []) (sym c.deref-2.ensures.value) c.in_ok-surcharges.ensures.table))
-    (subst (All IsGroupSurcharge) (sym c.deref-2.ensures.value) c.in_ok-surcharges.ensures.small)
+    (subst (All limits.IsSurcharge) (sym c.deref-2.ensures.value) c.in_ok-surcharges.ensures.within)
 
 pub returns-clause-value : goal.returns-clause-value
 returns-clause-value c =

@@ -9,7 +9,7 @@ fill-requires-clause-surcharges c =
     subst (λ n. AreSurcharges n c.deref-3.result.now) c.required.ensures.value
     (subst (AreSurcharges c.required.result) (sym c.deref-3.ensures.value)
     (are_surcharges c.surcharges_are_bond_weights.ensures.symmetric c.required.result c.groups.result.now c.in_ok-surcharges.surcharges.items c.in_ok-surcharges.ensures.table
-    c.in_ok-surcharges.ensures.small))
+    c.in_ok-surcharges.ensures.within))
 
 pub returns-clause-filled : goal.returns-clause-filled
 returns-clause-filled c so =
