@@ -98,9 +98,9 @@ pays_found g set table Pays says pays = refl
 pays_found g set table (Lacks value) says pays = absurd (says.0 pays)
 pays_found g set table TooHeavy says pays = absurd (says pays.light)
 
-pub fits_by : (g : Ground) (set : Prices) (table : Table) (found : Probe) (uppers yes answer : Bool) → ProbeSays g set table found → (IsTrue uppers ↔ All (HasUpper g.branch) set.weights) →
-    (IsTrue yes ↔ All (HasYes g.branch) set.groups) → (IsTrue answer → IsTrue uppers × IsTrue yes × (found ≡ Pays)) → (IsTrue uppers → IsTrue yes → found ≡ Pays → IsTrue answer) → length set.services ≡ g.problem.required → (IsTrue answer ↔ FitsBranch g.problem g.pool g.branch set)
-fits_by g set table found uppers yes answer says upper said yes' no' long = (to, back)
+pub fits_by : (g : Ground) (set : Prices) (table : Table) (found : Probe) (uppers pairs answer : Bool) → ProbeSays g set table found → (IsTrue uppers ↔ All (HasUpper g.branch) set.weights) →
+    (IsTrue pairs ↔ All (HasYes g.branch) set.groups) → (IsTrue answer → IsTrue uppers × IsTrue pairs × (found ≡ Pays)) → (IsTrue uppers → IsTrue pairs → found ≡ Pays → IsTrue answer) → length set.services ≡ g.problem.required → (IsTrue answer ↔ FitsBranch g.problem g.pool g.branch set)
+fits_by g set table found uppers pairs answer says upper said yes' no' long = (to, back)
   where
     to : IsTrue answer → FitsBranch g.problem g.pool g.branch set
     to so =
