@@ -5,3 +5,4 @@ pub mod Inserting
 pub mod Passing
 pub mod Ways
 pub mod Marking
+pub mod LeastGains

@@ -1,6 +1,6 @@
 -- Labels carried over streets, until each street passes on those of both its ends.
 use Rattle.std.proofs.Common.{◌≡◌, ◌≢◌, ℕ, ◌+◌, ◌-◌, ◌*◌, ◌^◌, ◌<◌, ◌≤◌, Bool, true, false, cond, List, [], ◌∷◌, ◌++◌, length, slice_index, slice_set, get_or, refl, sym, ap, ◌∙◌, arith, inl, inr, subst, ◌⊎◌}
-use Rattle.std.proofs.lemmas.Bool.{cases_Bool, cases_eq}
+use Rattle.std.proofs.lemmas.Bool.{cases_Bool, cases_eq, cases_lt}
 use Rattle.std.proofs.lemmas.List.{length-set, get_or-set_same, get_or-set_other}
 use Rattle.std.proofs.lemmas.List.Sums.{sum_by-set}
 use Rattle.carp_base.specs.declared.edge.Task.{Task}
@@ -9,8 +9,9 @@ use Rattle.pricing_grid.specs.Partial.{base, no_value, IsGrid, width, column_tas
 use Rattle.pricing_grid.specs.declared.grid.Grid.{Grid}
 use Rattle.pricing_grid.specs.declared.labels.Labels.{Labels}
 use Rattle.pricing_grid.specs.declared.charging.Charge.{Charge}
-use Rattle.pricing_grid.specs.declared.charging.Charge.TheVariants.{Charged, Free}
+use Rattle.pricing_grid.specs.declared.charging.Charge.TheVariants.{Free}
 use Rattle.pricing_grid.specs.Labels.{no_labels, labels_at, AreTwo, IsBounded, IsInserted, IsFromEither, AreLabelsJoined, IsLayer, IsCarried, AreSoundAt, AreLabelsSound, Keeps, BoundsEnds, label_sum, AreStreetsSettled, AreSpread, label_joined}
+use Rattle.pricing_grid.specs.Charging.{IsGain}
 use Rattle.pricing_grid.proofs.Partials.{leads_more, column_of, task_is, column_in, reaches_required, reaches_small, head_reached, tail_reached}
 use Rattle.pricing_grid.proofs.Copies.{reached_in}
 
@@ -222,56 +223,50 @@ module _ (g : Grid) (grid : IsGrid g) where
     joined_false : (v e n : ℕ) → n ≡ label_joined g v e t → may_edge e ≡ false → n ≡ no_value
     joined_false v e n is excluded = is ∙ ap {B = ℕ} (λ b. cond b (v + extra e) no_value) excluded
 
-    -- surcharges of an edge that has none, and of one of which none is below 0
+    -- surcharges of an edge that has none
     extra_free : charge_at g t.edge ≡ Free → (e : ℕ) → extra e ≡ base
     extra_free free e = ap {A = Charge} {B = ℕ} (λ c. raised_from c (slice_index g.raised.items ((t.edge - 1) * g.inst.required + (e - 1)))) free
 
-    pub raised_free : charge_at g t.edge ≡ Free → (e : ℕ) → IsRequired g.inst e → base ≤ extra e
-    raised_free free e e_in = omega (arith, extra_free free e)
-
-    pub raised_charged : charge_at g t.edge ≡ Charged → (e : ℕ) → IsRequired g.inst e → base ≤ extra e
-    raised_charged charged e e_in = grid.charged e t.edge e_in t_in charged
-
-    -- what follows the edge of the first label is no less than that label joined, and all else no less than the second label raised
-    module _ (raised : (e : ℕ) → IsRequired g.inst e → base ≤ extra e) (n : ℕ) (is : n ≡ label_joined g here.first here.first_edge t) where
+    -- what follows the edge of the first label is no less than that label joined, what gains no less than the least of both, and all else no less than the second label raised
+    module _ (n : ℕ) (is : n ≡ label_joined g here.first here.first_edge t) (low : ℕ) (most : low ≤ n) (either : (low ≡ n) ⊎ (low < no_value → IsJoin g load t low)) (gains : (m : ℕ) (j : IsJoin g load t m) → IsGain g j.last t → low ≤ m) where
       first_most : (m : ℕ) (j : IsJoin g load t m) → j.last.edge ≡ here.first_edge → n ≤ m
       first_most m j same =
           omega (arith, joined_true here.first here.first_edge n is (subst (λ d. may_edge d ≡ true) same j.allowed), (way_bound m j).first, leg_is m j, ap extra same)
 
-      second_most : (m : ℕ) (j : IsJoin g load t m) → j.last.edge ≢ here.first_edge → here.second + base ≤ m
-      second_most m j other = omega (arith, (way_bound m j).second other, leg_is m j, raised j.last.edge (reaches_required g grid j.last load j.value j.reaches))
-
-      pub best_first : here.first ≢ no_value → n ≤ here.second + base → IsLeastJoin g load t n
-      best_first some below = record {
-        attained = λ less. elim (cases_Bool (may_edge here.first_edge)) [
-          | inl allowed ↦
-              let sum = joined_true here.first here.first_edge n is allowed in
-              subst (IsJoin g load t) (sym sum)
-              (label_join here.first here.first_edge ((are.sound at here_in).first (first_below some)) allowed (λ m j same. omega (arith, sum, first_most m j same)))
-          | inr excluded ↦ absurd (omega (arith, less, joined_false here.first here.first_edge n is excluded))
-        ];
-        least = λ m j. elim (cases_eq j.last.edge here.first_edge) [
-          | inl same ↦ first_most m j same
-          | inr other ↦ omega (arith, below, second_most m j other)
-        ];
-      }
-
-      second_least : here.second + base < n → (m : ℕ) (j : IsJoin g load t m) → here.second + base ≤ m
-      second_least above m j = elim (cases_eq j.last.edge here.first_edge) [
-        | inl same ↦ omega (arith, above, first_most m j same)
-        | inr other ↦ second_most m j other
+      lesser : (k : ℕ) → k ≤ low → k ≤ here.second + base → (m : ℕ) (j : IsJoin g load t m) → k ≤ m
+      lesser k one two m j = elim (cases_lt (extra j.last.edge) base) [
+        | inl gain ↦ omega (arith, one, gains m j gain)
+        | inr more ↦ elim (cases_eq j.last.edge here.first_edge) [
+          | inl same ↦ omega (arith, one, most, first_most m j same)
+          | inr other ↦ omega (arith, two, more, (way_bound m j).second other, leg_is m j)
+        ]
       ]
 
-      pub best_second : here.second + base < n → (k : ℕ) → k ≡ label_joined g here.second here.second_edge t → k ≡ here.second + base → IsLeastJoin g load t k
+      pub best_first : here.first ≢ no_value → low ≤ here.second + base → IsLeastJoin g load t low
+      best_first some below = record {
+        attained = λ less. elim either [
+          | inl same ↦ elim (cases_Bool (may_edge here.first_edge)) [
+            | inl allowed ↦
+                let sum = joined_true here.first here.first_edge n is allowed in
+                subst (IsJoin g load t) (sym (same ∙ sum))
+                (label_join here.first here.first_edge ((are.sound at here_in).first (first_below some)) allowed (λ m j own. omega (arith, sum, first_most m j own)))
+            | inr excluded ↦ absurd (omega (arith, less, same, joined_false here.first here.first_edge n is excluded))
+          ]
+          | inr join ↦ join less
+        ];
+        least = lesser low (omega arith) below;
+      }
+
+      pub best_second : here.second + base < low → (k : ℕ) → k ≡ label_joined g here.second here.second_edge t → k ≡ here.second + base → IsLeastJoin g load t k
       best_second above k joined free = record {
         attained = λ less. elim (cases_Bool (may_edge here.second_edge)) [
           | inl allowed ↦
               let sum = joined_true here.second here.second_edge k joined allowed in
               subst (IsJoin g load t) (sym sum)
-              (label_join here.second here.second_edge ((are.sound at here_in).second (omega (arith, less, free))) allowed (λ m j _. omega (arith, sum, free, second_least above m j)))
-          | inr excluded ↦ absurd (omega (arith, less, joined_false here.second here.second_edge k joined excluded))
+              (label_join here.second here.second_edge ((are.sound at here_in).second (omega (arith, less, free))) allowed (λ m j _. omega (arith, sum, lesser k (omega (arith, above, free)) (omega (arith, free)) m j)))
+          | inr excluded ↦ absurd (omega (arith, less, free, joined_false here.second here.second_edge k joined excluded))
         ];
-        least = λ m j. omega (arith, free, second_least above m j);
+        least = lesser k (omega (arith, above, free)) (omega (arith, free));
       }
 
     module _ (free : charge_at g t.edge ≡ Free) where
@@ -281,15 +276,22 @@ module _ (g : Grid) (grid : IsGrid g) where
       free_false : (v e : ℕ) → may_edge e ≡ false → no_value ≡ label_joined g v e t
       free_false v e excluded = sym (ap {B = ℕ} (λ b. cond b (v + extra e) no_value) excluded)
 
+      none_gains : (low m : ℕ) (j : IsJoin g load t m) → IsGain g j.last t → low ≤ m
+      none_gains low m j is = absurd (omega (arith, is, extra_free free j.last.edge))
+
       pub free_first : here.first ≢ no_value → may_edge here.first_edge ≡ true → IsLeastJoin g load t (here.first + base)
-      free_first some allowed = best_first (raised_free free) (here.first + base) (free_true here.first here.first_edge allowed) some (omega (arith, are_two.ordered))
+      free_first some allowed =
+          let n = here.first + base in
+          best_first n (free_true here.first here.first_edge allowed) n (omega arith) (inl refl) (none_gains n) some (omega (arith, are_two.ordered))
 
       pub free_none : here.first ≢ no_value → may_edge here.first_edge ≡ false → here.second ≡ no_value → IsLeastJoin g load t no_value
-      free_none some excluded none = best_first (raised_free free) no_value (free_false here.first here.first_edge excluded) some (omega (arith, none))
+      free_none some excluded none =
+          best_first no_value (free_false here.first here.first_edge excluded) no_value (omega arith) (inl refl) (none_gains no_value) some (omega (arith, none))
 
       pub free_second : here.second + base < no_value → may_edge here.first_edge ≡ false → may_edge here.second_edge ≡ true → IsLeastJoin g load t (here.second + base)
       free_second less excluded allowed =
-          best_second (raised_free free) no_value (free_false here.first here.first_edge excluded) less (here.second + base) (free_true here.second here.second_edge allowed) refl
+          best_second no_value (free_false here.first here.first_edge excluded) no_value (omega arith) (inl refl) (none_gains no_value) less (here.second + base)
+          (free_true here.second here.second_edge allowed) refl
 
     -- labels are small
     module _ (fits : load ≤ g.inst.capacity) where

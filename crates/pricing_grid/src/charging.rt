@@ -78,7 +78,11 @@ fn raised_by_base(surcharge: &i64) -> u64
     ensures small { result ≤ 2 * base }
 {
     let size = surcharge.unsigned_abs();
-    if *surcharge < 0 { RAISE - size } else { RAISE + size }
+    if *surcharge < 0 {
+        RAISE - size
+    } else {
+        RAISE + size
+    }
 }
 
 // What is known of the surcharges of each edge.

@@ -154,7 +154,11 @@ fn less(number: u128, price: &i64) -> u128
     ensures small { result ≤ number + 1000000000000000 }
 {
     let size = price.unsigned_abs() as u128;
-    if *price < 0 { number + size } else { number - size }
+    if *price < 0 {
+        number + size
+    } else {
+        number - size
+    }
 }
 
 // What serving an edge adds to the numbers of the table, where it follows another.

@@ -1,7 +1,7 @@
 // What a table is filled from: an instance, the pairs that may follow each other, distances, and what services add.
 ghost use Rattle.std.specs.Prelude.{◌≡◌, ◌+◌, ◌*◌, ◌/◌, ◌^◌, ◌<◌, ◌≤◌, ◌-◌, length, slice_index};
 ghost use Rattle.carp_base.specs.Problem.{IsVertex, IsRequired, IsFineTask, IsFineEdge, edge_at};
-ghost use Rattle.pricing_grid.specs.Partial.{IsGrid, width, column_task, between, may_follow, adds_of, demand_of, surcharge_at, task_start, task_end};
+ghost use Rattle.pricing_grid.specs.Partial.{IsGrid, width, column_task, between, may_follow, adds_of, charge_at, demand_of, surcharge_at, task_start, task_end};
 
 use crate::charging::Charge;
 use carp_base::{Instance, Task};
@@ -110,6 +110,15 @@ impl Grid {
         ensures { result ≡ may_follow self.now (column_task before) (column_task column) }
     {
         self.may[(before / 2) * self.inst.required() as usize + column / 2]
+    }
+
+    // What is known of the surcharges of the edge of a column.
+    pub(crate) fn charge(&self, column: usize) -> Charge
+        requires grid { IsGrid self.now }
+        requires column { column < width self.now }
+        ensures { result ≡ charge_at self.now (column_task column).edge }
+    {
+        self.charges[column / 2]
     }
 
     // The raised surcharge of an edge and that of a column, where the column's task is done directly after a task on the edge.

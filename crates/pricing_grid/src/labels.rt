@@ -1,8 +1,9 @@
 // Two labels for each vertex.
-ghost use Rattle.std.specs.Prelude.{◌≡◌, ◌+◌, ◌*◌, ◌^◌, ◌<◌, ◌≤◌, ◌-◌, false, length, slice_index_or};
+ghost use Rattle.std.specs.Prelude.{◌≡◌, ◌+◌, ◌*◌, ◌^◌, ◌<◌, ◌≤◌, ◌-◌, ◌⊎◌, false, length, slice_index_or};
 ghost use Rattle.carp_base.specs.Problem.{IsRequired};
 ghost use Rattle.pricing_grid.specs.Partial.{IsGrid, AreFilled, IsLeastJoin, charge_at, width, column_task};
-ghost use Rattle.pricing_grid.specs.declared.charging.Charge.TheVariants.{Charged, Free};
+ghost use Rattle.pricing_grid.specs.declared.charging.Charge.TheVariants.{Free};
+ghost use Rattle.pricing_grid.specs.Charging.{IsLeastGain};
 ghost use Rattle.pricing_grid.specs.Labels.{AreTwo, IsInserted, AreLabelsJoined, IsLayer, AreLabelsSound, BoundsEnds, AreSpread, label_joined};
 
 use crate::charging::Charge;
@@ -151,10 +152,13 @@ impl Grid {
         requires column { column < width self.now }
         ensures { IsLeastJoin self.now load (column_task column) result }
     {
-        match self.charges[column / 2] {
+        match self.charge(column) {
             Charge::Free => self.best_free(cells, load, layer, column),
-            Charge::Charged => self.best_charged(cells, load, layer, column),
-            Charge::Gained => self.least_join(cells, load, column),
+            Charge::Charged => self.best_charged(cells, load, layer, column, UNREACHED),
+            Charge::Gained => {
+                let gain = self.least_gain(cells, load, column);
+                self.best_charged(cells, load, layer, column, gain)
+            }
         }
     }
 
@@ -185,15 +189,23 @@ impl Grid {
         self.least_join(cells, load, column)
     }
 
-    // The same where no surcharge of the edge of the task is below 0: the first of the two labels where the task starts, with its surcharge, if
-    // that is no more than the second; or the second, if it has no surcharge; and else found among all tasks.
-    fn best_charged(&self, cells: &[u128], load: usize, layer: &[Labels], column: usize) -> u128
+    // The same where the least of those with a surcharge below 0 is known: that, or the first of the two labels where the task starts
+    // with its surcharge, if the less of them is no more than the second label; or the second, if it has no surcharge; and else found
+    // among all tasks.
+    fn best_charged(
+        &self,
+        cells: &[u128],
+        load: usize,
+        layer: &[Labels],
+        column: usize,
+        gain: u128,
+    ) -> u128
         requires grid { IsGrid self.now }
         requires filled { AreFilled self.now cells.now load column }
         requires layer { AreSpread self.now load layer.now }
         requires load { load ≤ self.now.inst.capacity }
         requires column { column < width self.now }
-        requires charged { charge_at self.now (column_task column).edge ≡ Charged }
+        requires gain { IsLeastGain self.now load (column_task column) gain }
         ensures { IsLeastJoin self.now load (column_task column) result }
     {
         let x = layer[self.start(column) as usize];
@@ -201,9 +213,10 @@ impl Grid {
             return UNREACHED;
         }
         let first = self.label_joined(x.first, x.first_edge, column);
+        let least = lesser(first, gain);
         let second = x.second.saturating_add(BASE);
-        if first <= second {
-            return first;
+        if least <= second {
+            return least;
         }
         if self.label_joined(x.second, x.second_edge, column) == second {
             return second;
@@ -256,8 +269,8 @@ impl Grid {
     /// At each load two labels stand at each vertex: the least partial tour there, and the least with another last edge. They are
     /// carried over the streets by sweeps over the vertices in rising and falling number in turn, until none changes (Ford 1956,
     /// Moore 1959). For n vertices and m required edges each load takes m steps for the tasks, n for each sweep, and the degree
-    /// of a vertex each time that a sweep finds its labels changed; and m steps for each task that may follow neither label, for each
-    /// on an edge with a surcharge below 0, and for each on another edge with surcharges for which neither label is seen to serve.
+    /// of a vertex each time that a sweep finds its labels changed; and m steps for each task on an edge with a surcharge below 0, and
+    /// for each other one that may follow neither label, or for which, with surcharges, neither is seen to be least.
     pub fn fill_by_labels(&self, cells: &mut [u128], layer: &mut [Labels], marks: &mut [bool])
         requires grid { IsGrid self.now }
         requires long { length cells.old ≡ (self.now.inst.capacity + 1) * width self.now }
@@ -272,4 +285,12 @@ impl Grid {
             self.extend_by_labels(cells, layer, marks, load);
         }
     }
+}
+
+fn lesser(a: u128, b: u128) -> u128
+    ensures first { result ≤ a }
+    ensures second { result ≤ b }
+    ensures either { (result ≡ a) ⊎ (result ≡ b) }
+{
+    if b < a { b } else { a }
 }

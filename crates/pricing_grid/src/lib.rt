@@ -11,6 +11,7 @@ mod charging;
 mod copying;
 mod examples;
 mod filling;
+mod gaining;
 mod grid;
 mod labels;
 

@@ -1,4 +1,4 @@
-use Rattle.std.proofs.Common.{◌≡◌, ℕ, ◌+◌, ◌-◌, ◌*◌, ◌<◌, ◌≤◌, ◌^◌, length, slice_index, pos, ◌+ℤ◌, ◌-ℤ◌}
+use Rattle.std.proofs.Common.{◌≡◌, ℕ, ◌+◌, ◌-◌, ◌*◌, ◌≤◌, ◌^◌, length, slice_index, pos, ◌+ℤ◌, ◌-ℤ◌}
 use Rattle.carp_base.specs.Problem.{IsRequired, edge_at}
 use Rattle.pricing_grid.specs.Pricing.{base, lift, service_price}
 use Rattle.pricing_grid.proofs.copying.copy_services.Given as goal

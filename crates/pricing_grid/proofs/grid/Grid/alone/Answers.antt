@@ -1,5 +1,5 @@
 use Rattle.std.proofs.Common.{arith, ap, ◌∙◌}
-use Rattle.pricing_grid.specs.Partial.{column_task, between, task_start}
+use Rattle.pricing_grid.specs.Partial.{column_task, between}
 use Rattle.pricing_grid.proofs.Partials.{first_small, adds_small, column_required}
 use Rattle.pricing_grid.proofs.grid.Grid.alone.Goals as goal
 
