@@ -71,7 +71,7 @@ surcharges s (e ∷ es) = surcharges_after s e es
 abbrev pub entry : ℕ → List ℤ → ℕ → ℕ → ℤ
 entry m table e f = slice_index_or table ((e - 1) * m + (f - 1)) (pos 0)
 
--- a table has the surcharge of each pair of the first m edges; where all surcharges are 0 it may be empty
+-- a table has the surcharge of each pair of the first m edges; if all surcharges are 0 it may be empty
 pub record IsSurchargeTable (m : ℕ) (groups : List GroupWeight) (table : List ℤ) : Type 0 where
   pub long : (length table ≡ m * m) ⊎ (length table ≡ 0)
   pub same : (e f : ℕ) → 1 ≤ e → e ≤ m → 1 ≤ f → f ≤ m → entry m table e f ≡ surcharge groups e f

@@ -1,6 +1,6 @@
 -- A price set that fits an instance fits a raised one.
 use Rattle.std.proofs.Common.{◌≡◌, ℕ, zero, suc, ◌≤◌, List, [], ◌∷◌, refl, sym, ap, subst, ◌∙◌, arith, ℤ, pos, negsuc, ◌≤ℤ◌, ◌<ℤ◌, nat_abs, IsSome, mul-le-mul_left}
-use Rattle.std.specs.Prelude.{sum_by}
+use Rattle.std.specs.Prelude.{IsTrue, sum_by}
 use Rattle.std.specs.List.{AllByRecursion}
 use Rattle.std.proofs.lemmas.Int.{ints}
 use Rattle.std.proofs.lemmas.List.{get_or-map}
@@ -12,9 +12,10 @@ use Rattle.deadhead_paths.specs.Laws.{LeastDeadheadIsThere}
 use Rattle.deadhead_paths.specs.Prices.{IsLeastPrice, price_of}
 use Rattle.deadhead_paths.specs.Tours.{IsTaskTour, LeastDeadhead}
 use Rattle.decision_chains.specs.declared.decision.Decision.{Decision}
-use Rattle.decision_chains.specs.Exclusions.{Excluded}
+use Rattle.decision_chains.specs.Exclusions.{Excluded, IsYes}
 use Rattle.branch_rules.specs.declared.weight.Weight.{Weight}
-use Rattle.branch_rules.specs.Decisions.{lowest}
+use Rattle.branch_rules.specs.Bonds.{GroupWeight}
+use Rattle.branch_rules.specs.Decisions.{is_yes_pair, lowest}
 use Rattle.branch_rules.specs.Prices.{PaysAtLeast, Prices, crossing_prices, crossing_weight, deadhead_price, signed_sum, task_adds}
 use Rattle.branch_rules.specs.Refusals.{NoneTooHeavy}
 use Rattle.raised_instances.specs.Raised.{IsNoCheaper, IsRaised}
@@ -121,13 +122,26 @@ uppers_there before after uppers [] all = tt
 uppers_there before after uppers (w ∷ ws) all =
     (λ negative. subst (λ o. IsSome o) (sym (uppers w.shore)) (all.0 negative), uppers_there before after uppers ws all.1)
 
+yes_pair_there : (before after : List Decision) → ((a b : ℕ) → IsYes before a b → IsYes after a b) → (group : List ℕ) → IsTrue (is_yes_pair before group) → IsTrue (is_yes_pair after group)
+yes_pair_there before after says [] is = cc
+yes_pair_there before after says (a ∷ []) is = cc
+yes_pair_there before after says (a ∷ b ∷ []) is = says a b is
+yes_pair_there before after says (a ∷ b ∷ c ∷ rest) is = cc
+
+yeses_there : (before after : List Decision) → ((a b : ℕ) → IsYes before a b → IsYes after a b) → (groups : List GroupWeight) →
+    AllByRecursion (λ w. w.weight <ℤ pos 0 → IsTrue (is_yes_pair before w.edges)) groups → AllByRecursion (λ w. w.weight <ℤ pos 0 → IsTrue (is_yes_pair after w.edges)) groups
+yeses_there before after says [] all = tt
+yeses_there before after says (w ∷ groups) all =
+    (λ negative. yes_pair_there before after says w.edges (all.0 negative), yeses_there before after says groups all.1)
+
 pub deadheads_stay : DeadheadsStayLight
 deadheads_stay old new pool set raised light = light_there pool set old new raised light
 
 pub sets_stay : LeastDeadheadIsThere → SetsStayFit
-sets_stay found old new pool before after set valid valid' raised uppers excluded fits = record {
+sets_stay found old new pool before after set valid valid' raised uppers says excluded fits = record {
   not_negative = light_there pool set old new raised fits.not_negative;
   has_upper = uppers_there before after uppers set.weights fits.has_upper;
+  has_yes = yeses_there before after says set.groups fits.has_yes;
   tours = pays_there pool set old new raised valid valid' fits.not_negative found (λ a b. ¬ (Excluded old before a b)) (λ a b. ¬ (Excluded new after a b))
       (λ a b free out. free (excluded a b out)) fits.tours;
 }

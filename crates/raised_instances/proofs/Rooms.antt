@@ -1,13 +1,15 @@
 -- A group has no more room where demands rise.
-use Rattle.std.proofs.Common.{◌≡◌, ℕ, zero, suc, ◌*◌, ◌≤◌, List, length, refl, ap, arith, inl, inr, ◌⊎◌}
+use Rattle.std.proofs.Common.{◌≡◌, ℕ, zero, suc, ◌≤◌, List, [], ◌∷◌, length, refl, ap, arith, inl, inr, ◌⊎◌, ℤ, pos, negsuc, ◌≤ℤ◌}
 use Rattle.std.specs.Int.{div_ceil}
 use Rattle.std.proofs.lemmas.Bool.{cases_lt}
+use Rattle.std.proofs.lemmas.Int.{ints}
 use Rattle.std.proofs.lemmas.List.{get_or_past}
 use Rattle.std.proofs.lemmas.List.Sums.{sum_by-le-sum_by}
 use Rattle.std.proofs.Math.Nat.{mul-le-mul_left}
 use Rattle.carp_base.specs.declared.edge.Edge.{Edge}
 use Rattle.carp_base.specs.Problem.{Problem, IsValid, IsRequired, edge_at, no_edge}
-use Rattle.branch_rules.specs.Bonds.{GroupWeight, group_demand, room}
+use Rattle.branch_rules.specs.Bonds.{group_demand, room}
+use Rattle.branch_rules.specs.Prices.{weigh_bonds}
 use Rattle.raised_instances.specs.Raised.{IsRaised}
 use Rattle.raised_instances.specs.Laws.{RoomsFall, RoomWeightsFall}
 use Rattle.raised_instances.proofs.Rising.{required_less}
@@ -50,7 +52,17 @@ module _ (old new : Problem) (valid : IsValid old) (valid' : IsValid new) (raise
 pub rooms_fall : RoomsFall
 rooms_fall old new valid valid' raised group = room_falls old new valid valid' raised group
 
+-- less room takes no more
+weigh_less : (z : ℤ) (less room : ℕ) → less ≤ room → weigh_bonds z less ≤ℤ weigh_bonds z room
+weigh_less (pos w) less room falls = omega (arith, ints, mul-le-mul_left w falls)
+weigh_less (negsuc w) less room falls = omega (arith, ints)
+
 pub room_weights_fall : RoomWeightsFall
-room_weights_fall old new pool before after valid valid' raised groups =
-    sum_by-le-sum_by (λ (w : GroupWeight). w.weight * room new w.edges) (λ w. w.weight * room old w.edges) groups
-    (λ w. mul-le-mul_left w.weight (room_falls old new valid valid' raised w.edges))
+room_weights_fall old new pool before after valid valid' raised [] = omega (arith, ints)
+room_weights_fall old new pool before after valid valid' raised (w ∷ groups) =
+    omega (
+      arith,
+      ints,
+      weigh_less w.weight (room new w.edges) (room old w.edges) (room_falls old new valid valid' raised w.edges),
+      room_weights_fall old new pool before after valid valid' raised groups,
+    )

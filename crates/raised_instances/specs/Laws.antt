@@ -1,5 +1,5 @@
 -- What holds in an instance and stays when its numbers rise.
-use Rattle.std.specs.Prelude.{◌≡◌, ℕ, ◌≤◌, ◌↔◌, Bool, [], List}
+use Rattle.std.specs.Prelude.{◌≡◌, ℕ, ◌≤◌, ◌≤ℤ◌, ◌↔◌, Bool, [], List}
 use Rattle.carp_base.specs.Problem.{Problem, IsValid, IsRequired}
 use Rattle.cut_pool.specs.Shores.{need, required_crossings}
 use Rattle.decision_chains.specs.declared.decision.Decision.{Decision}
@@ -32,16 +32,17 @@ RoomsFall = (old new : Problem) → IsValid old → IsValid new → IsRaised old
 -- the bonds of a price set can weigh no more than they could, so that its value is no lower on their account
 abbrev pub RoomWeightsFall : Type 0
 RoomWeightsFall = (old new : Problem) (pool : List (List ℕ)) (before after : List Decision) → IsValid old → IsValid new → IsRaised old new →
-    (groups : List GroupWeight) → room_weight (rules_of new pool after) groups ≤ room_weight (rules_of old pool before) groups
+    (groups : List GroupWeight) → room_weight (rules_of new pool after) groups ≤ℤ room_weight (rules_of old pool before) groups
 
 -- no deadhead price that was not negative becomes so
 abbrev pub DeadheadsStayLight : Type 0
 DeadheadsStayLight = (old new : Problem) (pool : List (List ℕ)) (set : Prices) → IsRaised old new → NoneTooHeavy old pool set → NoneTooHeavy new pool set
 
--- a price set that fits under a branch fits under one with the same upper numbers that excludes what that branch did
+-- a price set that fits under a branch fits under one with the same upper numbers that says yes to the pairs that it did and excludes what it did
 abbrev pub SetsStayFit : Type 0
 SetsStayFit = (old new : Problem) (pool : List (List ℕ)) (before after : List Decision) (set : Prices) → IsValid old → IsValid new → IsRaised old new →
-    ((shore : ℕ) → lowest shore after ≡ lowest shore before) → ((a b : ℕ) → Excluded old before a b → Excluded new after a b) →
+    ((shore : ℕ) → lowest shore after ≡ lowest shore before) → ((a b : ℕ) → IsYes before a b → IsYes after a b) →
+    ((a b : ℕ) → Excluded old before a b → Excluded new after a b) →
     Fits old pool (rules_of old pool before) (λ a b. ¬ (Excluded old before a b)) set → Fits new pool (rules_of new pool after) (λ a b. ¬ (Excluded new after a b)) set
 
 -- with the same yes pairs, which are of required edges, chains cost no less than they did

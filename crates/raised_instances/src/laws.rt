@@ -14,13 +14,14 @@ pub fn raised_needs_are_no_less()
     ensures { NeedsRise }
 {}
 
-/// In a raised instance a group has no more room for bonds, and what the bonds of groups can weigh is no more.
+/// In a raised instance a group has no more room for bonds, and the most that the bonds of groups can weigh is no more.
 pub fn raised_rooms_are_no_more()
     ensures rooms { RoomsFall }
     ensures weights { RoomWeightsFall }
 {}
 
-/// A price set that fits an instance fits a raised one, also under a branch that has the same upper numbers and excludes no fewer pairs.
+/// A price set that fits an instance fits a raised one, also under a branch that has the same upper numbers, says yes to no fewer pairs and
+/// excludes no fewer.
 pub fn raised_sets_stay_fit()
     ensures deadheads { DeadheadsStayLight }
     ensures fit { SetsStayFit }
