@@ -22,6 +22,6 @@ triangle counts = record {
   bound = 16;
   plan = triangle_plan;
   shores = [];
-  sets = record { unit = 1; services = pos 5 ∷ pos 7 ∷ pos 4 ∷ []; weights = [] } ∷ [];
+  sets = record { unit = 1; services = pos 5 ∷ pos 7 ∷ pos 4 ∷ []; weights = []; groups = [] } ∷ [];
   nodes = Price 1 ∷ [];
 }

@@ -126,6 +126,6 @@ ShoreJudged (Good item) vertices said new = HoldsDraft new (shore (length vertic
 
 -- what is made of weights
 abbrev pub WeightsJudged : Verdict → List Weight → LatestFirst → Draft → Type 0
-WeightsJudged Syntax ws said new = HoldsDraft new said × (IsPriceSet (record { unit = unit_of said; services = services_of said; weights = ws }) → ⊥)
+WeightsJudged Syntax ws said new = HoldsDraft new said × (IsPriceSet (record { unit = unit_of said; services = services_of said; weights = ws; groups = [] }) → ⊥)
 WeightsJudged Limit ws said new = ⊥
-WeightsJudged (Good item) ws said new = HoldsDraft new (weights (length ws) ws ∷ said) × IsPriceSet (record { unit = unit_of said; services = services_of said; weights = ws }) × (item ≡ Quiet)
+WeightsJudged (Good item) ws said new = HoldsDraft new (weights (length ws) ws ∷ said) × IsPriceSet (record { unit = unit_of said; services = services_of said; weights = ws; groups = [] }) × (item ≡ Quiet)

@@ -242,7 +242,7 @@ impl Draft {
         requires bounded { IsBounded self.old }
         requires next { self.old.next ≡ stands.Weights left }
         ensures bounded { IsBounded self.new }
-        ensures fine { IfOk result (λ fine. IsTrue fine ↔ IsPriceSet (record { unit = self.old.unit; services = self.old.services.items; weights = weights.now })) }
+        ensures fine { IfOk result (λ fine. IsTrue fine ↔ IsPriceSet (record { unit = self.old.unit; services = self.old.services.items; weights = weights.now; groups = [] })) }
         ensures held { (said : LatestFirst) → HoldsDraft self.old said → IfOk result (λ fine. IsTrue fine
             → HoldsDraft self.new (said_by.weights (length weights.now) weights.now ∷ said)) }
         ensures same { IfOk result (λ fine. fine ≡ false → self.new ≡ self.old) }
@@ -370,7 +370,7 @@ fn walk_of(alloc: Global, steps: &[Step]) -> Result<Walk, Memory>
 
 // Whether these are the prices and the weights of a price set.
 fn is_price_set(unit: u64, services: &[i64], weights: &[Weight]) -> bool
-    ensures { IsTrue result ↔ IsPriceSet (record { unit = unit; services = services.now; weights = weights.now }) }
+    ensures { IsTrue result ↔ IsPriceSet (record { unit = unit; services = services.now; weights = weights.now; groups = [] }) }
 {
     1 <= unit
         && unit <= 1_000_000

@@ -1,6 +1,7 @@
 -- A certificate in plain ranges can be spelled.
 use Rattle.std.proofs.Common.{◌≡◌, ℕ, ◌^◌, ◌<◌, ◌≤◌, List, [], ◌∷◌, ◌++◌, map, length, Option, Some, None, IfSome, refl, sym, ap, subst, ◌∙◌, arith}
-use Rattle.std.proofs.lemmas.List.Elements.{recursion_from_All}
+use Rattle.std.specs.List.{All}
+use Rattle.std.proofs.lemmas.List.Elements.{All-weaker, recursion_from_All}
 use Rattle.cut_pool.specs.Pools.{AreDifferent}
 use Rattle.cert_lines.specs.declared.counts.Counts.{Counts}
 use Rattle.cert_lines.specs.declared.next.Next.TheVariants as stands
@@ -8,7 +9,7 @@ use Rattle.cert_lines.specs.Lines.{Line, cost, bound, tours, shores, sets}
 use Rattle.cert_lines.specs.Order.{next_of}
 use Rattle.cert_lines.specs.Certificates.{Certificate, steps_of, shores_of, sets_of}
 use Rattle.cert_lines.specs.Ranges.{AreCountsInRange}
-use Rattle.cert_lines.specs.Spelling.{AreGood, IsSpellable, IsFine, IsFineShore, IsFineSet, IsFineNode, version_lines, tour_line}
+use Rattle.cert_lines.specs.Spelling.{AreGood, HasNoGroups, IsSpellable, IsFine, IsFineShore, IsFineSet, IsFineNode, version_lines, tour_line}
 use Rattle.cert_lines.proofs.Listed.{listed}
 use Rattle.cert_lines.proofs.Spelled.{tours_said, shores_said, sets_said, head_said, plan_said, pool_said, prices_said}
 use Rattle.cert_lines.proofs.InOrder.{grouped, node_lines, price_lines, pool_lines}
@@ -36,22 +37,26 @@ pub shores_of_pool : (c : Certificate) → shores_of (pool_said c) ≡ c.shores
 shores_of_pool c =
     ap (λ (d : Certificate). d.shores) (shores_said c.shores (shores (length c.shores) ∷ plan_said c)) ∙ ap (λ (pool : List (List ℕ)). pool ++ c.shores) (shores_of_plan c)
 
-pub shores_of_prices : (c : Certificate) → shores_of (prices_said c) ≡ c.shores
-shores_of_prices c = ap (λ (d : Certificate). d.shores) (sets_said c.sets (sets (length c.sets) ∷ pool_said c)) ∙ shores_of_pool c
+pub shores_of_prices : (c : Certificate) → All HasNoGroups c.sets → shores_of (prices_said c) ≡ c.shores
+shores_of_prices c none =
+    ap (λ (d : Certificate). d.shores) (sets_said c.sets (sets (length c.sets) ∷ pool_said c) (recursion_from_All HasNoGroups c.sets none)) ∙ shores_of_pool c
 
-pub sets_of_prices : (c : Certificate) → sets_of (prices_said c) ≡ c.sets
-sets_of_prices c =
-    ap (λ (d : Certificate). d.sets) (sets_said c.sets (sets (length c.sets) ∷ pool_said c))
+pub sets_of_prices : (c : Certificate) → All HasNoGroups c.sets → sets_of (prices_said c) ≡ c.sets
+sets_of_prices c none =
+    ap (λ (d : Certificate). d.sets) (sets_said c.sets (sets (length c.sets) ∷ pool_said c) (recursion_from_All HasNoGroups c.sets none))
     ∙ ap (λ all. all ++ c.sets) (ap (λ (d : Certificate). d.sets) (shores_said c.shores (shores (length c.shores) ∷ plan_said c))
     ∙ ap (λ (d : Certificate). d.sets) (tours_said c.plan (head_said c)) ∙ no_sets c c.counts)
 
 -- The groups, from the last to the first.
 
+none_in : (c : Certificate) → IsFine c → All HasNoGroups c.sets
+none_in c fine = All-weaker (IsFineSet c.shores) HasNoGroups (λ set one. one.no_groups) c.sets fine.sets_fine
+
 nodes_fit : (c : Certificate) → IsFine c → next_of (prices_said c) ≡ stands.Nodes → AreGood (prices_said c) (node_lines c.nodes)
 nodes_fit c fine at =
     nodes_good c.nodes fine.tree (length c.shores) (length c.sets) fine.in_preorder fine.few_nodes
     (recursion_from_All (IsFineNode (length c.shores) (length c.sets)) c.nodes fine.nodes_fine) (prices_said c) at
-    (record { borders_are = ap length (shores_of_prices c); units_are = ap length (sets_of_prices c) })
+    (record { borders_are = ap length (shores_of_prices c (none_in c fine)); units_are = ap length (sets_of_prices c (none_in c fine)) })
 
 sets_fit : (c : Certificate) → IsFine c → next_of (pool_said c) ≡ stands.Sets → AreGood (pool_said c) (price_lines c.sets c.nodes)
 sets_fit c fine at = (
@@ -86,7 +91,9 @@ head_fits c (Some x) price low n lines size_in price_in low_in few good =
     (refl, tt, tt, (refl, size_in, tt, (refl, price_in, tt, (refl, low_in, tt, (refl, few, tt, good)))))
 
 pub fine_spellable : (c : Certificate) → IsFine c → IsSpellable c
-fine_spellable c fine =
-    subst (λ (lines : List Line). AreGood [] lines) (sym (grouped c))
-    (head_fits c c.counts c.cost c.bound (length c.plan) (map tour_line c.plan ++ pool_lines c.shores c.sets c.nodes) fine.counts_in fine.cost_in fine.bound_in fine.few_tours
-    (plan_fits c fine))
+fine_spellable c fine = record {
+  lines = subst (λ (lines : List Line). AreGood [] lines) (sym (grouped c))
+      (head_fits c c.counts c.cost c.bound (length c.plan) (map tour_line c.plan ++ pool_lines c.shores c.sets c.nodes) fine.counts_in fine.cost_in fine.bound_in fine.few_tours
+      (plan_fits c fine));
+  no_groups = none_in c fine;
+}

@@ -83,7 +83,7 @@ only_sets (sets n) h = (n, refl)
 only_sets _ h = absurd (false≢true h)
 
 pub only_prices : (said : LatestFirst) (left : ℕ) (line : Line) → IsTrue (follows (stands.Prices left) line) → Agrees said line → (set : Prices) × (line ≡ prices set.unit (length set.services) set.services)
-only_prices said left (prices unit n services) h agrees = (record { unit = unit; services = services; weights = [] }, ap (λ (k : ℕ). prices unit k services) (sym agrees))
+only_prices said left (prices unit n services) h agrees = (record { unit = unit; services = services; weights = []; groups = [] }, ap (λ (k : ℕ). prices unit k services) (sym agrees))
 only_prices said left _ h agrees = absurd (false≢true h)
 
 pub only_weights : (said : LatestFirst) (left : ℕ) (set : Prices) (line : Line) → IsTrue (follows (stands.Weights left) line) → Agrees said line →

@@ -1,8 +1,9 @@
 -- A text is the spelling of its certificate.
 use Rattle.std.proofs.Common.{◌≡◌, ℕ, ◌⊎◌, inl, inr, List, [], ◌∷◌, ◌++◌, map, length, Option, Some, None, IsTrue, refl, sym, ap, subst, ◌∙◌, append_assoc}
-use Rattle.std.specs.List.{flat_map}
-use Rattle.std.proofs.lemmas.List.{append-nil}
+use Rattle.std.specs.List.{All, AllByRecursion, flat_map}
+use Rattle.std.proofs.lemmas.List.{append-nil, length-map}
 use Rattle.std.proofs.lemmas.List.Concat.{flat_map_single}
+use Rattle.std.proofs.lemmas.List.Elements.{All-from_recursion}
 use Rattle.plan_model.specs.declared.step.Step.{Step}
 use Rattle.branch_rules.specs.Prices.{Prices}
 use Rattle.branch_rules.specs.declared.node.Node.{Node}
@@ -12,10 +13,10 @@ use Rattle.cert_lines.specs.declared.next.Next.TheVariants as stands
 use Rattle.cert_lines.specs.Lines.{Line, version, cost, bound, tours, shores, sets, nodes, node, end}
 use Rattle.cert_lines.specs.Order.{LatestFirst, next_of, follows}
 use Rattle.cert_lines.specs.Certificates.{Certificate, certificate_of}
-use Rattle.cert_lines.specs.Spelling.{version_lines, tour_line, shore_line, set_lines, lines_of, text_of, whole_line, AreGood, IsSpellable}
+use Rattle.cert_lines.specs.Spelling.{version_lines, tour_line, shore_line, set_lines, lines_of, text_of, whole_line, AreGood, HasNoGroups, IsSpellable}
 use Rattle.cert_lines.specs.Texts.{IsTextOf, parts_of}
 use Rattle.cert_lines.proofs.Listed.{listed, read_lines, text_of_lines}
-use Rattle.cert_lines.proofs.Spelled.{lines_said, all_said, all_is}
+use Rattle.cert_lines.proofs.Spelled.{lines_said, all_said, all_is, bare}
 use Rattle.cert_lines.proofs.Followed.{Ends, first_line, only_version, only_counts, only_cost, only_bound, only_tours, only_shores, only_sets, only_nodes, only_end, none_after, Items, all_items, AreTours, AreShores, AreSets, AreNodes, one_tour, one_shore, one_node, next_tour, next_shore, next_set, next_node}
 
 -- the version, with the numbers of the instance
@@ -178,13 +179,40 @@ in_groups c = version_lines c.counts ++ (cost c.cost ∷ (bound c.bound ∷ plan
 pub grouped : (c : Certificate) → lines_of c ≡ in_groups c
 grouped c = rw (append_assoc, append_assoc, append_assoc, append_assoc) refl
 
-pub lines_of_one : (lines : List Line) → Ends [] lines → (c : Certificate) × (lines ≡ lines_of c)
+-- a price set has the lines that it has without its groups
+bare_lines : (all : List Prices) → flat_map set_lines (map bare all) ≡ flat_map set_lines all
+bare_lines [] = refl
+bare_lines (set ∷ all) = ap (λ (lines : List Line). set_lines set ++ lines) (bare_lines all)
+
+all_bare : (all : List Prices) → AllByRecursion HasNoGroups (map bare all)
+all_bare [] = tt
+all_bare (set ∷ all) = (refl, all_bare all)
+
+bare_pool : (pool : List (List ℕ)) (all : List Prices) (list : List Node) → pool_lines pool all list ≡ pool_lines pool (map bare all) list
+bare_pool pool all list =
+    λ i. shores (length pool) ∷ (map shore_line pool ++ (sets (sym (length-map all bare) i) ∷ (sym (bare_lines all) i ++ node_lines list)))
+
+-- a certificate that has these lines, and no groups
+record IsLinesOf (lines : List Line) : Type 0 where
+  c : Certificate
+  are : lines ≡ lines_of c
+  none : All HasNoGroups c.sets
+
+lines_of_one : (lines : List Line) → Ends [] lines → IsLinesOf lines
 lines_of_one lines ends =
     let head = head_of lines ends in
     let values = values_in (listed (version_lines head.size) []) head.rest head.next head.ends in
     let later = tours_follow (bound values.low ∷ (cost values.price ∷ listed (version_lines head.size) [])) values.rest refl values.ends in
-    let c : Certificate = record { counts = head.size; cost = values.price; bound = values.low; plan = later.0; shores = later.1; sets = later.2; nodes = later.3 } in
-    (c, head.is ∙ (λ i. version_lines head.size ++ values.is i) ∙ (λ i. version_lines head.size ++ (cost values.price ∷ (bound values.low ∷ later.4 i))) ∙ sym (grouped c))
+    let c : Certificate =
+    record { counts = head.size; cost = values.price; bound = values.low; plan = later.0; shores = later.1; sets = map bare later.2; nodes = later.3 } in
+    let plan : values.rest ≡ plan_lines later.0 later.1 (map bare later.2) later.3 =
+    later.4 ∙ (λ i. tours (length later.0) ∷ (map tour_line later.0 ++ bare_pool later.1 later.2 later.3 i)) in
+    record {
+      c = c;
+      are = head.is ∙ (λ i. version_lines head.size ++ values.is i) ∙ (λ i. version_lines head.size ++ (cost values.price ∷ (bound values.low ∷ plan i)))
+          ∙ sym (grouped c);
+      none = All-from_recursion HasNoGroups (map bare later.2) (all_bare later.2);
+    }
 
 -- Texts.
 
@@ -193,22 +221,26 @@ record IsOne (bytes : List ℕ) (c : Certificate) : Type 0 where
   good : AreGood [] lines
   are : lines ≡ lines_of c
   text : bytes ≡ flat_map whole_line lines
+  none : All HasNoGroups c.sets
 
 is_one : (bytes : List ℕ) (c : Certificate) → IsTextOf bytes c → IsOne bytes c
 is_one bytes c is =
     let all = read_lines [] (parts_of bytes) is.said [] is.reads in
     let one = lines_of_one all.lines (record { good = all.good; whole = ap next_of (sym all.is) ∙ is.whole }) in
-    let said : is.said ≡ all_said one.0 = all.is ∙ ap (λ (lines : List Line). listed lines []) one.1 ∙ lines_said one.0 in
-    let same : one.0 ≡ c = sym (all_is one.0) ∙ ap certificate_of (sym said) ∙ sym is.is in
+    let said : is.said ≡ all_said one.c = all.is ∙ ap (λ (lines : List Line). listed lines []) one.are ∙ lines_said one.c in
+    let same : one.c ≡ c = sym (all_is one.c one.none) ∙ ap certificate_of (sym said) ∙ sym is.is in
     record {
       lines = all.lines;
       good = all.good;
-      are = one.1 ∙ ap lines_of same;
+      are = one.are ∙ ap lines_of same;
       text = text_of_lines bytes is.said [] all ∙ append-nil (flat_map whole_line all.lines);
+      none = subst (λ (d : Certificate). All HasNoGroups d.sets) same one.none;
     }
 
 pub read_spellable : (bytes : List ℕ) (c : Certificate) → IsTextOf bytes c → IsSpellable c
-read_spellable bytes c is = let one = is_one bytes c is in subst (λ (lines : List Line). AreGood [] lines) one.are one.good
+read_spellable bytes c is =
+    let one = is_one bytes c is in
+    record { lines = subst (λ (lines : List Line). AreGood [] lines) one.are one.good; no_groups = one.none }
 
 pub read_spelled : (bytes : List ℕ) (c : Certificate) → IsTextOf bytes c → bytes ≡ text_of c
 read_spelled bytes c is = let one = is_one bytes c is in one.text ∙ ap (flat_map whole_line) one.are

@@ -1,14 +1,14 @@
 -- A certificate that can be spelled has its numbers in plain ranges, different shores, and a tree in preorder.
 use Rattle.std.proofs.Common.{◌≡◌, ℕ, ◌^◌, ◌<◌, ◌≤◌, List, [], ◌∷◌, ◌++◌, map, length, Option, Some, None, IfSome, ap, subst, arith}
 use Rattle.std.specs.List.{All}
-use Rattle.std.proofs.lemmas.List.Elements.{All-from_recursion}
+use Rattle.std.proofs.lemmas.List.Elements.{All-from_recursion, recursion_from_All}
 use Rattle.cut_pool.specs.Pools.{AreDifferent}
 use Rattle.plan_model.specs.declared.step.Step.{Step}
 use Rattle.cert_lines.specs.declared.counts.Counts.{Counts}
 use Rattle.cert_lines.specs.Lines.{Line, cost, bound, tours, shores, sets, nodes, end}
 use Rattle.cert_lines.specs.Certificates.{Certificate, shores_of}
 use Rattle.cert_lines.specs.Ranges.{AreCountsInRange, IsWithin}
-use Rattle.cert_lines.specs.Spelling.{AreGood, IsSpellable, IsFine, IsFineShore, IsFineSet, IsFineNode, version_lines, tour_line}
+use Rattle.cert_lines.specs.Spelling.{AreGood, HasNoGroups, IsSpellable, IsFine, IsFineShore, IsFineSet, IsFineNode, version_lines, tour_line}
 use Rattle.cert_lines.proofs.Listed.{listed}
 use Rattle.cert_lines.proofs.Spelled.{head_said, plan_said, pool_said, prices_said}
 use Rattle.cert_lines.proofs.InOrder.{grouped, node_lines, price_lines, pool_lines}
@@ -35,7 +35,7 @@ none_different pool none i j one two same = absurd (omega (arith, ap length none
 head_of : (c : Certificate) → IsSpellable c → SaysHead c.counts c.cost c.bound (length c.plan) (map tour_line c.plan ++ pool_lines c.shores c.sets c.nodes)
 head_of c spellable =
     head_says c.counts c.cost c.bound (length c.plan) (map tour_line c.plan ++ pool_lines c.shores c.sets c.nodes)
-    (subst (λ (lines : List Line). AreGood [] lines) (grouped c) spellable)
+    (subst (λ (lines : List Line). AreGood [] lines) (grouped c) spellable.lines)
 
 tours_of : (c : Certificate) → IsSpellable c → SaysTours c.plan (head_said c) (pool_lines c.shores c.sets c.nodes)
 tours_of c spellable =
@@ -50,7 +50,8 @@ shores_in c spellable =
 
 sets_in : (c : Certificate) → IsSpellable c → SaysSets c.shores c.sets (sets (length c.sets) ∷ pool_said c) (node_lines c.nodes)
 sets_in c spellable =
-    sets_say c.shores c.sets (sets (length c.sets) ∷ pool_said c) (node_lines c.nodes) (shores_of_pool c) (pool_of c spellable).1 (shores_in c spellable).later.3
+    sets_say c.shores c.sets (sets (length c.sets) ∷ pool_said c) (node_lines c.nodes) (shores_of_pool c) (pool_of c spellable).1
+    (recursion_from_All HasNoGroups c.sets spellable.no_groups) (shores_in c spellable).later.3
 
 nodes_in : (c : Certificate) → IsSpellable c → AreGood (prices_said c) (node_lines c.nodes)
 nodes_in c spellable = (sets_in c spellable).later
@@ -77,7 +78,8 @@ spellable_fine c spellable =
       sets_fine = All-from_recursion (IsFineSet c.shores) c.sets prices.fine;
       few_nodes = all.1.to_last;
       nodes_fine = All-from_recursion (IsFineNode (length c.shores) (length c.sets)) c.nodes
-          (nodes_fine c.nodes (length c.shores) (length c.sets) (nodes (length c.nodes) ∷ prices_said c) (end ∷ []) (ap length (shores_of_prices c)) (ap length (sets_of_prices c)) all.3);
+          (nodes_fine c.nodes (length c.shores) (length c.sets) (nodes (length c.nodes) ∷ prices_said c) (end ∷ []) (ap length (shores_of_prices c spellable.no_groups))
+          (ap length (sets_of_prices c spellable.no_groups)) all.3);
       tree = tree.0;
       in_preorder = tree.1;
     }

@@ -7,12 +7,14 @@ use Rattle.std.proofs.lemmas.List.Sums.{sum_by-cons}
 use Rattle.std.proofs.Math.Seq.{get_or-append_seam}
 use Rattle.plan_model.specs.declared.step.Step.{Step}
 use Rattle.cut_pool.specs.Pools.{AreDifferent, shore_at}
+use Rattle.branch_rules.specs.Bonds.{GroupWeight}
+use Rattle.branch_rules.specs.Limits.{IsFineGroup}
 use Rattle.branch_rules.specs.Prices.{Prices}
 use Rattle.cert_lines.specs.Lines.{Line, prices, weights}
 use Rattle.cert_lines.specs.Order.{LatestFirst}
 use Rattle.cert_lines.specs.Certificates.{steps_of, shores_of}
 use Rattle.cert_lines.specs.Ranges.{IsWithin}
-use Rattle.cert_lines.specs.Spelling.{AreGood, tour_line, shore_line, set_lines, IsFineShore, IsFineSet}
+use Rattle.cert_lines.specs.Spelling.{AreGood, tour_line, shore_line, set_lines, IsFineShore, IsFineSet, HasNoGroups}
 use Rattle.cert_lines.proofs.Listed.{listed}
 
 -- Tours.
@@ -76,11 +78,14 @@ pub record SaysSets (pool : List (List ℕ)) (all : List Prices) (said : LatestF
   pub fine : AllByRecursion (IsFineSet pool) all
   pub later : AreGood (listed (flat_map set_lines all) said) lines
 
+no_group_is_fine : (groups : List GroupWeight) → groups ≡ [] → All IsFineGroup groups
+no_group_is_fine groups none k d below = absurd (omega (arith, below, ap length none))
+
 pub sets_say : (pool : List (List ℕ)) (all : List Prices) (said : LatestFirst) (lines : List Line) → shores_of said ≡ pool → length pool ≤ 2000 →
-    AreGood said (flat_map set_lines all ++ lines) → SaysSets pool all said lines
-sets_say pool [] said lines has few good = record { fine = tt; later = good }
-sets_say pool (set ∷ all) said lines has few good =
-    let rest = sets_say pool all (weights (length set.weights) set.weights ∷ (prices set.unit (length set.services) set.services ∷ said)) lines has few good.3.3 in
+    AllByRecursion HasNoGroups all → AreGood said (flat_map set_lines all ++ lines) → SaysSets pool all said lines
+sets_say pool [] said lines has few none good = record { fine = tt; later = good }
+sets_say pool (set ∷ all) said lines has few none good =
+    let rest = sets_say pool all (weights (length set.weights) set.weights ∷ (prices set.unit (length set.services) set.services ∷ said)) lines has few none.1 good.3.3 in
     let borders : length (shores_of said) ≡ length pool = ap length has in
     let items = good.3.1.1 in
     let set_fine : IsFineSet pool set = record {
@@ -92,7 +97,10 @@ sets_say pool (set ∷ all) said lines has few good =
         few_weights = omega (arith, good.3.1.0, borders);
         weights = λ k d below. record { from_one = (items k d below).shore.from_first; some = good.3.2.some k d below; within = (items k d below).weight };
         rising = good.3.2.rising;
+        few_groups = omega (arith, ap length none.0);
+        groups = no_group_is_fine set.groups none.0;
       };
+      no_groups = none.0;
       shores = λ k d below. record { from_one = (items k d below).shore.from_first; in_range = omega (arith, (items k d below).shore.to_last, borders) };
     } in
     record { fine = (set_fine, rest.fine); later = rest.later }

@@ -61,10 +61,10 @@ services_of [] = []
 services_of (prices unit n services ∷ said) = services
 services_of (_ ∷ said) = services_of said
 
--- the price sets: each of the prices of one line and the weights of the next
+-- the price sets: each of the prices of one line and the weights of the next, with no weight on a group, of which no line speaks
 abbrev pub sets_of : LatestFirst → List Prices
 sets_of [] = []
-sets_of (weights n items ∷ said) = sets_of said ++ record { unit = unit_of said; services = services_of said; weights = items } ∷ []
+sets_of (weights n items ∷ said) = sets_of said ++ record { unit = unit_of said; services = services_of said; weights = items; groups = [] } ∷ []
 sets_of (_ ∷ said) = sets_of said
 
 abbrev pub nodes_of : LatestFirst → List Node

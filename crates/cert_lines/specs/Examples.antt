@@ -1,6 +1,7 @@
 -- Small data for the examples beside the tests. No public contract speaks of this.
 use Rattle.std.specs.Prelude.{ℕ, ℤ, pos, negsuc, List, [], ◌∷◌, Some, None, true, false, codes}
 use Rattle.plan_model.specs.declared.step.Step.{Step}
+use Rattle.branch_rules.specs.Bonds.{GroupWeight}
 use Rattle.branch_rules.specs.declared.weight.Weight.{Weight}
 use Rattle.branch_rules.specs.declared.node.Node.TheVariants.{Cut, Price}
 use Rattle.cert_lines.specs.declared.counts.Counts.{Counts}
@@ -34,11 +35,15 @@ triangle = record {
   bound = 16;
   plan = (serves 1 ∷ serves 2 ∷ serves_back 3 ∷ []) ∷ [];
   shores = [];
-  sets = record { unit = 1; services = pos 5 ∷ pos 7 ∷ pos 4 ∷ []; weights = [] } ∷ [];
+  sets = record { unit = 1; services = pos 5 ∷ pos 7 ∷ pos 4 ∷ []; weights = []; groups = [] } ∷ [];
   nodes = Price 1 ∷ [];
 }
 
--- its text
+-- the same with a weight on a group, which cannot be spelled
+abbrev pub with_group : GroupWeight → Certificate
+with_group w = record triangle { sets = record { unit = 1; services = pos 5 ∷ pos 7 ∷ pos 4 ∷ []; weights = []; groups = w ∷ [] } ∷ [] }
+
+-- the text of the triangle
 abbrev pub triangle_text : List ℕ
 triangle_text =
     codes "carp-certificate 1\ncost 16\nbound 16\ntours 1\ntour 3 +1 +2 -3\nshores 0\nsets 1\nprices 1 3 5 7 4\nweights 0\nnodes 1\nprice 1\nend\n"
@@ -51,7 +56,7 @@ row = record {
   bound = 20;
   plan = (serves 1 ∷ drives_back 1 ∷ []) ∷ (drives 1 ∷ serves 2 ∷ drives_back 2 ∷ drives_back 1 ∷ []) ∷ [];
   shores = (2 ∷ 3 ∷ []) ∷ (3 ∷ []) ∷ [];
-  sets = record { unit = 1; services = pos 3 ∷ pos 4 ∷ []; weights = on_shore 1 (pos 3) ∷ on_shore 2 (pos 4) ∷ [] } ∷ [];
+  sets = record { unit = 1; services = pos 3 ∷ pos 4 ∷ []; weights = on_shore 1 (pos 3) ∷ on_shore 2 (pos 4) ∷ []; groups = [] } ∷ [];
   nodes = Price 1 ∷ [];
 }
 
@@ -76,8 +81,8 @@ star = record {
       ∷ [];
   shores = (2 ∷ 3 ∷ 4 ∷ 5 ∷ 6 ∷ 7 ∷ []) ∷ (3 ∷ []) ∷ (4 ∷ []) ∷ (5 ∷ []) ∷ (6 ∷ []) ∷ (7 ∷ []) ∷ [];
   sets =
-      record { unit = 1; services = pos 201 ∷ pos 201 ∷ pos 201 ∷ pos 201 ∷ pos 201 ∷ []; weights = on_shore 1 (negsuc 99) ∷ star_weights }
-      ∷ record { unit = 1; services = pos 1 ∷ pos 1 ∷ pos 1 ∷ pos 1 ∷ pos 1 ∷ []; weights = on_shore 1 (pos 100) ∷ star_weights }
+      record { unit = 1; services = pos 201 ∷ pos 201 ∷ pos 201 ∷ pos 201 ∷ pos 201 ∷ []; weights = on_shore 1 (negsuc 99) ∷ star_weights; groups = [] }
+      ∷ record { unit = 1; services = pos 1 ∷ pos 1 ∷ pos 1 ∷ pos 1 ∷ pos 1 ∷ []; weights = on_shore 1 (pos 100) ∷ star_weights; groups = [] }
       ∷ [];
   nodes = Cut 1 4 ∷ Price 1 ∷ Price 2 ∷ [];
 }

@@ -54,9 +54,15 @@ abbrev pub AreGood : LatestFirst → List Line → Type 0
 AreGood said [] = Unit {0}
 AreGood said (line ∷ lines) = IsTrue (follows (next_of said) line) × IsInRange said line × Agrees said line × AreGood (line ∷ said) lines
 
--- a certificate that can be spelled: its lines follow each other, their numbers are in range, and what they say agrees
-abbrev pub IsSpellable : Certificate → Type 0
-IsSpellable c = AreGood [] (lines_of c)
+-- the price set has no weights on groups, of which no line speaks
+abbrev pub HasNoGroups : Prices → Type 0
+HasNoGroups set = set.groups ≡ []
+
+-- a certificate that can be spelled: its lines follow each other, their numbers are in range, what they say agrees, and its price
+-- sets have no groups
+pub record IsSpellable (c : Certificate) : Type 0 where
+  pub lines : AreGood [] (lines_of c)
+  pub no_groups : All HasNoGroups c.sets
 
 -- a rising list of 1 to 999 vertices
 pub record IsFineShore (vertices : List ℕ) : Type 0 where
@@ -64,9 +70,10 @@ pub record IsFineShore (vertices : List ℕ) : Type 0 where
   pub vertices_in : All (IsWithin 1 1000) vertices
   pub rising : IsStrictlyIncreasing vertices
 
--- a price set whose weights are on shores of the pool
+-- a price set without groups whose weights are on shores of the pool
 pub record IsFineSet (pool : List (List ℕ)) (set : Prices) : Type 0 where
   pub prices : IsPriceSet set
+  pub no_groups : HasNoGroups set
   pub shores : All (λ w. IsShoreNumber pool w.shore) set.weights
 
 -- a node, where there are so many shores (borders) and so many price sets (units)

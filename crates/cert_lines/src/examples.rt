@@ -1,5 +1,6 @@
 // Small data on which a fact that no call decides holds, and on which it does not.
 ghost use Rattle.std.specs.Prelude.{◌≡◌, ◌+◌, ◌^◌, pos, negsuc, neg_ℤ, [], ◌∷◌, replicate, codes};
+ghost use Rattle.branch_rules.specs.Bonds.{GroupWeight};
 ghost use Rattle.branch_rules.specs.declared.node.Node.TheVariants.{Pair, Cut, Price, Void, Fixed as FixedLeaf};
 ghost use Rattle.cert_lines.specs.declared.fault.CertFault.TheVariants.{Syntax, Limit, Truncated};
 ghost use Rattle.cert_lines.specs.declared.next.Next.TheVariants as stands;
@@ -38,6 +39,7 @@ ghost use Rattle.cert_lines.specs.Examples.{
   row_text,
   star,
   star_text,
+  with_group,
 };
 
 #[tactic(auto, unfolding(crate::specs::Numerals::numeral))]
@@ -200,6 +202,8 @@ fn a_whole_certificate()
 fn certificates_that_cannot_be_spelled()
     ensures cost_past { ¬ (IsFine (record triangle { cost = 10 ^ 18 })) }
     ensures falling_shore { ¬ (IsFine (record triangle { shores = (3 ∷ 2 ∷ []) ∷ [] })) }
+    ensures group { (w : GroupWeight) → ¬ (IsFine (with_group w)) }
+    ensures group_unspellable { (w : GroupWeight) → ¬ (IsSpellable (with_group w)) }
     ensures past_unspellable { ¬ (IsSpellable (record triangle { bound = 10 ^ 18 })) }
     ensures falling_unspellable { ¬ (IsSpellable (record triangle { shores = (3 ∷ 2 ∷ []) ∷ [] })) }
     ensures two_trees_unspellable { ¬ (IsSpellable (record triangle { nodes = Price 1 ∷ Price 1 ∷ [] })) }
