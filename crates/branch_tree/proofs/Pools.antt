@@ -63,6 +63,7 @@ held_set_grows p pool more set is = record {
   not_negative = still_not_negative p pool more set (numbers_of p pool set is.shores) is.not_negative;
   shores =
       All-weaker (λ (w : Weight). IsShoreOf p pool w.shore) (λ (w : Weight). IsShoreOf p (pool ++ more) w.shore) (λ w. shore_of_grown p pool more w.shore) set.weights is.shores;
+  no_groups = is.no_groups;
 }
 
 module _ (known : Known) (p : Problem) (s : State) (held : IsHeld p s) where
@@ -155,5 +156,6 @@ may_stand law p s number branch after set grown some shores raised = record {
   from_unit = raised.from_unit;
   fits = raised.tight.fits;
   shores = raised.shores;
+  no_groups = raised.no_groups;
   no_lower = no_lower_now law p s number branch after set grown shores raised;
 }

@@ -83,7 +83,7 @@ module _ (costs : ShortPlansCostLittle) (p : Problem) (floor : Floor) (is : IsFl
     below = λ other lawful. shown_within floor.set.unit shows (plan_cost p other) (plain_value p floor.pool floor.set) is_shown (is.floors.below other lawful);
     tree = price 1;
     sound = root_sound;
-    sets = All-cons (IsHeldSet p floor.pool) floor.set [] (record { one_each = (is.fits []).one_each; not_negative = (is.fits []).fits.not_negative; shores = is.shores }) (All-nil (IsHeldSet p floor.pool));
+    sets = All-cons (IsHeldSet p floor.pool) floor.set [] (record { one_each = (is.fits []).one_each; not_negative = (is.fits []).fits.not_negative; shores = is.shores; no_groups = is.no_groups }) (All-nil (IsHeldSet p floor.pool));
     few_sets = omega arith;
     belong = is.belong;
     short = short;

@@ -35,10 +35,9 @@ set_in_same : (c : Support) (number : ℕ) → set_at c number ≡ set_in c.sets
 set_in_same c zero = refl
 set_in_same c (suc k) = refl
 
-held_shores : (p : Problem) (pool : List (List ℕ)) (sets : List Prices) (number : ℕ) → All (IsHeldSet p pool) sets → 1 ≤ number → number ≤ length sets →
-    All (λ w. IsShoreOf p pool w.shore) (set_in sets number).weights
-held_shores p pool sets zero all from_one to_last = absurd (omega (arith, from_one))
-held_shores p pool sets (suc k) all from_one to_last = (All-get_or (IsHeldSet p pool) sets k no_prices (omega (arith, to_last)) all).shores
+held_set : (p : Problem) (pool : List (List ℕ)) (sets : List Prices) (number : ℕ) → All (IsHeldSet p pool) sets → 1 ≤ number → number ≤ length sets → IsHeldSet p pool (set_in sets number)
+held_set p pool sets zero all from_one to_last = absurd (omega (arith, from_one))
+held_set p pool sets (suc k) all from_one to_last = All-get_or (IsHeldSet p pool) sets k no_prices (omega (arith, to_last)) all
 
 module _ (known : Known) (p : Problem) (s : State) (held : IsHeld p s) where
   abbrev base : Fraction
@@ -223,12 +222,15 @@ module _ (known : Known) (p : Problem) (s : State) (held : IsHeld p s) where
       named_reaches : (pos named.unit *ℤ base.value) ≤ℤ (pos base.unit *ℤ value_of (rules_of p s.pool branch) named)
       named_reaches = subst (λ (set : Prices). (pos set.unit *ℤ base.value) ≤ℤ (pos base.unit *ℤ value_of (rules_of p s.pool branch) set)) (set_in_same (support_in p s) number) leaf_reaches
 
+      named_held : IsHeldSet p s.pool named
+      named_held = held_set p s.pool s.sets number held.sets from_one to_last
+
       pub named_shores : All (λ w. IsShoreOf p s.pool w.shore) named.weights
-      named_shores = held_shores p s.pool s.sets number held.sets from_one to_last
+      named_shores = named_held.shores
 
       -- so it may be raised
       pub may_begin : MayBegin p s.pool branch s.sets number
-      may_begin = record { from_one = from_one; to_last = to_last; pairs = leaf_pairs; fits = named_fits; shores = named_shores }
+      may_begin = record { from_one = from_one; to_last = to_last; pairs = leaf_pairs; fits = named_fits; shores = named_shores; no_groups = named_held.no_groups }
 
       -- both children have the set of the leaf
       pub old_split_sound : 1 ≤ named.unit → (node : Node) (c : Children) → IsSplitBy p s.pool branch named node c →

@@ -33,6 +33,7 @@ pub record IsFloor (p : Problem) (floor : Floor) : Type 0 where
   pub fits : FitsAlways p floor.pool floor.set
   pub floors : ReachesFloors p (fraction_of p floor)
   pub shores : All (λ w. IsShoreOf p floor.pool w.shore) floor.set.weights
+  pub no_groups : floor.set.groups ≡ []
   pub held : IsFloorPool p floor.pool floor.set
   pub belong : All (Belongs p) floor.pool
 

@@ -38,12 +38,13 @@ state_of s = record { pool = s.pool; sets = s.sets.items; nodes = s.tree.nodes; 
 abbrev pub support_in : Problem → State → Support
 support_in p s = record { problem = p; pool = s.pool; sets = s.sets }
 
--- a price set that a certificate may have: a price for each required edge, no negative price of a deadhead, and its shores are in the
--- pool and belong to the instance
+-- a price set that a certificate may have: a price for each required edge, no negative price of a deadhead, its shores are in the pool and
+-- belong to the instance, and it has no groups
 pub record IsHeldSet (p : Problem) (pool : List (List ℕ)) (set : Prices) : Type 0 where
   pub one_each : length set.services ≡ p.required
   pub not_negative : NoneTooHeavy p pool set
   pub shores : All (λ w. IsShoreOf p pool w.shore) set.weights
+  pub no_groups : set.groups ≡ []
 
 -- A lean tree that grew leaf by leaf. Each price leaf names a set that fits there, and shows the bound that the search began with; each
 -- node has with it the greatest bound that it shows. There are at most 256 sets.

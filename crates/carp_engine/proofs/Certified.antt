@@ -64,6 +64,7 @@ module _ (laws : Laws) (p : Problem) (f : Findings) (turns : ℕ) (found : IsFou
   fine_set set fine held = record {
     prices = fine;
     shores = All-weaker (λ (w : Weight). IsShoreOf p f.pool w.shore) (λ (w : Weight). IsShoreNumber f.pool w.shore) (λ w is. is.number) set.weights held.shores;
+    no_groups = held.no_groups;
   }
 
   pub is_fine : AreWithinLimits f.pool f.sets → IsFine (certificate_by p f)

@@ -121,7 +121,9 @@ module _ (law : SpellableIsFine) (once : FixedValueIsUnique) (p : Problem) (c : 
     shows = good.shows;
     below = bounds;
     fine = All-weaker (IsFineSet c.shores) IsPriceSet (λ set is. is.prices) c.sets is_fine.sets_fine;
-    held = λ k d less. record { one_each = good.prices k d less; not_negative = good.deadheads k d less; shores = set_shores _ (is_fine.sets_fine k d less) };
+    held = λ k d less.
+        let fine_set = is_fine.sets_fine k d less in
+        record { one_each = good.prices k d less; not_negative = good.deadheads k d less; shores = set_shores _ fine_set; no_groups = fine_set.no_groups };
     few_sets = is_fine.few_sets;
     belong = good.shores;
     few_nodes = omega (arith, ap length good.nodes, is_fine.few_nodes);

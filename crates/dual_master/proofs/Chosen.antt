@@ -78,6 +78,7 @@ pub record IsBest (p : Problem) (pool : List (List ℕ)) (set : Prices) : Type 0
   pub shell : ReachesShell p pool set
   pub ratio : ReachesRatio p pool set
   pub join : ReachesJoin p pool set
+  pub no_groups : set.groups ≡ []
   pub shores : All (λ w. IsShoreOf p pool w.shore) set.weights
   pub held : IsFloorPool p pool set
 
@@ -100,6 +101,7 @@ module _ (p : Problem) (shell ratio join first best : Candidate) (is_shell : IsC
         shell = then'.shell (from_first.shell ((candidate_reaches better p shell first is_shell is_first over_shell).shell shell_reached));
         ratio = then'.ratio (from_first.ratio ((candidate_reaches better p ratio first is_ratio is_first over_ratio).ratio ratio_reached));
         join = then'.join ((candidate_reaches better p join best is_join is_best over_join).join join_reached);
+        no_groups = is_best.floor.no_groups;
         shores = shores_then growth p best.pool pool p.vertices best.set singles is_best.floor;
         held = record { base = best.pool; of_floor = is_best.floor.base; weighed = is_best.floor.weighed; singles = singles };
       }

@@ -12,10 +12,11 @@ use Rattle.dual_master.specs.declared.candidate.Candidate.{Candidate}
 abbrev pub IsFloorBase : Problem → List (List ℕ) → Type 0
 IsFloorBase p base = HoldsShells p base ⊎ HoldsJoinShores p base ⊎ (base ≡ [])
 
--- the set fits under every branch, its shores are in the pool, which holds those of a floor, each with a weight, and each belongs to
--- the instance
+-- the set fits under every branch and has no groups, its shores are in the pool, which holds those of a floor, each with a weight, and
+-- each belongs to the instance
 pub record IsFloorSet (p : Problem) (pool : List (List ℕ)) (set : Prices) : Type 0 where
   pub fits : FitsAlways p pool set
+  pub no_groups : set.groups ≡ []
   pub shores : All (λ w. IsShoreOf p pool w.shore) set.weights
   pub belong : All (Belongs p) pool
   pub base : IsFloorBase p pool

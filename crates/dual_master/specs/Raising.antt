@@ -1,5 +1,5 @@
 -- Price sets that are raised, over a pool that may grow.
-use Rattle.std.specs.Prelude.{ℕ, List, pos, ◌*ℤ◌, ◌≤ℤ◌}
+use Rattle.std.specs.Prelude.{◌≡◌, ℕ, List, [], pos, ◌*ℤ◌, ◌≤ℤ◌}
 use Rattle.std.specs.List.{All}
 use Rattle.carp_base.specs.Problem.{Problem}
 use Rattle.decision_chains.specs.declared.decision.Decision.{Decision}
@@ -13,8 +13,9 @@ abbrev pub IsNoLower : Problem → List Decision → List (List ℕ) → Prices 
 IsNoLower p branch pool start after set =
     (pos set.unit *ℤ value_of (rules_of p pool branch) start) ≤ℤ (pos start.unit *ℤ value_of (rules_of p after branch) set)
 
--- such a set that fits under the branch, with its shores in the pool
+-- such a set that fits under the branch, with its shores in the pool and no groups
 pub record IsRaised (p : Problem) (branch : List Decision) (pool : List (List ℕ)) (start : Prices) (after : List (List ℕ)) (set : Prices) : Type 0 where
   pub fits : FitsBranch p after branch set
   pub shores : All (λ w. IsShoreOf p after w.shore) set.weights
+  pub no_groups : set.groups ≡ []
   pub no_lower : IsNoLower p branch pool start after set

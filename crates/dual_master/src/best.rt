@@ -20,7 +20,7 @@ use route_pricing::Table;
 use std::alloc::Global;
 
 /// The best of the sets of the floors Shell, Ratio and Join: the one of the greatest value without decisions, divided by its
-/// denominator. So the set fits under every branch, and its value is at least each of the three floors, as fractions.
+/// denominator. So the set fits under every branch, and its value is at least each of the three floors, as fractions. It has no groups.
 ///
 /// The pool holds afterwards the shores of that floor, each with a weight of the set (none where it is Ratio), and behind them, in rising order of the vertex
 /// and while fewer than 2,000 are held, the shore of each single vertex but the depot that is not held already and over which
@@ -47,6 +47,7 @@ pub fn floors(
     ensures shell { IfOk result (ReachesShell inst.now pool.new) }
     ensures ratio { IfOk result (ReachesRatio inst.now pool.new) }
     ensures join { IfOk result (ReachesJoin inst.now pool.new) }
+    ensures no_groups { IfOk result (λ set. set.groups ≡ []) }
     ensures shores { IfOk result (λ set. All (λ w. IsShoreOf inst.now pool.new w.shore) set.weights) }
     ensures held { IfOk result (IsFloorPool inst.now pool.new) }
     ensures belong { All (Belongs inst.now) pool.new }

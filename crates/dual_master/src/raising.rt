@@ -1,5 +1,5 @@
 // Price sets that are raised.
-ghost use Rattle.std.specs.Prelude.{◌≡◌, ◌≤◌, ◌*ℤ◌, ◌≤ℤ◌, pos, All, IfOk, IfSome, IsTrue, length};
+ghost use Rattle.std.specs.Prelude.{◌≡◌, ◌≤◌, ◌*ℤ◌, ◌≤ℤ◌, [], pos, All, IfOk, IfSome, IsTrue, length};
 ghost use Rattle.cut_pool.specs.Shores.{Belongs};
 ghost use Rattle.branch_rules.specs.Decisions.{rules_of};
 ghost use Rattle.branch_rules.specs.Laws.{FitsBranch};
@@ -30,7 +30,7 @@ use tight_prices::{fits, tighten};
 /// Where `rounds` is above 0, the linear program over shores is solved in up to so many rounds of search for shores that it leaves short
 /// (`shore_prices`), and its set is taken if it fits and is better; from the better one prices and weights ascend along relaxed tours in
 /// up to so many steps (`price_ascent`), and that set is taken in the same way. Shores with a weight are placed in the pool behind those that it
-/// held, while it holds fewer than 2,000.
+/// held, while it holds fewer than 2,000. From a start without groups comes a set without groups.
 ///
 /// It asks for the network, for a table that was made for the instance, which it fills, for a branch whose pairs are of required edges,
 /// and for a pool whose shores belong to the instance; so do the shores that it adds. The one error is want of memory. It takes the
@@ -53,6 +53,7 @@ pub fn raise(
     requires fits { FitsBranch inst.now pool.old branch.now start.now }
     ensures tight { IfOk result (IsTight inst.now pool.new (length pool.old) branch.now) }
     ensures no_lower { IfOk result (IsNoLower inst.now branch.now pool.old start.now pool.new) }
+    ensures no_groups { start.now.groups ≡ [] → IfOk result (λ set. set.groups ≡ []) }
     ensures shores { IfOk result (λ set. All (λ w. IsShoreOf inst.now pool.new w.shore) set.weights) }
     ensures grown { IsGrown pool.old pool.new }
     ensures belong { All (Belongs inst.now) pool.new }
@@ -88,6 +89,7 @@ fn climb(
     requires held { held ≤ length pool.old }
     ensures tight { IfOk result (IsTight inst.now pool.new held branch.now) }
     ensures no_lower { IfOk result (IsNoLower inst.now branch.now pool.old start.now pool.new) }
+    ensures no_groups { start.now.groups ≡ [] → IfOk result (λ set. set.groups ≡ []) }
     ensures shores { IfOk result (λ set. All (λ w. IsShoreOf inst.now pool.new w.shore) set.weights) }
     ensures grown { IsGrown pool.old pool.new }
     ensures belong { All (Belongs inst.now) pool.new }

@@ -41,6 +41,7 @@ pub fn join_prices(
     ensures shores { IfOk result (λ set. All (λ w. IsShoreOf inst.now pool.new w.shore) set.weights) }
     ensures held { OnOk result (HoldsJoinShores inst.now pool.new) }
     ensures weighed { IfOk result (WeighsEach pool.new) }
+    ensures no_groups { IfOk result (λ set. set.groups ≡ []) }
     ensures made { IfOk result (IsJoinSet inst.now pool.new) }
     ensures belong { All (Belongs inst.now) pool.new }
 {

@@ -41,6 +41,7 @@ pub fn ratio_prices(
     ensures fits { IfOk result (λ set. (pool : List (List ℕ)) → FitsAlways inst.now pool set) }
     ensures reaches { IfOk result (λ set. (pool : List (List ℕ)) → ReachesRatio inst.now pool set) }
     ensures no_weights { IfOk result (λ set. set.weights ≡ []) }
+    ensures no_groups { IfOk result (λ set. set.groups ≡ []) }
     ensures made { IfOk result (IsRatioSet inst.now) }
     ensures room { IsRoom inst.now table.new }
 {

@@ -39,6 +39,7 @@ pub fn shell_prices(
     ensures shores { IfOk result (λ set. All (λ w. IsShoreOf inst.now pool.new w.shore) set.weights) }
     ensures held { OnOk result (HoldsShells inst.now pool.new) }
     ensures weighed { IfOk result (WeighsEach pool.new) }
+    ensures no_groups { IfOk result (λ set. set.groups ≡ []) }
     ensures made { IfOk result (IsShellSet inst.now pool.new) }
     ensures belong { All (Belongs inst.now) pool.new }
 {

@@ -31,7 +31,8 @@ const WORK: u64 = 1_650_000_000;
 
 /// Proposes a price set under a branch by an ascent from a start; `None` where no edge is required, where `rounds` is 0, or where the
 /// instance is so large that 60 fills of the table pass a measure of work. Of its value nothing is said, nor that it fits; but it has
-/// a price for each required edge, in parts of 1/1,000,000, and its weights are on shores of the pool that belong to the instance.
+/// a price for each required edge, in parts of 1/1,000,000, and its weights are on shores of the pool that belong to the instance, none on
+/// groups.
 ///
 /// Prices of services and weights of shores move together along the slopes that relaxed tours show, as Lagrange multipliers do (Held,
 /// Wolfe and Crowder 1974; the heavy average of slopes after Camerini, Fratta and Maffioli 1975). At each point the table is filled

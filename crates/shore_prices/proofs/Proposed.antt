@@ -1,5 +1,5 @@
 -- The set of services at cost and of listed weights.
-use Rattle.std.proofs.Common.{◌≡◌, ℕ, zero, suc, ◌+◌, ◌*◌, ◌<◌, ◌≤◌, List, [], length, map, get_or, arith, pos, subst}
+use Rattle.std.proofs.Common.{◌≡◌, ℕ, zero, suc, ◌+◌, ◌*◌, ◌<◌, ◌≤◌, List, [], length, map, get_or, arith, pos, refl, subst}
 use Rattle.std.specs.List.{All}
 use Rattle.std.proofs.lemmas.Int.{ints}
 use Rattle.std.proofs.lemmas.List.{length-map, length-take}
@@ -51,4 +51,5 @@ pub set_proposed : (p : Problem) → IsValid p → (pool : List (List ℕ)) (wei
 set_proposed p valid pool weights belong are = record {
   one_each = services_count p valid;
   shores = λ k d within. shore_in p pool belong (get_or weights k d).shore (are.fine k d within).from_one (are.below k d within);
+  no_groups = refl;
 }

@@ -17,7 +17,7 @@ const UNIT: u64 = 1_000_000;
 
 /// Proposes a price set under a branch: services at cost, and the weights of the linear program over shores after up to so many rounds,
 /// at most 400, in parts of 1/1,000,000. Of its value nothing is said, nor that it fits; but it has a price for each required edge, and
-/// its weights are on shores of the pool that belong to the instance.
+/// its weights are on shores of the pool that belong to the instance; it has none on groups.
 ///
 /// The program begins with the shores of the pool, over which the branch's lower numbers are demanded, and with the level sets of the
 /// depot's distances (Belenguer and Benavent 1998). In each round it is solved in up to 20,000 steps, and up to 40 shores that its

@@ -25,6 +25,7 @@ returns-clause-floor c =
             (record { valid = c.vertices.ensures.valid; no_depot = no_depot p pool c.in_ok-set.ensures.belong; lawful = lawful; meets = tt });
       };
       shores = c.in_ok-set.ensures.shores;
+      no_groups = c.in_ok-set.ensures.no_groups;
       held = c.in_ok-set.ensures.held;
       belong = c.in_ok-set.ensures.belong;
     }

@@ -28,6 +28,9 @@ returns-clause-ratio c = (found c).ratio
 pub returns-clause-join : goal.returns-clause-join
 returns-clause-join c = (found c).join
 
+pub returns-clause-no_groups : goal.returns-clause-no_groups
+returns-clause-no_groups c = (found c).no_groups
+
 pub returns-clause-shores : goal.returns-clause-shores
 returns-clause-shores c = (found c).shores
 

@@ -15,6 +15,7 @@ with_value-requires c =
     let pool = c.new.result in
     record {
       fits = c.in_ok-set.ensures.fits pool;
+      no_groups = c.in_ok-set.ensures.no_groups;
       shores = subst (λ (ws : List Weight). All (λ (w : Weight). IsShoreOf p pool w.shore) ws) (sym c.in_ok-set.ensures.no_weights) (All-nil (λ (w : Weight). IsShoreOf p pool w.shore));
       belong = subst (All (Belongs p)) (sym c.new.ensures) (All-nil (Belongs p));
       base = inr (inr c.new.ensures);

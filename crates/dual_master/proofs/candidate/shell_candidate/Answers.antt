@@ -6,6 +6,7 @@ use Rattle.dual_master.proofs.candidate.shell_candidate.Goals as goal
 pub with_value-requires : goal.with_value-requires
 with_value-requires c = record {
   fits = c.in_ok-set.ensures.fits;
+  no_groups = c.in_ok-set.ensures.no_groups;
   shores = c.in_ok-set.ensures.shores;
   belong = c.shell_prices.ensures.belong;
   base = inl c.in_ok-set.ensures.held;

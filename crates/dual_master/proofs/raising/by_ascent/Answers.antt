@@ -12,8 +12,10 @@ pub returns-clause-raised : goal.returns-clause-raised
 returns-clause-raised c =
     let p = c.args.inst.now in
     let branch = c.args.branch.now in
+    let proposed = subst (λ (found : Option Prices). IfSome found (IsProposal p c.ascend.new.pool)) c.in-Some.is c.in_ok-found.ensures.proposed in
     record {
       fits = search rules;
-      shores = (subst (λ (found : Option Prices). IfSome found (IsProposal p c.ascend.new.pool)) c.in-Some.is c.in_ok-found.ensures.proposed).shores;
+      shores = proposed.shores;
+      no_groups = proposed.no_groups;
       no_lower = no_lower_before c.growth_keeps_sets.ensures p branch c.args.pool.now c.ascend.new.pool c.ascend.ensures.grown c.args.start.now c.requires.shores c.in-Some.offered (search rules);
     }

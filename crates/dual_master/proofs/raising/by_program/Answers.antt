@@ -17,5 +17,6 @@ returns-clause-raised c =
     record {
       fits = search rules;
       shores = c.in_ok-offered.ensures.proposed.shores;
+      no_groups = c.in_ok-offered.ensures.proposed.no_groups;
       no_lower = no_lower_before c.growth_keeps_sets.ensures p branch c.args.pool.now c.shore_prices.new.pool c.shore_prices.ensures.grown c.args.start.now c.requires.shores c.in_ok-offered.offered (search rules);
     }

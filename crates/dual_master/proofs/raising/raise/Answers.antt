@@ -26,3 +26,8 @@ returns-in-Some-clause-no_lower c =
     let fine = subst IsPriceSet c.set.view_is c.set.invariant in
     IfOk-weaker c.climb.result _ _
     (λ set no_lower. no_lower_through p branch c.args.pool.now middle c.climb.new.pool c.args.start.now c.in-Some.set set fine.some_unit raised.no_lower no_lower) c.climb.ensures.no_lower
+
+pub returns-in-Some-clause-no_groups : goal.returns-in-Some-clause-no_groups
+returns-in-Some-clause-no_groups c none =
+    let raised = subst (λ (found : Option Prices). IfSome found (IsRaised c.args.inst.now c.args.branch.now c.args.pool.now c.args.start.now c.by_program.new.pool)) c.in-Some.is c.in_ok-better.ensures.raised in
+    c.climb.ensures.no_groups raised.no_groups
