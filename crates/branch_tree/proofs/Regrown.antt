@@ -12,10 +12,11 @@ use Rattle.decision_chains.specs.declared.decision.Decision.TheVariants.{Yes, No
 use Rattle.branch_rules.specs.Decisions.{is_cut, cuts_of, rules_of}
 use Rattle.branch_rules.specs.Limits.{IsNodeIn, IsPriceSet}
 use Rattle.branch_rules.specs.Prices.{Prices, value_of}
-use Rattle.branch_rules.specs.Trees.{Tree, pair, cut, price, void, fixed, preorder, IsLean, IsLeanNode, Shows, Support, no_prices, set_at}
+use Rattle.branch_rules.specs.Trees.{Tree, pair, cut, price, void, fixed, preorder, HasTurns, IsLean, IsLeanNode, Shows, Support, no_prices, set_at}
 use Rattle.branch_rules.specs.declared.node.Node.{Node}
 use Rattle.branch_rules.specs.declared.node.Node.TheVariants as nodes
 use Rattle.grown_trees.specs.Growth.{AreNoted, AreSound, IsNotedNode, IsSoundNode, IsSpelledNode, NodeReaches, turns_in}
+use Rattle.grown_trees.specs.Laws.{SoundIsTree}
 use Rattle.grown_trees.specs.Places.{IsFineNode}
 use Rattle.grown_trees.specs.Stands.{IsLeanStand, IsShownStand, NodeFits, NodeShows, Stand, stands}
 use Rattle.grown_trees.specs.declared.growing.GrowingNode.{GrowingNode}
@@ -213,6 +214,19 @@ module _ (c : Support) (cost : ℕ) (small : cost < 10 ^ 18) where
   pub few_noted : (tree : Tree) (es : List GrowingNode) → AreNoted c (stands [] tree) es → length es ≤ 2 * turns_in cost es + 1
   few_noted tree es noted = omega (arith, as_many c (stands [] tree) es noted, few_stands [] tree, inners_count (stands [] tree) es noted)
 
+-- The nodes of a tree from which a search may go on are sound.
+
+module _ (p : Problem) (pool : List (List ℕ)) (sets : List Prices) (least : ℕ) (entries : List GrowingNode) (may : MayResume p pool sets least entries) (small : least < 10 ^ 18) where
+  resumed_sound : AreSound (support_on p pool sets) (just_above least) (stands [] may.tree) entries
+  resumed_sound =
+      all_sound p pool sets may.fine may.held least small (stands [] may.tree) entries
+      (ready (support_on p pool sets) least [] 4 may.tree refl may.lean may.shows (recursion_from_All (IsNodeIn p pool) (preorder may.tree) may.inside)
+      (recursion_from_All (IsSpelledNode (length sets)) (preorder may.tree) may.spelled))
+      may.noted
+
+  pub resumed_turns : SoundIsTree → (cost : ℕ) → cost < 10 ^ 18 → HasTurns (support_on p pool sets) [] cost may.tree (turns_in cost entries)
+  resumed_turns law = (law (support_on p pool sets) (just_above least) may.tree entries resumed_sound).turns
+
 module _ (costs : ShortPlansCostLittle) (p : Problem) (valid : IsValid p) (plan : List (List Step)) (short : IsShortPlan p plan) (pool : List (List ℕ)) (sets : List Prices) (least : ℕ)
     (entries : List GrowingNode) (may : MayResume p pool sets least entries) where
   small : plan_cost p plan < 10 ^ 18
@@ -230,11 +244,7 @@ module _ (costs : ShortPlansCostLittle) (p : Problem) (valid : IsValid p) (plan 
     valid = valid;
     below = may.below;
     tree = may.tree;
-    sound =
-        all_sound p pool sets may.fine may.held least (omega (arith, small, may.below plan short.lawful)) (stands [] may.tree) entries
-        (ready (support_on p pool sets) least [] 4 may.tree refl may.lean may.shows (recursion_from_All (IsNodeIn p pool) (preorder may.tree) may.inside)
-        (recursion_from_All (IsSpelledNode (length sets)) (preorder may.tree) may.spelled))
-        may.noted;
+    sound = resumed_sound p pool sets least entries may (omega (arith, small, may.below plan short.lawful));
     sets = may.held;
     few_sets = may.few_sets;
     belong = may.belong;

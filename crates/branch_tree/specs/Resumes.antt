@@ -1,5 +1,5 @@
 -- What a search may go on from.
-use Rattle.std.specs.Prelude.{◌≡◌, ℕ, ◌≤◌, List, [], length}
+use Rattle.std.specs.Prelude.{◌≡◌, ℕ, ◌^◌, ◌<◌, ◌≤◌, List, [], length}
 use Rattle.std.specs.List.{All}
 use Rattle.carp_base.specs.Problem.{Problem}
 use Rattle.plan_model.specs.declared.step.Step.{Step}
@@ -7,7 +7,7 @@ use Rattle.plan_model.specs.Plans.{IsLawful, plan_cost}
 use Rattle.cut_pool.specs.Shores.{Belongs}
 use Rattle.branch_rules.specs.Limits.{IsNodeIn, IsPriceSet}
 use Rattle.branch_rules.specs.Prices.{Prices}
-use Rattle.branch_rules.specs.Trees.{Tree, preorder, IsLean, Shows, Support}
+use Rattle.branch_rules.specs.Trees.{Tree, preorder, HasTurns, IsLean, Shows, Support}
 use Rattle.grown_trees.specs.Growth.{AreNoted, IsSpelledNode, turns_in}
 use Rattle.grown_trees.specs.Stands.{stands}
 use Rattle.grown_trees.specs.declared.growing.GrowingNode.{GrowingNode}
@@ -32,6 +32,11 @@ pub record MayResume (p : Problem) (pool : List (List ℕ)) (sets : List Prices)
   pub few_sets : length sets ≤ 256
   pub belong : All (Belongs p) pool
   pub few_nodes : length (preorder tree) ≤ 2097153
+
+-- their turns for a cost are the nodes that show it
+abbrev pub ResumedTreesHaveTurns : Type 0
+ResumedTreesHaveTurns = (p : Problem) (pool : List (List ℕ)) (sets : List Prices) (least : ℕ) (nodes : List GrowingNode) (may : MayResume p pool sets least nodes) → least < 10 ^ 18 →
+    (cost : ℕ) → cost < 10 ^ 18 → HasTurns (support_on p pool sets) [] cost may.tree (turns_in cost nodes)
 
 -- a search that goes on from there with a plan, for so many turns beyond those of the tree for the plan's cost, and 1,048,576 in all
 pub record IsResumed (p : Problem) (plan : List (List Step)) (pool : List (List ℕ)) (sets : List Prices) (least : ℕ) (nodes : List GrowingNode) (s : State) : Type 0 where

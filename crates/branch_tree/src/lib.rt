@@ -18,4 +18,5 @@ mod stepping;
 mod values;
 
 pub use finishing::Found;
+pub use resuming::resumed_trees_have_turns;
 pub use search::{Search, Turn};

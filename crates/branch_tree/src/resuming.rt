@@ -2,7 +2,7 @@
 ghost use Rattle.std.specs.Prelude.{◌≡◌, ◌+◌, ◌≤◌, IfOk, length, min};
 ghost use Rattle.short_plans.specs.Shorts.{IsShortPlan};
 ghost use Rattle.grown_trees.specs.Growth.{turns_in};
-ghost use Rattle.branch_tree.specs.Resumes.{IsResumed, MayResume};
+ghost use Rattle.branch_tree.specs.Resumes.{IsResumed, MayResume, ResumedTreesHaveTurns};
 ghost use Rattle.branch_tree.specs.Searches.{IsSearch, state_of};
 
 use crate::beginning::{short_cost, tools_of};
@@ -10,7 +10,7 @@ use crate::search::Search;
 use branch_rules::PriceSet;
 use carp_base::{Instance, Memory};
 use cut_pool::ShorePool;
-use grown_trees::{GrowingNode, GrowingTree};
+use grown_trees::{GrowingNode, GrowingTree, sound_trees_are_lean};
 use plan_model::Plan;
 use short_plans::short_plans_cost_little;
 use std::alloc::Global;
@@ -82,4 +82,11 @@ fn budget_from(done: u64, turns: u64) -> u64
     ensures { result ≡ min (done + turns) 1048576 }
 {
     done.saturating_add(turns).min(MOST_TURNS)
+}
+
+/// Of a tree that a search may go on from the turns for a cost are its nodes that show the cost by themselves.
+pub fn resumed_trees_have_turns()
+    ensures { ResumedTreesHaveTurns }
+{
+    sound_trees_are_lean();
 }

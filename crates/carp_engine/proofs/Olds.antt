@@ -15,16 +15,17 @@ use Rattle.branch_rules.specs.Trees.{Tree, pair, cut, price, void, fixed, preord
 use Rattle.branch_rules.specs.declared.node.Node.{Node}
 use Rattle.branch_rules.specs.declared.node.Node.TheVariants as nodes
 use Rattle.branch_rules.specs.declared.weight.Weight.{Weight}
-use Rattle.grown_trees.specs.Growth.{IsSpelledNode}
+use Rattle.grown_trees.specs.Growth.{IsSpelledNode, turns_in}
 use Rattle.grown_trees.specs.Places as places
 use Rattle.grown_trees.specs.declared.growing.GrowingNode.{GrowingNode}
-use Rattle.branch_tree.specs.Resumes.{MayResume}
+use Rattle.branch_tree.specs.Resumes.{MayResume, ResumedTreesHaveTurns}
 use Rattle.branch_tree.specs.Searches.{IsHeldSet}
 use Rattle.cert_lines.specs.Certificates.{Certificate}
 use Rattle.cert_lines.specs.Laws.{SpellableIsFine}
 use Rattle.cert_lines.specs.Spelling.{IsFine, IsFineNode, IsFineSet, IsSpellable}
 use Rattle.cert_format.specs.Good.{HasPriceEach, IsGood, support_of}
 use Rattle.carried_trees.specs.Carried.{WouldShow}
+use Rattle.carp_engine.specs.Improved.{HaveTurns}
 use Rattle.tree_transfer.specs.Shown.{AreNotedNodes, AreTreeNodes, HasShores, WouldShowSome}
 
 join_all : {X : Type 0} (P : X → Type 0) (xs ys : List X) → AllByRecursion P xs → AllByRecursion P ys → AllByRecursion P (xs ++ ys)
@@ -127,4 +128,13 @@ module _ (law : SpellableIsFine) (once : FixedValueIsUnique) (p : Problem) (c : 
     few_sets = is_fine.few_sets;
     belong = good.shores;
     few_nodes = omega (arith, ap length good.nodes, is_fine.few_nodes);
+  }
+
+  -- its nodes are those of its tree, whose turns for its cost are the nodes that show it
+  pub had : ResumedTreesHaveTurns → IsLowerBound p c.bound → (entries : List GrowingNode) → AreNotedNodes (support_of p c) c.nodes entries → HaveTurns (support_of p c) c.nodes c.cost (turns_in c.cost entries)
+  unfolding may_resume
+  had law bounds entries noted = record {
+    tree = good.tree;
+    in_preorder = good.nodes;
+    turns_are = law p c.shores c.sets c.bound entries (may_resume bounds entries noted) is_fine.bound_in c.cost is_fine.cost_in;
   }

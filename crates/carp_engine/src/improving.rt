@@ -9,6 +9,7 @@ ghost use Rattle.carp_engine.specs.Improved.{IsImproved};
 use crate::Solved;
 use crate::searching::search_on;
 use branch_rules::tree_bounds;
+use branch_tree::resumed_trees_have_turns;
 use carp_base::{Instance, Memory};
 use cert_format::{Cert, counts_are_in_range, good_is_proof, plans_are_on_edges};
 use cert_lines::{fine_is_spellable, shores_are_fine, spellable_is_fine};
@@ -26,8 +27,8 @@ use tree_transfer::note_nodes;
 ///
 /// The old plan's tours are joined by least paths first, and its tours without service are left out. The helpers are seeded and asked as
 /// in [`solve`](crate::solve). Then the search takes up the old tree with its price sets and its shores, and goes on for so many turns
-/// more than the tree has for the new cost, up to 1,048,576 in all. So the bound is below the cost only where the tree has at least as many
-/// turns as were asked for.
+/// more than the tree has for the cost of that plan, up to 1,048,576 in all. So where the bound is below the cost, the tree has at least
+/// as many turns as the old one had for the old cost and so many more, or 1,048,576.
 ///
 /// Where the old tree has 256 price sets, its leaves keep those that they have; with 2,000 shores none is added. Without memory the answer
 /// is `Memory`.
@@ -51,7 +52,7 @@ pub fn improve<P: Proposer>(
     ensures few_rounds { OnOk result (All (λ helper. P.asked helper ≤ 4) helpers.new.items) }
     ensures fouls { OnOk result (All (λ helper. (P.tally helper).fouls ≤ 1) helpers.new.items) }
     ensures least { IfOk result (λ solved. All (λ helper. IsAtMost solved.cert.cost (P.tally helper).least) helpers.new.items) }
-    ensures improved { IfOk result (λ solved. IsImproved inst.now (certificate_in cert) (certificate_in solved.cert) solved.turns) }
+    ensures improved { IfOk result (λ solved. IsImproved inst.now (certificate_in cert) (certificate_in solved.cert) turns solved.turns) }
     ensures ended { IfOk result (λ solved. (solved.cert.bound ≡ solved.cert.cost) ⊎ (turns ≤ solved.turns)) }
 {
     tree_bounds();
@@ -63,6 +64,7 @@ pub fn improve<P: Proposer>(
     plans_are_on_edges();
     good_is_proof();
     fixed_values_compare();
+    resumed_trees_have_turns();
     let _ = inst.vertices();
     let dist = cost_distances(alloc, inst)?;
     let mut plan = tidy(alloc, inst, &dist, &cert.plan)?;

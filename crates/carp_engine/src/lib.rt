@@ -2,7 +2,8 @@
 //!
 //! [`solve`] starts with one tour for each required edge, asks helpers in rounds, each of which is any [`plan_model::Proposer`]
 //! (`helper_rounds`), and then searches a tree of decisions by turns (`branch_tree`). No helper need be trusted: each offer is judged.
-//! [`improve`] goes on from the plan and the tree of a good certificate in the same way. [`consult`] asks one helper, and [`dismiss`] drops those that offered an unlawful plan.
+//! [`improve`] goes on from the plan and the tree of a good certificate in the same way. [`consult`] asks one helper, and [`dismiss`] drops
+//! those that offered an unlawful plan.
 #![tactic(auto)]
 
 mod certifying;

@@ -1,6 +1,8 @@
 // Searches for a tree that shows the cost of a plan, within a budget of turns.
-ghost use Rattle.std.specs.Prelude.{◌≡◌, ◌⊎◌, ◌≤◌, IfOk, OnOk};
+ghost use Rattle.std.specs.Prelude.{◌≡◌, ◌⊎◌, ◌+◌, ◌≤◌, IfOk, OnOk, min};
+ghost use Rattle.plan_model.specs.Plans.{plan_cost};
 ghost use Rattle.short_plans.specs.Shorts.{IsShortPlan};
+ghost use Rattle.grown_trees.specs.Growth.{turns_in};
 ghost use Rattle.branch_tree.specs.Resumes.{MayResume};
 ghost use Rattle.branch_tree.specs.Searches.{IsSearch, state_of};
 ghost use Rattle.branch_tree.specs.Steps.{AreClosed};
@@ -33,7 +35,7 @@ pub(crate) fn search(
     go_on(alloc, inst, search)
 }
 
-// The best plan that a search from this plan and a tree on finds, and its certificate.
+// The best plan that a search from this plan and a tree on finds, and its certificate. The budget is so many turns more than the tree has.
 pub(crate) fn search_on(
     alloc: Global,
     inst: &Instance,
@@ -48,7 +50,7 @@ pub(crate) fn search_on(
     requires turns_in_range { turns ≤ 1048576 }
     requires short { IsShortPlan inst.now plan }
     requires may { MayResume inst.now shores sets.items least nodes.now }
-    ensures { IfOk result (λ solved. IsSearched inst.now least turns plan (certificate_in solved.cert) solved.turns) }
+    ensures { IfOk result (λ solved. IsSearched inst.now least (min (turns_in (plan_cost inst.now plan) nodes.now + turns) 1048576) plan (certificate_in solved.cert) solved.turns) }
 {
     let search = Search::resume(alloc, inst, turns, plan, nodes, sets, shores, least)?;
     go_on(alloc, inst, search)
