@@ -15,7 +15,7 @@ use Rattle.cert_format.specs.Good.{IsGood, support_of}
 use Rattle.cert_checker.specs.declared.reason.Part.TheVariants as parts
 use Rattle.cert_checker.specs.declared.reason.Reason.{Reason}
 use Rattle.cert_checker.specs.declared.reason.Reason.TheVariants.{PlanUnlawful, CostDiffers, Misfit, WeightTooLarge, CountsDiffer, NotLean, NotVoid, NotFixed, MissingUpper, TourTooCheap, LeafLow}
-use Rattle.cert_checker.specs.Claims.{HasItsShores, IsBacked}
+use Rattle.cert_checker.specs.Claims.{IsSetRead, IsBacked}
 use Rattle.cert_checker.specs.Nodes.{NodeFails, NodesStand, FirstNodeFails}
 use Rattle.tree_paths.specs.Waiting.{waiting_after}
 use Rattle.cert_checker.specs.Reasons.{HeadIsRight, IsFirstReason}
@@ -61,8 +61,8 @@ tree_stands s bound branch cuts (price set) rest waiting is stand = record { pai
 tree_stands s bound branch cuts void rest waiting is stand = record { pairs = tt; lean = tt; shows = stand.0; rest = stand.1 }
 tree_stands s bound branch cuts fixed rest waiting is stand = record { pairs = tt; lean = tt; shows = stand.0; rest = stand.1 }
 
-pub backed_by : (p : Problem) (c : Certificate) → HeadIsRight p c → All (HasItsShores (support_of p c)) c.sets → IsBacked (support_of p c)
-backed_by p c head weights = record { belong = head.prices.shores.shores; prices = head.prices.prices; deadheads = head.deadheads; weights = weights }
+pub backed_by : (p : Problem) (c : Certificate) → HeadIsRight p c → All (IsSetRead (support_of p c)) c.sets → IsBacked (support_of p c)
+backed_by p c head sets_read = record { belong = head.prices.shores.shores; prices = head.prices.prices; deadheads = head.deadheads; sets_read = sets_read }
 
 -- a certificate whose head is right, and whose nodes are as they should be, is good
 pub good_from : (p : Problem) (c : Certificate) → HeadIsRight p c → Fills c.nodes 1 → NodesStand (support_of p c) c.bound c.nodes ([] ∷ []) → IsGood p c

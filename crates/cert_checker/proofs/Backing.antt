@@ -12,7 +12,7 @@ use Rattle.branch_rules.specs.Refusals.{NoneTooHeavy, IsTooHeavy}
 use Rattle.branch_rules.specs.declared.price_set.TooHeavy.{TooHeavy}
 use Rattle.branch_rules.specs.Trees.{Support, set_at, no_prices}
 use Rattle.route_pricing.specs.Tables.{IsServicePrice}
-use Rattle.cert_checker.specs.Claims.{IsSetNumber, HasItsShores}
+use Rattle.cert_checker.specs.Claims.{IsSetNumber, IsSetRead}
 
 -- what each price set has, the set of a number has
 pub at_set : (P : Prices → Type 0) (s : Support) (set : ℕ) → All P s.sets → IsSetNumber s set → P (set_at s set)
@@ -27,8 +27,8 @@ at_shore P pool (suc k) all number = all k _ (omega (arith, number.in_range))
 pub shore_of : (p : Problem) (pool : List (List ℕ)) (shore : ℕ) → All (Belongs p) pool → IsShoreNumber pool shore → IsShoreOf p pool shore
 shore_of p pool shore belong number = record { number = number; belongs = at_shore (Belongs p) pool shore belong number }
 
-pub shores_of : (s : Support) (set : Prices) → All (Belongs s.problem) s.pool → HasItsShores s set → All (λ w. IsShoreOf s.problem s.pool w.shore) set.weights
-shores_of s set belong its k d less = shore_of s.problem s.pool _ belong (its k d less)
+pub shores_of : (s : Support) (set : Prices) → All (Belongs s.problem) s.pool → IsSetRead s set → All (λ w. IsShoreOf s.problem s.pool w.shore) set.weights
+shores_of s set belong read k d less = shore_of s.problem s.pool _ belong (read.shores k d less)
 
 pub none_and_heavy : (p : Problem) (pool : List (List ℕ)) (set : Prices) (named : TooHeavy) → NoneTooHeavy p pool set → IsTooHeavy p pool set named → ⊥
 none_and_heavy p pool set named none heavy =

@@ -1,16 +1,22 @@
 -- The least value of the table is the least value of the relaxed tours of a leaf.
-use Rattle.std.proofs.Common.{◌≡◌, ℕ, zero, suc, Bool, true, false, List, [], ◌∷◌, ◌++◌, map, refl, sym, ap, ◌∙◌, subst, arith, ℤ, pos, ◌+ℤ◌, ◌≤ℤ◌, Option, Some, None, MatchOption}
-use Rattle.std.specs.List.{AllByRecursion}
+use Rattle.std.proofs.Common.{◌≡◌, ℕ, zero, suc, ◌+◌, ◌-◌, ◌*◌, ◌≤◌, Bool, true, false, List, [], ◌∷◌, ◌++◌, map, refl, sym, ap, ◌∙◌, subst, arith, ℤ, pos, ◌+ℤ◌, ◌≤ℤ◌, Option, Some, None, MatchOption}
+use Rattle.std.specs.List.{All, AllByRecursion}
 use Rattle.std.proofs.lemmas.Int.{ints}
+use Rattle.std.proofs.lemmas.List.Elements.{All-weaker}
 use Rattle.carp_base.specs.Problem.{Problem, IsRequired}
 use Rattle.carp_base.specs.Allowed.{Relation, allows}
 use Rattle.carp_base.specs.declared.edge.Task.{Task}
 use Rattle.deadhead_paths.specs.Tours.{IsFollowed, IsTaskTour}
 use Rattle.decision_chains.specs.declared.decision.Decision.{Decision}
 use Rattle.decision_chains.specs.Exclusions.{Excluded, PermitsUnexcluded}
+use Rattle.branch_rules.specs.Bonds.{GroupWeight, IsSurchargeTable, bond_weight, surcharge, surcharges_after}
+use Rattle.branch_rules.specs.Laws.{SurchargeIsSymmetric, SurchargesAreBondWeights}
 use Rattle.branch_rules.specs.Prices.{Prices, signed_sum, task_adds}
 use Rattle.branch_rules.specs.Trees.{Support, set_at}
-use Rattle.route_pricing.specs.Values.{IsAllowed, IsPriced, IsLeastValue, service_adds, services_add}
+use Rattle.pricing_grid.specs.Pricing.{AreSurcharges, IsSurcharge}
+use Rattle.branch_rules.specs.Limits as limits
+use Rattle.route_pricing.specs.Values as pricing
+use Rattle.route_pricing.specs.Values.{IsAllowed, IsPriced, IsLeastValue, service_adds, services_add, tour_surcharge}
 use Rattle.cert_checker.specs.Nodes.{HasValue, IsLeastTour, ToursPay}
 use Rattle.cert_checker.specs.Leaves.{pricing_of, IsIfNegative, PermitSame, TourSays}
 
@@ -38,17 +44,35 @@ permits_same p branch one other on same permits = record {
   refused = λ a b a_in b_in is. permits.refused a b a_in b_in (sym (same a b a_in.from_one a_in.in_range b_in.from_one b_in.in_range) ∙ is);
 }
 
-module _ (s : Support) (branch : List Decision) (set : ℕ) (relation : Relation) (permits : PermitsUnexcluded s.problem branch relation) where
-  one_adds : (e : ℕ) → service_adds (pricing_of s set relation) e ≡ task_adds s.problem (set_at s set) e
+module _ (s : Support) (branch : List Decision) (set : ℕ) (relation : Relation) (permits : PermitsUnexcluded s.problem branch relation)
+    (charges : List ℤ) (charged : IsSurchargeTable s.problem.required (set_at s set).groups charges) (law : SurchargesAreBondWeights) where
+  one_adds : (e : ℕ) → service_adds (pricing_of s set relation charges) e ≡ task_adds s.problem (set_at s set) e
   one_adds zero = refl
   one_adds (suc k) = refl
 
-  all_add : (tasks : List Task) → services_add (pricing_of s set relation) tasks ≡ signed_sum (λ t. task_adds s.problem (set_at s set) t.edge) tasks
+  all_add : (tasks : List Task) → services_add (pricing_of s set relation charges) tasks ≡ signed_sum (λ t. task_adds s.problem (set_at s set) t.edge) tasks
   all_add [] = refl
   all_add (t ∷ tasks) =
-      ap (λ z. z +ℤ services_add (pricing_of s set relation) tasks) (one_adds t.edge) ∙ ap (λ z. task_adds s.problem (set_at s set) t.edge +ℤ z) (all_add tasks)
+      ap (λ z. z +ℤ services_add (pricing_of s set relation charges) tasks) (one_adds t.edge) ∙ ap (λ z. task_adds s.problem (set_at s set) t.edge +ℤ z) (all_add tasks)
 
-  tour_to : (tasks : List Task) → IsTaskTour s.problem (IsAllowed (pricing_of s set relation)) tasks → IsTaskTour s.problem (λ a b. ¬ (Excluded s.problem branch a b)) tasks
+  -- the surcharges of tasks in the pricing are what their bonds weigh
+  after_are : (t : Task) (tasks : List Task) → IsRequired s.problem t.edge → AllByRecursion (λ u. IsRequired s.problem u.edge) tasks →
+      pricing.surcharges_after (pricing_of s set relation charges) t tasks ≡ surcharges_after (surcharge (set_at s set).groups) t.edge (map (λ u. u.edge) tasks)
+  after_are t [] t_in required = refl
+  after_are t (u ∷ tasks) t_in required =
+      omega (
+        arith,
+        ints,
+        charged.same t.edge u.edge t_in.from_one t_in.in_range required.0.from_one required.0.in_range,
+        after_are u tasks required.0 required.1,
+      )
+
+  bonds_are : (tasks : List Task) → AllByRecursion (λ t. IsRequired s.problem t.edge) tasks →
+      tour_surcharge (pricing_of s set relation charges) tasks ≡ bond_weight (set_at s set).groups (map (λ t. t.edge) tasks)
+  bonds_are [] required = sym (law (set_at s set).groups [])
+  bonds_are (t ∷ tasks) required = after_are t tasks required.0 required.1 ∙ sym (law (set_at s set).groups (map (λ u. u.edge) (t ∷ tasks)))
+
+  tour_to : (tasks : List Task) → IsTaskTour s.problem (IsAllowed (pricing_of s set relation charges)) tasks → IsTaskTour s.problem (λ a b. ¬ (Excluded s.problem branch a b)) tasks
   tour_to tasks tour = record {
     some = tour.some;
     required = tour.required;
@@ -58,7 +82,7 @@ module _ (s : Support) (branch : List Decision) (set : ℕ) (relation : Relation
         permits.permitted a b have.0 have.1 (tour.each_allowed a b follows);
   }
 
-  tour_from : (tasks : List Task) → IsTaskTour s.problem (λ a b. ¬ (Excluded s.problem branch a b)) tasks → IsTaskTour s.problem (IsAllowed (pricing_of s set relation)) tasks
+  tour_from : (tasks : List Task) → IsTaskTour s.problem (λ a b. ¬ (Excluded s.problem branch a b)) tasks → IsTaskTour s.problem (IsAllowed (pricing_of s set relation charges)) tasks
   tour_from tasks tour = record {
     some = tour.some;
     required = tour.required;
@@ -68,22 +92,22 @@ module _ (s : Support) (branch : List Decision) (set : ℕ) (relation : Relation
         not_false (allows relation a b) (λ is. tour.each_allowed a b follows (permits.refused a b have.0 have.1 is));
   }
 
-  value_to : (tasks : List Task) (deadhead : ℕ) (value : ℤ) → IsPriced (pricing_of s set relation) tasks deadhead value → HasValue s branch (set_at s set) tasks value
+  value_to : (tasks : List Task) (deadhead : ℕ) (value : ℤ) → IsPriced (pricing_of s set relation charges) tasks deadhead value → HasValue s branch (set_at s set) tasks value
   value_to tasks deadhead value is = record {
     deadhead = deadhead;
     tour = tour_to tasks is.tour;
     deadheads = is.deadheads;
-    sum = is.sum ∙ ap (λ z. z +ℤ pos deadhead) (all_add tasks);
+    sum = omega (arith, ints, is.sum, all_add tasks, bonds_are tasks is.tour.required);
   }
 
-  value_from : (tasks : List Task) (value : ℤ) → (is : HasValue s branch (set_at s set) tasks value) → IsPriced (pricing_of s set relation) tasks is.deadhead value
+  value_from : (tasks : List Task) (value : ℤ) → (is : HasValue s branch (set_at s set) tasks value) → IsPriced (pricing_of s set relation charges) tasks is.deadhead value
   value_from tasks value is = record {
     tour = tour_from tasks is.tour;
     deadheads = is.deadheads;
-    sum = is.sum ∙ ap (λ z. z +ℤ pos is.deadhead) (sym (all_add tasks));
+    sum = omega (arith, ints, is.sum, all_add tasks, bonds_are tasks is.tour.required);
   }
 
-  pub least_to : (value : ℤ) → IsLeastValue (pricing_of s set relation) value → IsLeastTour s branch (set_at s set) value
+  pub least_to : (value : ℤ) → IsLeastValue (pricing_of s set relation charges) value → IsLeastTour s branch (set_at s set) value
   least_to value is = record {
     tasks = is.tasks;
     attained = value_to is.tasks is.deadhead value is.attained;
@@ -93,7 +117,7 @@ module _ (s : Support) (branch : List Decision) (set : ℕ) (relation : Relation
 -- where the least value is not negative, each tour pays
 pub all_pay : (s : Support) (branch : List Decision) (set : Prices) (value : ℤ) → IsLeastTour s branch set value → pos 0 ≤ℤ value → ToursPay s branch set
 all_pay s branch set value is enough tasks n tour deadheads =
-    let least = is.least tasks (signed_sum (λ t. task_adds s.problem set t.edge) tasks +ℤ pos n) (record { deadhead = n; tour = tour; deadheads = deadheads; sum = refl }) in
+    let least = is.least tasks (signed_sum (λ t. task_adds s.problem set t.edge) tasks +ℤ (pos n +ℤ bond_weight set.groups (map (λ t. t.edge) tasks))) (record { deadhead = n; tour = tour; deadheads = deadheads; sum = refl }) in
     omega (arith, ints, least, enough)
 
 -- where no edge is required, there is no tour
@@ -111,7 +135,16 @@ tours_say s branch set (Some value) (Some found) is kept =
     let same : value ≡ found = cc (kept.0) in
     (subst (IsLeastTour s branch set) same is, kept.1)
 
-pub least_of : (s : Support) (branch : List Decision) (set : ℕ) (relation : Relation) → PermitsUnexcluded s.problem branch relation → (least : Option ℤ) →
-    MatchOption least (s.problem.required ≡ 0) (IsLeastValue (pricing_of s set relation)) → MatchOption least (s.problem.required ≡ 0) (IsLeastTour s branch (set_at s set))
-least_of s branch set relation permits None is = is
-least_of s branch set relation permits (Some value) is = least_to s branch set relation permits value is
+pub least_of : SurchargesAreBondWeights → (s : Support) (branch : List Decision) (set : ℕ) (relation : Relation) → PermitsUnexcluded s.problem branch relation →
+    (charges : List ℤ) → IsSurchargeTable s.problem.required (set_at s set).groups charges → (least : Option ℤ) →
+    MatchOption least (s.problem.required ≡ 0) (IsLeastValue (pricing_of s set relation charges)) → MatchOption least (s.problem.required ≡ 0) (IsLeastTour s branch (set_at s set))
+least_of law s branch set relation permits charges charged None is = is
+least_of law s branch set relation permits charges charged (Some value) is = least_to s branch set relation permits charges charged law value is
+
+-- the table of the surcharges of groups is one of surcharges
+pub are_surcharges : SurchargeIsSymmetric → (m : ℕ) (groups : List GroupWeight) (table : List ℤ) → IsSurchargeTable m groups table → All limits.IsSurcharge table → AreSurcharges m table
+are_surcharges symmetric m groups table charged small = record {
+  long = charged.long;
+  both_orders = λ e f e_from e_in f_from f_in. charged.same e f e_from e_in f_from f_in ∙ symmetric groups e f ∙ sym (charged.same f e f_from f_in e_from e_in);
+  small = All-weaker limits.IsSurcharge IsSurcharge (λ s is. record { low = omega (arith, ints, is.low); high = omega (arith, ints, is.high) }) table small;
+}

@@ -21,7 +21,7 @@ use Rattle.cert_lines.specs.Agreement.{Agrees, BecomesWhole}
 use Rattle.cert_lines.specs.Spelling.{AreGood}
 use Rattle.cert_lines.specs.Texts.{items_of}
 use Rattle.cert_format.specs.Certs.{stated_nodes}
-use Rattle.cert_checker.specs.Claims.{HasItsShores, IsNodeRead}
+use Rattle.cert_checker.specs.Claims.{IsSetRead, IsNodeRead}
 use Rattle.cert_checker.specs.Streams.{AreSound, Fits, head_count, said_support, with_nodes}
 use Rattle.cert_checker.proofs.Extending.{GoesOn, after_lines}
 use Rattle.cert_checker.proofs.Spelled.{node_read}
@@ -239,13 +239,16 @@ node_stays s t (tree.Price set) pools long read = record { from_one = read.from_
 node_stays s t tree.Void pools long read = tt
 node_stays s t tree.Fixed pools long read = tt
 
-set_stays : (s t : Support) (set : Prices) → length s.pool ≤ length t.pool → HasItsShores s set → HasItsShores t set
-set_stays s t set pools its =
-    All-weaker (λ w. IsShoreNumber s.pool w.shore) (λ w. IsShoreNumber t.pool w.shore) (λ w number. record { from_one = number.from_one; in_range = omega (arith, number.in_range, pools) }) set.weights its
+set_stays : (s t : Support) (set : Prices) → length s.pool ≤ length t.pool → IsSetRead s set → IsSetRead t set
+set_stays s t set pools read = record {
+  shores = All-weaker (λ w. IsShoreNumber s.pool w.shore) (λ w. IsShoreNumber t.pool w.shore)
+      (λ w number. record { from_one = number.from_one; in_range = omega (arith, number.in_range, pools) }) set.weights read.shores;
+  no_groups = read.no_groups;
+}
 
 -- what good lines keep
 record Kept (p : Problem) (said : LatestFirst) : Type 0 where
-  weights_in : All (HasItsShores (said_support p said)) (sets_of said)
+  sets_read : All (IsSetRead (said_support p said)) (sets_of said)
   read : All (IsNodeRead (said_support p said)) (nodes_of said)
   fits : Fits (nodes_of said) 1
   state : InState (next_of said) (head_count (items_of said)) (stated_nodes said) (nodes_of said)
@@ -261,7 +264,7 @@ keep_shore p n vertices said follows kept =
     let t = said_support p (shore n vertices ∷ said) in
     let pools : length s.pool ≤ length t.pool = omega (arith, length-append (shores_of said) (vertices ∷ [])) in
     record {
-      weights_in = All-weaker (HasItsShores s) (HasItsShores t) (λ set its. set_stays s t set pools its) (sets_of said) kept.weights_in;
+      sets_read = All-weaker (IsSetRead s) (IsSetRead t) (λ set read. set_stays s t set pools read) (sets_of said) kept.sets_read;
       read = All-weaker (IsNodeRead s) (IsNodeRead t) (λ x read. node_stays s t x pools (omega arith) read) (nodes_of said) kept.read;
       fits = kept.fits;
       state = keep_quiet p (shore n vertices) said tt follows kept;
@@ -272,11 +275,14 @@ keep_weights : (p : Problem) (n : ℕ) (given : List Weight) (said : LatestFirst
 keep_weights p n given said follows fine kept =
     let s = said_support p said in
     let t = said_support p (weights n given ∷ said) in
-    let set : Prices = record { unit = unit_of said; services = services_of said; weights = given } in
-    let new : HasItsShores t set = All-weaker (IsWeightInRange (length (shores_of said))) (λ w. IsShoreNumber (shores_of said) w.shore)
-    (λ w in_range. record { from_one = in_range.shore.from_first; in_range = in_range.shore.to_last }) given fine in
+    let set : Prices = record { unit = unit_of said; services = services_of said; weights = given; groups = [] } in
+    let new : IsSetRead t set = record {
+      shores = All-weaker (IsWeightInRange (length (shores_of said))) (λ w. IsShoreNumber (shores_of said) w.shore)
+          (λ w in_range. record { from_one = in_range.shore.from_first; in_range = in_range.shore.to_last }) given fine;
+      no_groups = refl;
+    } in
     record {
-      weights_in = All-append (HasItsShores t) (sets_of said) (set ∷ []) kept.weights_in (All-cons (HasItsShores t) set [] new (All-nil (HasItsShores t)));
+      sets_read = All-append (IsSetRead t) (sets_of said) (set ∷ []) kept.sets_read (All-cons (IsSetRead t) set [] new (All-nil (IsSetRead t)));
       read = All-weaker (IsNodeRead s) (IsNodeRead t) (λ x read. node_stays s t x (omega arith) (omega (arith, length-append (sets_of said) (set ∷ []))) read) (nodes_of said) kept.read;
       fits = kept.fits;
       state = keep_quiet p (weights n given) said tt follows kept;
@@ -286,7 +292,7 @@ keep_nodes : (p : Problem) (n : ℕ) (said : LatestFirst) → follows (next_of s
 keep_nodes p n said follows some few kept =
     let early = before_nodes (next_of said) n (head_count (items_of said)) (stated_nodes said) (nodes_of said) follows kept.state in
     record {
-      weights_in = kept.weights_in;
+      sets_read = kept.sets_read;
       read = kept.read;
       fits = kept.fits;
       state = tree_begins n _ (nodes_of said) some few (omega (arith, head_count-append (items_of said) (items.Head ∷ []), early.none)) early.empty;
@@ -297,7 +303,7 @@ keep_node p x said follows in_range agrees kept =
     let at = before_node (next_of said) x (head_count (items_of said)) (stated_nodes said) (nodes_of said) follows kept.state in
     let same : head_count (items_of said) ≡ head_count (items_of said ++ items.Node x ∷ []) = omega (arith, head_count-append (items_of said) (items.Node x ∷ [])) in
     record {
-      weights_in = kept.weights_in;
+      sets_read = kept.sets_read;
       read = All-append (IsNodeRead (said_support p said)) (nodes_of said) (x ∷ []) kept.read
           (All-cons (IsNodeRead (said_support p said)) x [] (node_read (said_support p said) _ _ x refl refl in_range) (All-nil (IsNodeRead (said_support p said))));
       fits = fits_more (nodes_of said) x 1 kept.fits (omega (arith, at.state.open_is, at.state.some_open));
@@ -309,7 +315,7 @@ keep_end : (p : Problem) (said : LatestFirst) → follows (next_of said) end ≡
 keep_end p said follows kept =
     let done = at_end (next_of said) (head_count (items_of said)) (stated_nodes said) (nodes_of said) follows kept.state in
     record {
-      weights_in = kept.weights_in;
+      sets_read = kept.sets_read;
       read = kept.read;
       fits = kept.fits;
       state = record { one = omega (arith, head_count-append (items_of said) (items.Whole ∷ []), done.one); some_stated = done.some_stated; few = done.few };
@@ -321,23 +327,23 @@ keep p (weights n given) said follows in_range agrees kept = keep_weights p n gi
 keep p (nodes n) said follows in_range agrees kept = keep_nodes p n said follows in_range.from_first in_range.to_last kept
 keep p (node x) said follows in_range agrees kept = keep_node p x said follows in_range agrees kept
 keep p end said follows in_range agrees kept = keep_end p said follows kept
-keep p (version n) said follows in_range agrees kept = record { weights_in = kept.weights_in; read = kept.read; fits = kept.fits; state = keep_quiet p (version n) said tt follows kept }
-keep p (counts c) said follows in_range agrees kept = record { weights_in = kept.weights_in; read = kept.read; fits = kept.fits; state = keep_quiet p (counts c) said tt follows kept }
-keep p (cost n) said follows in_range agrees kept = record { weights_in = kept.weights_in; read = kept.read; fits = kept.fits; state = keep_quiet p (cost n) said tt follows kept }
-keep p (bound n) said follows in_range agrees kept = record { weights_in = kept.weights_in; read = kept.read; fits = kept.fits; state = keep_quiet p (bound n) said tt follows kept }
-keep p (tours n) said follows in_range agrees kept = record { weights_in = kept.weights_in; read = kept.read; fits = kept.fits; state = keep_quiet p (tours n) said tt follows kept }
-keep p (tour n steps) said follows in_range agrees kept = record { weights_in = kept.weights_in; read = kept.read; fits = kept.fits; state = keep_quiet p (tour n steps) said tt follows kept }
-keep p (shores n) said follows in_range agrees kept = record { weights_in = kept.weights_in; read = kept.read; fits = kept.fits; state = keep_quiet p (shores n) said tt follows kept }
-keep p (sets n) said follows in_range agrees kept = record { weights_in = kept.weights_in; read = kept.read; fits = kept.fits; state = keep_quiet p (sets n) said tt follows kept }
+keep p (version n) said follows in_range agrees kept = record { sets_read = kept.sets_read; read = kept.read; fits = kept.fits; state = keep_quiet p (version n) said tt follows kept }
+keep p (counts c) said follows in_range agrees kept = record { sets_read = kept.sets_read; read = kept.read; fits = kept.fits; state = keep_quiet p (counts c) said tt follows kept }
+keep p (cost n) said follows in_range agrees kept = record { sets_read = kept.sets_read; read = kept.read; fits = kept.fits; state = keep_quiet p (cost n) said tt follows kept }
+keep p (bound n) said follows in_range agrees kept = record { sets_read = kept.sets_read; read = kept.read; fits = kept.fits; state = keep_quiet p (bound n) said tt follows kept }
+keep p (tours n) said follows in_range agrees kept = record { sets_read = kept.sets_read; read = kept.read; fits = kept.fits; state = keep_quiet p (tours n) said tt follows kept }
+keep p (tour n steps) said follows in_range agrees kept = record { sets_read = kept.sets_read; read = kept.read; fits = kept.fits; state = keep_quiet p (tour n steps) said tt follows kept }
+keep p (shores n) said follows in_range agrees kept = record { sets_read = kept.sets_read; read = kept.read; fits = kept.fits; state = keep_quiet p (shores n) said tt follows kept }
+keep p (sets n) said follows in_range agrees kept = record { sets_read = kept.sets_read; read = kept.read; fits = kept.fits; state = keep_quiet p (sets n) said tt follows kept }
 keep p (prices unit n services) said follows in_range agrees kept =
-    record { weights_in = kept.weights_in; read = kept.read; fits = kept.fits; state = keep_quiet p (prices unit n services) said tt follows kept }
+    record { sets_read = kept.sets_read; read = kept.read; fits = kept.fits; state = keep_quiet p (prices unit n services) said tt follows kept }
 
 keep_lines : (p : Problem) (lines : List Line) (said : LatestFirst) → AreGood said lines → Kept p said → Kept p (after_lines lines said)
 keep_lines p [] said good kept = kept
 keep_lines p (line ∷ lines) said good kept = keep_lines p lines (line ∷ said) good.3 (keep p line said good.0 good.1 good.2 kept)
 
 none_kept : (p : Problem) → Kept p []
-none_kept p = record { weights_in = All-nil (HasItsShores (said_support p [])); read = All-nil (IsNodeRead (said_support p [])); fits = tt; state = record { none = refl; empty = refl } }
+none_kept p = record { sets_read = All-nil (IsSetRead (said_support p [])); read = All-nil (IsNodeRead (said_support p [])); fits = tt; state = record { none = refl; empty = refl } }
 
 all_kept : (p : Problem) (said : LatestFirst) → GoesOn [] said → Kept p said
 all_kept p said on = subst (Kept p) (sym on.is) (keep_lines p on.lines [] on.good (none_kept p))
@@ -369,7 +375,7 @@ pub sound_lines : (p : Problem) (said : LatestFirst) → GoesOn [] said → AreS
 sound_lines p said on =
     let kept = all_kept p said on in
     let a = in_all (next_of said) (head_count (items_of said)) (stated_nodes said) (nodes_of said) kept.state in
-    record { weights = kept.weights_in; read = kept.read; fits = kept.fits; few = a.few; one = a.one; no_nodes = a.no_nodes; stated = a.some_stated }
+    record { sets_read = kept.sets_read; read = kept.read; fits = kept.fits; few = a.few; one = a.one; no_nodes = a.no_nodes; stated = a.some_stated }
 
 -- after the last line the head was given
 pub whole_lines : (p : Problem) (said : LatestFirst) → GoesOn [] said → next_of said ≡ stands.Nothing → head_count (items_of said) ≡ 1

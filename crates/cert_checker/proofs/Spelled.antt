@@ -1,8 +1,8 @@
--- What a certificate that can be spelled has: its weights are on its shores, its nodes name its shores and its sets, and they fill
+-- What a certificate that can be spelled has: its weights are on its shores, no set has groups, its nodes name its shores and its sets, and they fill
 -- one tree.
 use Rattle.std.proofs.Common.{◌≡◌, ℕ, suc, zero, ◌+◌, ◌-◌, ◌≤◌, List, [], ◌∷◌, ◌++◌, map, length, refl, sym, ap, ◌∙◌, subst, arith, Option, Some, None, ◌↔◌, length-append}
-use Rattle.std.specs.List.{All, flat_map}
-use Rattle.std.proofs.lemmas.List.Elements.{All-nil, All-cons, All-weaker}
+use Rattle.std.specs.List.{All, AllByRecursion, flat_map}
+use Rattle.std.proofs.lemmas.List.Elements.{All-nil, All-cons, All-weaker, recursion_from_All}
 use Rattle.plan_model.specs.declared.step.Step.{Step}
 use Rattle.cut_pool.specs.Pools.{IsShoreNumber}
 use Rattle.branch_rules.specs.Prices.{Prices}
@@ -15,9 +15,9 @@ use Rattle.cert_lines.specs.Order.{LatestFirst, next_of, left_of, open_of, open_
 use Rattle.cert_lines.specs.Certificates.{Certificate, shores_of, sets_of}
 use Rattle.cert_lines.specs.Ranges.{IsNodeInRange, IsWeightInRange}
 use Rattle.cert_lines.specs.Agreement.{BecomesWhole}
-use Rattle.cert_lines.specs.Spelling.{version_lines, tour_line, shore_line, set_lines, AreGood, IsSpellable}
+use Rattle.cert_lines.specs.Spelling.{version_lines, tour_line, shore_line, set_lines, AreGood, HasNoGroups, IsSpellable}
 use Rattle.cert_lines.specs.declared.counts.Counts.{Counts}
-use Rattle.cert_checker.specs.Claims.{HasItsShores, IsNodeRead}
+use Rattle.cert_checker.specs.Claims.{IsSetRead, IsNodeRead}
 use Rattle.cert_checker.specs.Walks.{Fills}
 
 -- what is said after some lines
@@ -114,15 +114,18 @@ version_sets : (c : Option Counts) → all_in sets_in (version_lines c) ≡ 0
 version_sets None = refl
 version_sets (Some c) = refl
 
--- The weights of the sets.
+-- The sets.
 
-weights_read : (pool : List (List ℕ)) (s : Support) (all : List Prices) (said : LatestFirst) → s.pool ≡ pool → length (shores_of said) ≡ length pool → AreGood said (flat_map set_lines all) → All (HasItsShores s) all
-weights_read pool s [] said is long good = All-nil (HasItsShores s)
-weights_read pool s (set ∷ all) said is long good =
-    All-cons (HasItsShores s) set all
-    (All-weaker (IsWeightInRange (length (shores_of said))) (λ w. IsShoreNumber s.pool w.shore)
-    (λ w fine. record { from_one = fine.shore.from_first; in_range = omega (arith, fine.shore.to_last, long, ap length is) }) set.weights good.3.1.1)
-    (weights_read pool s all _ is long good.3.3)
+sets_are_read : (pool : List (List ℕ)) (s : Support) (all : List Prices) (said : LatestFirst) → s.pool ≡ pool → length (shores_of said) ≡ length pool → AreGood said (flat_map set_lines all) →
+    AllByRecursion HasNoGroups all → All (IsSetRead s) all
+sets_are_read pool s [] said is long good none = All-nil (IsSetRead s)
+sets_are_read pool s (set ∷ all) said is long good none =
+    let here : IsSetRead s set = record {
+      shores = All-weaker (IsWeightInRange (length (shores_of said))) (λ w. IsShoreNumber s.pool w.shore)
+          (λ w fine. record { from_one = fine.shore.from_first; in_range = omega (arith, fine.shore.to_last, long, ap length is) }) set.weights good.3.1.1;
+      no_groups = none.0;
+    } in
+    All-cons (IsSetRead s) set all here (sets_are_read pool s all _ is long good.3.3 none.1)
 
 -- The nodes.
 
@@ -150,7 +153,7 @@ nodes_read s (x ∷ all) said subtrees at both pool_long sets_long good =
     ((some_open (suc (length all)) subtrees both (omega arith), rest.0), All-cons (IsNodeRead s) x all (node_read s _ _ x pool_long sets_long good.1) rest.1)
 
 pub record IsSpelled (s : Support) (all : List Node) : Type 0 where
-  pub weights : All (HasItsShores s) s.sets
+  pub sets_read : All (IsSetRead s) s.sets
   pub read : All (IsNodeRead s) all
   pub whole : Fills all 1
 
@@ -168,7 +171,7 @@ module _ (s : Support) (c : Certificate) (pool_is : s.pool ≡ c.shores) (sets_i
   node_lines = nodes (length c.nodes) ∷ map node c.nodes
 
   good_nodes : AreGood [] (with_sets ++ node_lines)
-  good_nodes = good_front (with_sets ++ node_lines) (end ∷ []) [] spelled
+  good_nodes = good_front (with_sets ++ node_lines) (end ∷ []) [] spelled.lines
 
   good_sets : AreGood [] (with_shores ++ sets (length c.sets) ∷ flat_map set_lines c.sets)
   good_sets = good_front with_sets node_lines [] good_nodes
@@ -210,8 +213,9 @@ module _ (s : Support) (c : Certificate) (pool_is : s.pool ≡ c.shores) (sets_i
       ((λ none. absurd (omega (arith, none, nodes_good.1.from_first))), (λ none. absurd (omega (arith, none))))
       (omega (arith, shores_after with_sets [], all_shores_said, ap length pool_is)) (omega (arith, sets_after with_sets [], all_sets_said, ap length sets_is)) nodes_good.3 in
       record {
-        weights = subst (All (HasItsShores s)) (sym sets_is)
-            (weights_read c.shores s c.sets (sets (length c.sets) ∷ after_all with_shores []) pool_is (omega (arith, shores_after with_shores [], pool_shores)) sets_good.3);
+        sets_read = subst (All (IsSetRead s)) (sym sets_is)
+            (sets_are_read c.shores s c.sets (sets (length c.sets) ∷ after_all with_shores []) pool_is (omega (arith, shores_after with_shores [], pool_shores)) sets_good.3
+            (recursion_from_All HasNoGroups c.sets spelled.no_groups));
         read = all.1;
         whole = all.0;
       }

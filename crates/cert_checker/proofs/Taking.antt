@@ -30,7 +30,7 @@ use Rattle.cert_checker.specs.declared.reason.Reason.{Reason}
 use Rattle.cert_checker.specs.declared.stream.Stage.{Stage}
 use Rattle.cert_checker.specs.declared.stream.Stage.TheVariants.{Before, Rejected, Walking}
 use Rattle.cert_checker.specs.declared.stream.Stream.{Stream}
-use Rattle.cert_checker.specs.Claims.{HasItsShores, IsNodeRead}
+use Rattle.cert_checker.specs.Claims.{IsSetRead, IsNodeRead}
 use Rattle.cert_checker.specs.Reasons.{HeadIsRight, IsAnswer, IsFirstReason}
 use Rattle.cert_checker.specs.Streams.{AreSound, Fits, HasStreamed, HasStreamedSome, ItemComes, MayWalk, SomeItemComes, StageAnswers, StageHolds, StageSays, TextLaws, Walks, head_count, head_with, said_support, stage_heads, with_nodes}
 use Rattle.cert_checker.specs.Walks.{HasWalked, IsChecker, TreeSays}
@@ -155,11 +155,11 @@ says_so_far {p} {stream} {item} {before} {said} x = inl (x.rest, x.reads)
 pub no_nodes_yet : {p : Problem} {stream : Stream} {before said : LatestFirst} → (x : ItemComes p stream items.Head before said) → nodes_of said ≡ []
 no_nodes_yet {p} {stream} {before} {said} x = nodes_given said before (items.Head ∷ []) x.gives ∙ append-nil (nodes_of before) ∙ x.was_sound.no_nodes (head_heads x).1
 
--- the weights of the sets of the head
-pub head_weights : {p : Problem} {stream : Stream} {before said : LatestFirst} (head : CertHead) → IsHeadOf said head → (x : ItemComes p stream items.Head before said) →
-    All (HasItsShores (support_of p (head_with head []))) head.sets.items
-head_weights {p} {stream} {before} {said} head h x =
-    subst (λ (c : Certificate). All (HasItsShores (support_of p c)) c.sets) (sym (head_is said head [] h)) x.sound.weights
+-- the sets of the head
+pub head_sets : {p : Problem} {stream : Stream} {before said : LatestFirst} (head : CertHead) → IsHeadOf said head → (x : ItemComes p stream items.Head before said) →
+    All (IsSetRead (support_of p (head_with head []))) head.sets.items
+head_sets {p} {stream} {before} {said} head h x =
+    subst (λ (c : Certificate). All (IsSetRead (support_of p c)) c.sets) (sym (head_is said head [] h)) x.sound.sets_read
 
 -- the stage after the head
 pub head_on : {p : Problem} {stream : Stream} {before said : LatestFirst} (head : CertHead) (stage : Stage) → IsHeadOf said head → (x : ItemComes p stream items.Head before said) →
@@ -194,7 +194,7 @@ may_walk {p} {stream} {before} {said} node checker head is h x =
     record {
       nodes = nodes_of before;
       walks = subst (λ (c : Certificate). Walks p c checker) (sym same) here.1;
-      weights = subst (λ (c : Certificate). All (HasItsShores (support_of p c)) c.sets) (sym (head_is said head (nodes_of before) h)) x.sound.weights;
+      sets_read = subst (λ (c : Certificate). All (IsSetRead (support_of p c)) c.sets) (sym (head_is said head (nodes_of before) h)) x.sound.sets_read;
       read = subst (λ s. IsNodeRead s node) support
           (last_has (IsNodeRead (said_support p said)) (nodes_of before) node (subst (All (IsNodeRead (said_support p said))) grown x.sound.read));
       fits = subst (λ (xs : List Node). Fits xs 1) grown x.sound.fits;

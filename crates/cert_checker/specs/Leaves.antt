@@ -5,9 +5,11 @@ use Rattle.carp_base.specs.Allowed.{Relation, allows}
 use Rattle.decision_chains.specs.declared.decision.Decision.{Decision}
 use Rattle.decision_chains.specs.Exclusions.{PermitsUnexcluded}
 use Rattle.deadhead_paths.specs.Prices.{Priced, costs_of}
+use Rattle.pricing_grid.specs.Pricing.{AreSurcharges}
 use Rattle.route_pricing.specs.Tables.{IsRoom, IsFilled}
 use Rattle.route_pricing.specs.declared.table.Table.{Table}
 use Rattle.route_pricing.specs.Values.{Pricing}
+use Rattle.branch_rules.specs.Bonds.{IsSurchargeTable}
 use Rattle.branch_rules.specs.Prices.{Prices, crossing_prices}
 use Rattle.branch_rules.specs.Trees.{Support, set_at}
 use Rattle.branch_rules.specs.declared.node.Node.{Node}
@@ -23,26 +25,31 @@ pub record ArePricesOf (s : Support) (set : ℕ) (x : SetPrices) : Type 0 where
   pub services : x.services.items ≡ (set_at s set).services
   pub problem : x.dist.problem ≡ s.problem
   pub prices : x.dist.prices ≡ crossing_prices s.problem s.pool (set_at s set)
+  pub charged : IsSurchargeTable s.problem.required (set_at s set).groups x.surcharges.items
+  pub fit : AreSurcharges s.problem.required x.surcharges.items
 
 -- distances by cost
 pub record AreByCost (p : Problem) (dist : Priced) : Type 0 where
   pub problem : dist.problem ≡ p
   pub prices : dist.prices ≡ costs_of p
 
--- what tours are priced by at a leaf, where these pairs may be neighbours
-abbrev pub pricing_of : Support → ℕ → Relation → Pricing
-pricing_of s set relation = record {
+-- what tours are priced by at a leaf, if these pairs may be neighbours and have these surcharges
+abbrev pub pricing_of : Support → ℕ → Relation → List ℤ → Pricing
+pricing_of s set relation surcharges = record {
   problem = s.problem;
   prices = crossing_prices s.problem s.pool (set_at s set);
   unit = (set_at s set).unit;
   services = (set_at s set).services;
   relation = relation;
+  surcharges = surcharges;
 }
 
--- the table is filled for a set and a relation
+-- the table is filled for a set, with the surcharges of its groups, and a relation
 pub record IsTableFor (s : Support) (table : Table) (x : Filling) : Type 0 where
   pub on : x.allowed.size ≡ s.problem.required
-  pub filled : IsFilled (pricing_of s x.set x.allowed) table
+  pub surcharges : List ℤ
+  pub charged : IsSurchargeTable s.problem.required (set_at s x.set).groups surcharges
+  pub filled : IsFilled (pricing_of s x.set x.allowed surcharges) table
 
 -- what is kept is right
 pub record AreLeaves (s : Support) (x : Leaves) : Type 0 where
@@ -60,14 +67,18 @@ PermitSame m one other = (a b : ℕ) → 1 ≤ a → a ≤ m → 1 ≤ b → b �
 pub record IsFilledFor (s : Support) (branch : List Decision) (set : ℕ) (x : Leaves) : Type 0 where
   pub relation : Relation
   pub permits : PermitsUnexcluded s.problem branch relation
-  pub filled : IsFilled (pricing_of s set relation) x.table
+  pub surcharges : List ℤ
+  pub charged : IsSurchargeTable s.problem.required (set_at s set).groups surcharges
+  pub filled : IsFilled (pricing_of s set relation surcharges) x.table
 
 -- the table is filled for a set, and for a relation that permits the same pairs as another
 pub record IsFilledLike (s : Support) (set : ℕ) (other : Relation) (x : Leaves) : Type 0 where
   pub relation : Relation
   pub on : relation.size ≡ s.problem.required
   pub same : PermitSame s.problem.required relation other
-  pub filled : IsFilled (pricing_of s set relation) x.table
+  pub surcharges : List ℤ
+  pub charged : IsSurchargeTable s.problem.required (set_at s set).groups surcharges
+  pub filled : IsFilled (pricing_of s set relation surcharges) x.table
 
 -- what is found of the tours of a price leaf: that each pays for its services, or the least value, which is negative
 abbrev pub TourSays : Support → List Decision → Prices → Option ℤ → Type 0

@@ -1,5 +1,5 @@
 -- Why a node of a tree is not as it should be, and the first such node.
-use Rattle.std.specs.Prelude.{◌≡◌, ℕ, ◌+◌, ◌-◌, ◌<◌, ℤ, pos, ◌+ℤ◌, ◌-ℤ◌, ◌*ℤ◌, ◌≤ℤ◌, ◌<ℤ◌, ◌⊎◌, List, [], ◌∷◌}
+use Rattle.std.specs.Prelude.{◌≡◌, ℕ, ◌+◌, ◌-◌, ◌<◌, ℤ, pos, ◌+ℤ◌, ◌-ℤ◌, ◌*ℤ◌, ◌≤ℤ◌, ◌<ℤ◌, ◌⊎◌, List, [], ◌∷◌, map}
 use Rattle.std.specs.List.{All}
 use Rattle.carp_base.specs.declared.edge.Task.{Task}
 use Rattle.deadhead_paths.specs.Prices.{price_of}
@@ -9,6 +9,7 @@ use Rattle.decision_chains.specs.Exclusions.{Excluded, IsDetermined}
 use Rattle.chain_plans.specs.FixedValue.{HasFixedValue}
 use Rattle.branch_rules.specs.declared.node.Node.{Node}
 use Rattle.branch_rules.specs.declared.node.Node.TheVariants as nodes
+use Rattle.branch_rules.specs.Bonds.{bond_weight}
 use Rattle.branch_rules.specs.Prices.{Prices, PaysAtLeast, task_adds, crossing_prices, signed_sum, value_of}
 use Rattle.branch_rules.specs.Decisions.{rules_of, cuts_of, IsVoid, IsFixed}
 use Rattle.decision_chains.specs.Pairs.{IsPairWithin}
@@ -19,12 +20,12 @@ use Rattle.cert_checker.specs.declared.reason.Part.TheVariants as parts
 use Rattle.cert_checker.specs.declared.reason.Reason.{Reason}
 use Rattle.cert_checker.specs.declared.reason.Reason.TheVariants.{Misfit, NotLean, NotVoid, NotFixed, MissingUpper, TourTooCheap, LeafLow}
 
--- with the prices of a set, a relaxed tour has this value: what its services add, and its deadhead
+-- with the prices of a set, a relaxed tour has this value: what its services add, its deadhead, and what its bonds weigh
 pub record HasValue (s : Support) (branch : List Decision) (set : Prices) (tasks : List Task) (value : ℤ) : Type 0 where
   pub deadhead : ℕ
   pub tour : IsTaskTour s.problem (λ a b. ¬ (Excluded s.problem branch a b)) tasks
   pub deadheads : LeastDeadhead s.problem (price_of (crossing_prices s.problem s.pool set)) s.problem.depot tasks s.problem.depot deadhead
-  pub sum : value ≡ signed_sum (λ t. task_adds s.problem set t.edge) tasks +ℤ pos deadhead
+  pub sum : value ≡ signed_sum (λ t. task_adds s.problem set t.edge) tasks +ℤ (pos deadhead +ℤ bond_weight set.groups (map (λ t. t.edge) tasks))
 
 -- the least value of a relaxed tour
 pub record IsLeastTour (s : Support) (branch : List Decision) (set : Prices) (value : ℤ) : Type 0 where
@@ -34,7 +35,7 @@ pub record IsLeastTour (s : Support) (branch : List Decision) (set : Prices) (va
 
 -- each relaxed tour pays for its services
 abbrev pub ToursPay : Support → List Decision → Prices → Type 0
-ToursPay s branch set = PaysAtLeast s.problem (λ a b. ¬ (Excluded s.problem branch a b)) (task_adds s.problem set) (price_of (crossing_prices s.problem s.pool set))
+ToursPay s branch set = PaysAtLeast s.problem (λ a b. ¬ (Excluded s.problem branch a b)) (task_adds s.problem set) (price_of (crossing_prices s.problem s.pool set)) set.groups
 
 -- the denominator times one less than the bound
 abbrev pub limit_of : ℕ → ℕ → ℤ

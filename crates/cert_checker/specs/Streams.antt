@@ -30,7 +30,7 @@ use Rattle.cert_checker.specs.declared.stream.Stream.{Stream}
 use Rattle.cert_checker.specs.declared.streaming.Checked.{Checked}
 use Rattle.cert_checker.specs.declared.streaming.StreamFault.{StreamFault}
 use Rattle.cert_checker.specs.declared.streaming.StreamFault.TheVariants as faults
-use Rattle.cert_checker.specs.Claims.{HasItsShores, IsNodeRead}
+use Rattle.cert_checker.specs.Claims.{IsSetRead, IsNodeRead}
 use Rattle.cert_checker.specs.Reasons.{HeadIsRight, IsAnswer, IsFirstReason}
 use Rattle.cert_checker.specs.Walks.{HasWalked, IsChecker}
 
@@ -108,9 +108,9 @@ Fits (node ∷ nodes) subtrees = (1 ≤ subtrees) × Fits nodes (open_after subt
 abbrev pub said_support : Problem → LatestFirst → Support
 said_support p said = support_of p (certificate_of said)
 
--- what good lines have: their weights are on their shores, and their nodes name their shores and their sets and fit into one tree
+-- what good lines have: their weights are on their shores, no set has groups, and their nodes name their shores and their sets and fit into one tree
 pub record AreSound (p : Problem) (said : LatestFirst) : Type 0 where
-  pub weights : All (HasItsShores (said_support p said)) (sets_of said)
+  pub sets_read : All (IsSetRead (said_support p said)) (sets_of said)
   pub read : All (IsNodeRead (said_support p said)) (nodes_of said)
   pub fits : Fits (nodes_of said) 1
   pub few : length (nodes_of said) ≤ 2097153
@@ -140,7 +140,7 @@ pub record SomeItemComes (p : Problem) (stream : Stream) (item : Item) : Type 0 
 pub record MayWalk (p : Problem) (head : CertHead) (checker : Checker) (node : Node) : Type 0 where
   pub nodes : List Node
   pub walks : Walks p (head_with head nodes) checker
-  pub weights : All (HasItsShores (support_of p (head_with head nodes))) head.sets.items
+  pub sets_read : All (IsSetRead (support_of p (head_with head nodes))) head.sets.items
   pub read : IsNodeRead (support_of p (head_with head nodes)) node
   pub fits : Fits (nodes ++ node ∷ []) 1
   pub few : length nodes ≤ 2097153

@@ -4,7 +4,7 @@ ghost use Rattle.plan_model.specs.Plans.{IsLawful, plan_cost};
 ghost use Rattle.cut_pool.specs.Pools.{IsShoreNumber};
 ghost use Rattle.branch_rules.specs.Refusals.{IsTooHeavy, NoneTooHeavy};
 ghost use Rattle.branch_rules.specs.declared.node.Node.{Node};
-ghost use Rattle.cert_checker.specs.Claims.{HasItsShores, claimed, support_in};
+ghost use Rattle.cert_checker.specs.Claims.{IsSetRead, claimed, support_in};
 ghost use Rattle.cert_checker.specs.declared.reason.Reason.TheVariants.{CountsDiffer, WeightTooLarge};
 ghost use Rattle.cert_checker.specs.Layers.{LayerSays};
 ghost use Rattle.cert_checker.specs.Reasons.{CountsAgree, HeadIsRight, PlanIsLawful, PlanIsRight, PricesAreRight, ShoresAreRight};
@@ -18,7 +18,7 @@ use std::alloc::Global;
 
 /// The first reason before the nodes why a certificate is not good, if there is one.
 pub(crate) fn head_reason(alloc: Global, claim: &Claim<'_>) -> Result<Option<Reason>, Memory>
-    requires { All (HasItsShores (support_in claim.now)) claim.now.sets.now }
+    requires { All (IsSetRead (support_in claim.now)) claim.now.sets.now }
     ensures { IfOk result (LayerSays HeadIsRight claim.now) }
 {
     if let Some(reason) = count_reason(claim) {
@@ -126,7 +126,7 @@ fn prices_reason(claim: &Claim<'_>) -> Option<Reason>
 // The first price set and edge at which a price of a deadhead is negative.
 fn deadhead_reason(alloc: Global, claim: &Claim<'_>) -> Result<Option<Reason>, Memory>
     requires right { (nodes : List Node) → PricesAreRight claim.now.inst.now (claimed claim.now nodes) }
-    requires shores { All (HasItsShores (support_in claim.now)) claim.now.sets.now }
+    requires shores { All (IsSetRead (support_in claim.now)) claim.now.sets.now }
     ensures { IfOk result (LayerSays HeadIsRight claim.now) }
 {
     for (place, set) in claim.sets.iter().enumerate() {
@@ -149,7 +149,7 @@ fn too_large(set: u64, heavy: &TooHeavy) -> Reason
 
 // The first edge at which a set has a negative price of a deadhead.
 fn heavy_edge(alloc: Global, claim: &Claim<'_>, set: &PriceSet) -> Result<Option<TooHeavy>, Memory>
-    requires { HasItsShores (support_in claim.now) set.now }
+    requires { IsSetRead (support_in claim.now) set.now }
     ensures { IfOk result (λ found. MatchOption found (NoneTooHeavy claim.now.inst.now claim.now.shores.now set.now) (IsTooHeavy claim.now.inst.now claim.now.shores.now set.now)) }
 {
     match set.edge_prices(alloc, claim.inst, claim.shores) {

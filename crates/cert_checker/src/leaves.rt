@@ -4,6 +4,8 @@ ghost use Rattle.carp_base.specs.Allowed.{allows};
 ghost use Rattle.plan_model.specs.Plans.{IsLawful, plan_cost};
 ghost use Rattle.decision_chains.specs.Pairs.{ArePairsIn};
 ghost use Rattle.chain_plans.specs.FixedValue.{HasFixedValue};
+ghost use Rattle.pricing_grid.specs.Pricing.{AreSurcharges};
+ghost use Rattle.branch_rules.specs.Bonds.{IsSurchargeTable};
 ghost use Rattle.branch_rules.specs.Decisions.{IsFixed};
 ghost use Rattle.branch_rules.specs.Limits.{AreShoresIn};
 ghost use Rattle.branch_rules.specs.Trees.{set_at};
@@ -14,7 +16,7 @@ ghost use Rattle.cert_checker.specs.Nodes.{limit_of};
 
 use crate::Reason;
 use crate::claim::Claim;
-use branch_rules::{Branch, PriceSet};
+use branch_rules::{Branch, PriceSet, surcharge_table, surcharges_are_bond_weights};
 use carp_base::{Allowed, Fail, Instance, Memory};
 use deadhead_paths::{Distances, cost_prices, distances};
 use plan_model::{JudgeRoom, Plan, Verdict, judge, verdicts_are_exact};
@@ -22,11 +24,12 @@ use road_network::Network;
 use route_pricing::Table;
 use std::alloc::Global;
 
-/// The prices of a set: those of services, and the distances by those of deadheads.
+/// The prices of a set: those of services, the surcharges of pairs, and the distances by the prices of deadheads.
 #[derive(Drop)]
 pub(crate) struct SetPrices {
     set: u32,
     services: Vec<i64>,
+    surcharges: Vec<i64>,
     dist: Distances,
 }
 
@@ -142,6 +145,7 @@ impl Leaves {
         ensures leaves { OnOk result (AreLeaves (support_in claim.now) self.new) }
         ensures says { IfOk result (TourSays (support_in claim.now) branch.now (set_at (support_in claim.now) set)) }
     {
+        surcharges_are_bond_weights();
         self.fill(alloc, claim, branch, set)?;
         Ok(if_negative(self.table.least()))
     }
@@ -168,8 +172,14 @@ impl Leaves {
         let kept = self.priced.take();
         let priced = prices_for(alloc, claim, &self.net, kept, set)?;
         let unit = claim.set(set).unit();
-        self.table
-            .fill(claim.inst, &priced.dist, unit, &priced.services, &allowed);
+        self.table.fill(
+            claim.inst,
+            &priced.dist,
+            unit,
+            &priced.services,
+            &allowed,
+            &priced.surcharges,
+        );
         self.priced = Some(priced);
         self.filled = Some(Filling { set, allowed });
         Ok(())
@@ -254,6 +264,7 @@ fn set_prices(
     Ok(SetPrices {
         set,
         services: service_prices(alloc, prices)?,
+        surcharges: set_surcharges(alloc, claim.inst, prices)?,
         dist: distances(alloc, claim.inst, net, &deadheads)?,
     })
 }
@@ -268,6 +279,16 @@ fn service_prices(alloc: Global, set: &PriceSet) -> Result<Vec<i64>, Memory>
         prices.push(set.service(edge))?;
     }
     Ok(prices)
+}
+
+// The surcharges of pairs by the groups of a set.
+fn set_surcharges(alloc: Global, inst: &Instance, set: &PriceSet) -> Result<Vec<i64>, Memory>
+    ensures charged { IfOk result (λ table. IsSurchargeTable inst.now.required set.now.groups table.items) }
+    ensures fit { IfOk result (λ table. AreSurcharges inst.now.required table.items) }
+{
+    surcharges_are_bond_weights();
+    let table = surcharge_table(alloc, inst.required(), set.groups())?;
+    Ok(table)
 }
 
 // The distances by cost, made anew unless they are kept.

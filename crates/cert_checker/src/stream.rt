@@ -8,7 +8,7 @@ ghost use Rattle.cert_lines.specs.declared.item.Item.TheVariants.{Head as HeadIt
 ghost use Rattle.cert_lines.specs.Order.{LatestFirst};
 ghost use Rattle.cert_lines.specs.Texts.{IsFaultOf};
 ghost use Rattle.cert_format.specs.Good.{support_of};
-ghost use Rattle.cert_checker.specs.Claims.{HasItsShores, claimed, support_in};
+ghost use Rattle.cert_checker.specs.Claims.{IsSetRead, claimed, support_in};
 ghost use Rattle.cert_checker.specs.Streams.{HasStreamed, HasStreamedSome, IsChecked, ItemComes, MayWalk, SomeItemComes, StageAnswers, StageHolds, StageSays, TextLaws, Walks, head_with, stage_heads};
 
 use crate::checker::Checker;
@@ -172,7 +172,7 @@ fn claim_of<'a>(inst: &'a Instance, head: &'a CertHead) -> Claim<'a>
 
 // What is known where no node was taken.
 fn stage_of(alloc: Global, claim: &Claim<'_>) -> Result<Stage, Memory>
-    requires { All (HasItsShores (support_in claim.now)) claim.now.sets.now }
+    requires { All (IsSetRead (support_in claim.now)) claim.now.sets.now }
     ensures heads { IfOk result (λ stage. stage_heads stage ≡ 1) }
     ensures says { IfOk result (λ stage. StageSays claim.now.inst.now (claimed claim.now []) stage) }
 {

@@ -10,7 +10,7 @@ use Rattle.cert_checker.proofs.checking.answer.Goals as goal
 pub head_reason-requires : goal.head_reason-requires
 head_reason-requires c =
     let claim = c.args.claim.now in
-    (spelled_is (support_in claim) (claimed claim c.args.tree.now.nodes) refl refl c.requires).weights
+    (spelled_is (support_in claim) (claimed claim c.args.tree.now.nodes) refl refl c.requires).sets_read
 
 pub returns-in-Some-clause-answer : goal.returns-in-Some-clause-answer
 returns-in-Some-clause-answer c = subst (LayerSays HeadIsRight c.args.claim.now) c.in-Some.is c.in_ok-reason.ensures c.args.tree.now.nodes
@@ -19,7 +19,7 @@ pub tree_reason-requires-clause-backed : goal.tree_reason-requires-clause-backed
 tree_reason-requires-clause-backed c =
     let claim = c.args.claim.now in
     let head = subst (LayerSays HeadIsRight claim) c.in_default.is c.in_ok-reason.ensures c.args.tree.now.nodes in
-    backed_by claim.inst.now (claimed claim c.args.tree.now.nodes) head (spelled_is (support_in claim) (claimed claim c.args.tree.now.nodes) refl refl c.requires).weights
+    backed_by claim.inst.now (claimed claim c.args.tree.now.nodes) head (spelled_is (support_in claim) (claimed claim c.args.tree.now.nodes) refl refl c.requires).sets_read
 
 pub tree_reason-requires-clause-read : goal.tree_reason-requires-clause-read
 tree_reason-requires-clause-read c =

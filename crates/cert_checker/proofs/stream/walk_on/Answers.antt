@@ -15,7 +15,7 @@ take-requires-clause-checker c = subst (λ (s : Support). IsChecker s c.args.che
 pub take-requires-clause-backed : goal.take-requires-clause-backed
 take-requires-clause-backed c =
     let nodes = c.requires.nodes in
-    subst IsBacked (sym (c.claim_of-claim.ensures.support nodes)) (backed_by c.args.inst.now (head_with c.args.head.now nodes) (c.requires.walks.head nodes) c.requires.weights)
+    subst IsBacked (sym (c.claim_of-claim.ensures.support nodes)) (backed_by c.args.inst.now (head_with c.args.head.now nodes) (c.requires.walks.head nodes) c.requires.sets_read)
 
 pub take-requires-clause-read : goal.take-requires-clause-read
 take-requires-clause-read c = subst (λ (s : Support). IsNodeRead s c.args.node.now) (sym (c.claim_of-claim.ensures.support c.requires.nodes)) c.requires.read

@@ -4,9 +4,9 @@ use Rattle.carp_base.specs.Problem.{Problem}
 use Rattle.branch_rules.specs.Trees.{Support}
 use Rattle.cert_lines.specs.Certificates.{Certificate}
 use Rattle.cert_format.specs.Certs.{stated_nodes}
-use Rattle.cert_checker.specs.Claims.{HasItsShores}
+use Rattle.cert_checker.specs.Claims.{IsSetRead}
 use Rattle.cert_checker.specs.Streams.{StageSays, head_with}
-use Rattle.cert_checker.proofs.Taking.{head_heads, head_on, head_weights, says_so_far}
+use Rattle.cert_checker.proofs.Taking.{head_heads, head_on, head_sets, says_so_far}
 use Rattle.cert_checker.proofs.stream.Stream.take_head.Goals as goal
 
 pub unreachable-requires : goal.unreachable-requires
@@ -19,7 +19,7 @@ pub stage_of-requires : goal.stage_of-requires
 stage_of-requires c =
     let x = c.requires.comes in
     let h = (c.in-Some.ensures.there x.bytes c.requires.said x.taken (says_so_far x)).1 in
-    subst (λ (s : Support). All (HasItsShores s) s.sets) (sym (c.claim_of.ensures.support [])) (head_weights c.in-Some.head.now h x)
+    subst (λ (s : Support). All (IsSetRead s) s.sets) (sym (c.claim_of.ensures.support [])) (head_sets c.in-Some.head.now h x)
 
 pub returns-clause-stage : goal.returns-clause-stage
 returns-clause-stage c = λ before said x.
