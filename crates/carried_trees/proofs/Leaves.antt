@@ -44,7 +44,7 @@ module _ (p q : Problem) (pool : List (List ℕ)) (known : Known p q) (old new :
 
   set_shows : (sets : List Prices) (set : Prices) (bound : ℕ) → PricesShow (before sets) old set bound → PricesShow (after sets) new set bound
   set_shows sets set bound shown = record {
-    fits = known.fits p q pool old new set known.valid_old known.valid_new known.rise follows.numbers.upper follows.chains.excluded shown.fits;
+    fits = known.fits p q pool old new set known.valid_old known.valid_new known.rise follows.numbers.upper follows.chains.yes_to follows.chains.excluded shown.fits;
     above =
         shows_yet (pos set.unit *ℤ (pos bound -ℤ pos 1)) (value_of (rules_of p pool old) set) (value_of (rules_of q pool new) set) shown.above (value_rises set);
   }

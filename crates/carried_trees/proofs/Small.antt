@@ -72,6 +72,7 @@ waste_fits : (branch : List Decision) → Fits waste waste_pool (rules_of waste 
 waste_fits branch = record {
   not_negative = λ e number. absurd (no_number e number);
   has_upper = ((λ less. absurd (omega (arith, ints, less))), tt);
+  has_yes = tt;
   tours = λ tasks n tour joined. absurd (no_tour tasks tour.some tour.required);
 }
 

@@ -1,6 +1,6 @@
 -- A price set that fits under a branch fits under it with one more decision, and has no lower value there.
 use Rattle.std.proofs.Common.{◌≡◌, ◌≢◌, ℕ, suc, ◌+◌, ◌≤◌, ◌==◌, max, Bool, true, false, ◌&&◌, ◌||◌, List, [], ◌∷◌, ◌++◌, refl, sym, ◌∙◌, subst, arith, inl, inr, ◌⊎◌, Option, Some, None, IsSome, ℤ, pos, negsuc, ◌≤ℤ◌, ◌<ℤ◌}
-use Rattle.std.specs.Prelude.{if◌then◌else◌, unwrap_or}
+use Rattle.std.specs.Prelude.{if◌then◌else◌, IsTrue, unwrap_or}
 use Rattle.std.specs.List.{AllByRecursion, list_any}
 use Rattle.std.proofs.Math.Nat.{mul-le-mul_left}
 use Rattle.std.proofs.lemmas.Bool.{and_parts, cases_eq, eqb-true, or_cases, or_left, or_right}
@@ -15,7 +15,8 @@ use Rattle.decision_chains.specs.Exclusions.{says_yes, says_no, IsYes, IsNo, Yes
 use Rattle.decision_chains.specs.Laws.{ExcludedIsSymmetric, YesPairsJoin}
 use Rattle.decision_chains.specs.declared.decision.Decision.{Decision}
 use Rattle.decision_chains.specs.declared.decision.Decision.TheVariants.{Yes, No, Low, High}
-use Rattle.branch_rules.specs.Decisions.{highest, lowest, lower_of, rules_of, to_parity}
+use Rattle.branch_rules.specs.Decisions.{highest, is_yes_pair, lowest, lower_of, rules_of, to_parity}
+use Rattle.branch_rules.specs.Bonds.{GroupWeight}
 use Rattle.branch_rules.specs.Laws.{FitsBranch}
 use Rattle.branch_rules.specs.Prices.{PaysAtLeast, Prices, crossing_prices, signed_sum, task_adds, value_of, weigh, weight_value}
 use Rattle.branch_rules.specs.declared.weight.Weight.{Weight}
@@ -295,6 +296,18 @@ module _ (p : Problem) (pool : List (List ℕ)) (branch : List Decision) (d : De
   each_upper [] all = tt
   each_upper (w ∷ ws) all = ((λ negative. some_kept (lowest w.shore branch) (lowest w.shore next) (upper_falls w.shore branch d) (all.0 negative)), each_upper ws all.1)
 
+  -- what the branch says yes to it says yes to with one decision more
+  pair_stays : (group : List ℕ) → IsTrue (is_yes_pair branch group) → IsTrue (is_yes_pair next group)
+  pair_stays [] is = cc
+  pair_stays (a ∷ []) is = cc
+  pair_stays (a ∷ b ∷ []) is = yes_old branch d a b is
+  pair_stays (a ∷ b ∷ c ∷ rest) is = cc
+
+  each_pair : (groups : List GroupWeight) → AllByRecursion (λ (w : GroupWeight). w.weight <ℤ pos 0 → IsTrue (is_yes_pair branch w.edges)) groups →
+      AllByRecursion (λ (w : GroupWeight). w.weight <ℤ pos 0 → IsTrue (is_yes_pair next w.edges)) groups
+  each_pair [] all = tt
+  each_pair (w ∷ groups) all = ((λ negative. pair_stays w.edges (all.0 negative)), each_pair groups all.1)
+
   each_rises : (ws : List Weight) → AllByRecursion (λ (w : Weight). w.weight <ℤ pos 0 → IsSome (lowest w.shore branch)) ws →
       AllByRecursion (λ (w : Weight). weight_value (rules_of p pool branch) w ≤ℤ weight_value (rules_of p pool next) w) ws
   each_rises [] all = tt
@@ -327,6 +340,7 @@ decisions_keep laws turn p pool branch d set undetermined is = record {
     fits = record {
       not_negative = is.fits.not_negative;
       has_upper = each_upper p pool branch d set.weights is.fits.has_upper;
+      has_yes = each_pair p pool branch d set.groups is.fits.has_yes;
       tours = tours_kept p pool branch d set (excluded_kept laws turn p branch d undetermined) is.fits.tours;
     };
   };

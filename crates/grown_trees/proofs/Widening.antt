@@ -110,7 +110,7 @@ module _ (p : Problem) (pool more : List (List ℕ)) where
 
     value_same : value_of (rules_of p (pool ++ more) branch) set ≡ value_of (rules_of p pool branch) set
     value_same =
-        ap (λ s. (signed_sum (λ z. z) set.services +ℤ s) -ℤ pos (room_weight (rules_of p pool branch) set.groups))
+        ap (λ s. (signed_sum (λ z. z) set.services +ℤ s) -ℤ room_weight (rules_of p pool branch) set.groups)
         (sum_same (weight_value (rules_of p (pool ++ more) branch)) (weight_value (rules_of p pool branch)) set.weights
         (All-weaker (λ (w : Weight). IsShoreNumber pool w.shore) (λ (w : Weight). weight_value (rules_of p (pool ++ more) branch) w ≡ weight_value (rules_of p pool branch) w) counts_same set.weights all))
 
@@ -118,6 +118,7 @@ module _ (p : Problem) (pool more : List (List ℕ)) where
     fit_to fits = record {
       not_negative = λ e is. subst (λ z. pos 0 ≤ℤ z) (sym (deadhead_same (edge_at p e))) (fits.not_negative e is);
       has_upper = fits.has_upper;
+      has_yes = fits.has_yes;
       tours = subst (λ prices. PaysAtLeast p (λ a b. ¬ (Excluded p branch a b)) (task_adds p set) (price_of prices) set.groups) (sym crossing_same) fits.tours;
     }
 
@@ -125,6 +126,7 @@ module _ (p : Problem) (pool more : List (List ℕ)) where
     fit_from fits = record {
       not_negative = λ e is. subst (λ z. pos 0 ≤ℤ z) (deadhead_same (edge_at p e)) (fits.not_negative e is);
       has_upper = fits.has_upper;
+      has_yes = fits.has_yes;
       tours = subst (λ prices. PaysAtLeast p (λ a b. ¬ (Excluded p branch a b)) (task_adds p set) (price_of prices) set.groups) crossing_same fits.tours;
     }
 

@@ -1,4 +1,4 @@
-use Rattle.std.proofs.Common.{arith, refl, pos, ◌≤◌, ◌<◌, ◌^◌}
+use Rattle.std.proofs.Common.{arith, refl, pos}
 use Rattle.std.proofs.lemmas.Int.{ints}
 use Rattle.grown_trees.specs.Values.{IsShown}
 use Rattle.grown_trees.proofs.Rounding.{rounded}
