@@ -99,6 +99,7 @@ sets_say pool (set ∷ all) said lines has few none good =
         rising = good.3.2.rising;
         few_groups = omega (arith, ap length none.0);
         groups = no_group_is_fine set.groups none.0;
+        few_edges = omega (arith, ap (λ (groups : List GroupWeight). sum_by (λ (w : GroupWeight). length w.edges) groups) none.0);
       };
       no_groups = none.0;
       shores = λ k d below. record { from_one = (items k d below).shore.from_first; in_range = omega (arith, (items k d below).shore.to_last, borders) };
