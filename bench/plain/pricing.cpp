@@ -1,13 +1,15 @@
 // The least relaxed tour of a made town by a table over load and last task, with two labels a vertex that are carried over the streets.
 //
-// usage: pricing COLUMNS ROWS STREETS REQUIRED CAPACITY FILLS
+// usage: pricing COLUMNS ROWS STREETS REQUIRED CAPACITY FILLS GROUPS
 //
 // The town: COLUMNS * ROWS corners, numbered from 1 along the rows, with a street from each to the next of its row and to that
 // below. x starts at 1, and each draw sets x to 6364136223846793005 * x + 1442695040888963407 modulo 2^64 and gives x / 2^33. Where
 // STREETS is more, further streets follow, each with a drawn corner u and one of the other corners. First
 // as many streets as are to be served, and then the others, in the order in which places are drawn: of the streets that are left,
 // in the order of their making, the one at a place drawn modulo their number goes next, and the last one moves to its place. Then
-// each street draws a cost of 10 to 99 and a demand of 1 to 10. The depot is corner 1. In fill number i, from 0, the price of each
+// each street draws a cost of 10 to 99 and a demand of 1 to 10. The depot is corner 1. Then each of GROUPS groups draws a number of
+// edges, 2 to 12, a weight of 1 to 20, and so many times one of the streets to be served, of which each counts once; two edges that
+// follow each other are charged the weights of the groups that both are of. In fill number i, from 0, the price of each
 // service is its cost, and for each unit of demand 7 + i mod 5, and a draw modulo 20. It prints the sum of the least values.
 #include <algorithm>
 #include <cstdint>
@@ -121,10 +123,32 @@ public:
   }
 };
 
+// What two edges are charged that follow each other, and which edges are of some group.
+struct Charges {
+  std::vector<uint64_t> pairs;
+  std::vector<bool> some;
+
+  Charges(uint32_t required, uint32_t groups) : pairs(size_t(required) * required), some(required) {
+    for (uint32_t i = 0; i < groups; i++) {
+      size_t size = 2 + draw() % 11;
+      uint64_t weight = 1 + draw() % 20;
+      std::vector<uint32_t> edges;
+      for (size_t k = 0; k < size; k++) edges.push_back(static_cast<uint32_t>(draw() % required));
+      std::sort(edges.begin(), edges.end());
+      edges.erase(std::unique(edges.begin(), edges.end()), edges.end());
+      if (edges.size() < 2) continue;
+      for (uint32_t e : edges) {
+        some[e] = true;
+        for (uint32_t f : edges) pairs[size_t(e) * required + f] += weight;
+      }
+    }
+  }
+};
+
 class Table {
 public:
-  Table(const Town &town, uint32_t required, size_t capacity, const std::vector<Wide> &distances)
-      : town(town), required(required), capacity(capacity), distances(distances), cells((capacity + 1) * 2 * required), layer(town.corners), adds(required) {
+  Table(const Town &town, uint32_t required, size_t capacity, const std::vector<Wide> &distances, const Charges &charges)
+      : town(town), required(required), capacity(capacity), distances(distances), charges(charges), cells((capacity + 1) * 2 * required), layer(town.corners), adds(required) {
     for (const Street &s : town.streets) lengths.push_back(between(s.u, s.v));
   }
 
@@ -158,6 +182,7 @@ private:
   uint32_t required;
   size_t capacity;
   const std::vector<Wide> &distances;
+  const Charges &charges;
   std::vector<Wide> cells;
   std::vector<Labels> layer;
   std::vector<Wide> adds, lengths;
@@ -197,23 +222,46 @@ private:
     for (uint32_t c = 0; c < 2 * required; c++) {
       size_t next = load + size_t(town.streets[c / 2].demand);
       if (next > capacity) continue;
-      const Labels &x = layer[start(c)];
-      Wide best = x.first_edge != c / 2 ? x.first : x.second;
+      Wide best = charges.some[c / 2] ? charged(load, c) : free(c);
       cell(next, c) = best == NEVER ? NEVER : best + adds[c / 2];
     }
+  }
+
+  Wide free(uint32_t c) const {
+    const Labels &x = layer[start(c)];
+    return x.first_edge != c / 2 ? x.first : x.second;
+  }
+
+  Wide label(Wide value, uint32_t edge, uint32_t c) const {
+    return edge == c / 2 ? NEVER : value + charges.pairs[size_t(c / 2) * required + edge];
+  }
+
+  Wide charged(size_t load, uint32_t c) {
+    const Labels &x = layer[start(c)];
+    if (x.first == NEVER) return NEVER;
+    Wide first = label(x.first, x.first_edge, c);
+    if (first <= x.second) return first;
+    if (label(x.second, x.second_edge, c) == x.second) return x.second;
+    Wide best = NEVER;
+    for (uint32_t b = 0; b < 2 * required; b++) {
+      Wide value = cell(load, b);
+      if (value != NEVER && b / 2 != c / 2) best = std::min(best, value + between(end(b), start(c)) + charges.pairs[size_t(c / 2) * required + b / 2]);
+    }
+    return best;
   }
 };
 
 int main(int argc, char **argv) {
-  if (argc != 7) {
-    std::fprintf(stderr, "usage: pricing COLUMNS ROWS STREETS REQUIRED CAPACITY FILLS\n");
+  if (argc != 8) {
+    std::fprintf(stderr, "usage: pricing COLUMNS ROWS STREETS REQUIRED CAPACITY FILLS GROUPS\n");
     return 3;
   }
   auto number = [&](int i) { return static_cast<uint32_t>(std::strtoul(argv[i], nullptr, 10)); };
   uint32_t required = number(4);
   Town town(number(1), number(2), number(3));
   std::vector<Wide> distances = town.distances();
-  Table table(town, required, number(5), distances);
+  Charges charges(required, number(7));
+  Table table(town, required, number(5), distances, charges);
   __int128 sum = 0;
   for (uint32_t i = 0; i < number(6); i++) {
     std::vector<int64_t> prices;

@@ -2,25 +2,28 @@
 ghost use Rattle.std.specs.Prelude.{◌≡◌, ◌≤◌, false, None, length, IfOk};
 
 use carp_outside::{Shelf, ShelfFault};
-use std::alloc::Global;
+use std::alloc::{AllocError, Global};
 use std::fs::{Metadata, OpenFile, OpenOptions};
 use std::io::{Error, ErrorKind, Read, Seek, SeekFrom, Write};
 use std::rt::Files;
-use std::time::{Duration, SystemTime};
 use std::{fs, io};
 
 // How many names beside a file are tried before a keep is given up.
 const NAMES_TRIED: u32 = 1000;
 
-// What lies beside a file for so many seconds was left by a keep that was killed: a keep takes seconds.
-const LEFT_BEHIND: u64 = 3600;
+// The most bytes of a file's name for which a name beside it is at most 255 bytes, as most file systems want it.
+const LONGEST_NAME: usize = 247;
 
 /// The files of the system by their paths, as a shelf. It does not tell what they hold, and counts each failure of the
 /// system. One count of failed looks stands for every name.
 ///
-/// A file is replaced whole: the new bytes are written beside it, synced and renamed, so that a failure leaves the old
-/// file as it was. What killed keeps left beside the file under numbers below its own is removed by a keep an hour later. A file that is write-protected is left alone: its keep fails. Where the path stands
-/// for something other than a regular file, as a symbolic link or a device, it is written in place. Another hard name of the file keeps the old bytes.
+/// A file is replaced whole: the new bytes are written to a new file beside it, under the permissions of the old file, synced and renamed, so
+/// that a failure leaves the old file as it was. The new file is `NAME.0.new`, or the first of `NAME.1.new` to `NAME.999.new` that does not
+/// exist; if the file's own name has more than 247 bytes, `carp.0.new` and so on in the same folder. A run that is killed can leave it there, and
+/// it can be removed by hand. No other file is ever removed or changed.
+///
+/// A file that is write-protected is left alone: its keep fails. If the path is something other than a regular file, such as a symbolic link
+/// or a device, it is written in place. Another hard link to the file keeps the old bytes.
 #[derive(Drop)]
 pub struct DirShelf<R: Files> {
     rt: R,
@@ -119,16 +122,13 @@ fn replace_file<R: Files>(
 // Makes a new file beside the path, under a name that did not exist.
 fn create_beside<R: Files>(rt: &R, alloc: Global, name: &str) -> io::Result<(String, R::File)> {
     for number in 0..NAMES_TRIED {
-        let beside = format!(in alloc; "{name}.{number}.new")?;
+        let beside = name_beside(alloc, name, number)?;
         match OpenOptions::new()
             .write(true)
             .create_new(true)
             .open(rt, beside.as_str())
         {
-            Ok(file) => {
-                clear_left(rt, alloc, name, number, &file);
-                return Ok((beside, file));
-            }
+            Ok(file) => return Ok((beside, file)),
             Err(error) if error.kind() == ErrorKind::AlreadyExists => {}
             Err(error) => return Err(error),
         }
@@ -136,38 +136,26 @@ fn create_beside<R: Files>(rt: &R, alloc: Global, name: &str) -> io::Result<(Str
     Err(Error::from(ErrorKind::AlreadyExists))
 }
 
-// Removes what killed keeps left beside the path, under the names before the one of a new file. A name that cannot be looked at or removed stays.
-fn clear_left<R: Files>(rt: &R, alloc: Global, name: &str, below: u32, file: &R::File) {
-    let Ok(now) = file.metadata().and_then(|new| new.modified()) else {
-        return;
-    };
-    for number in 0..below {
-        if let Ok(beside) = format!(in alloc; "{name}.{number}.new") {
-            let _ = clear_one(rt, beside.as_str(), now);
+// A name in the folder of the path: the path with an ending, or a short one if the ending would make the name too long.
+fn name_beside(alloc: Global, path: &str, number: u32) -> Result<String, AllocError> {
+    match path.rsplit_once('/') {
+        Some((folder, file)) if file.len() > LONGEST_NAME => {
+            format!(in alloc; "{folder}/carp.{number}.new")
         }
+        None if path.len() > LONGEST_NAME => format!(in alloc; "carp.{number}.new"),
+        _ => format!(in alloc; "{path}.{number}.new"),
     }
 }
 
-// Removes a regular file that was last changed long before a moment.
-fn clear_one<R: Files>(rt: &R, beside: &str, now: SystemTime) -> io::Result<()> {
-    let left = rt.symlink_metadata(beside)?;
-    match now.duration_since(left.modified()?) {
-        Ok(age) if left.is_file() && age > Duration::from_secs(LEFT_BEHIND) => {
-            rt.remove_file(beside)
-        }
-        _ => Ok(()),
-    }
-}
-
-// Fills a new file, and gives it the permissions of the file that it is to replace.
+// Gives a new file the permissions of the file that it is to replace, and then fills it, so that nobody reads it who could not read the old one.
 fn fill<F: Write + OpenFile + Drop>(
     mut file: F,
     bytes: &[u8],
     old: Option<&Metadata>,
 ) -> io::Result<()> {
-    file.write_all(bytes)?;
     if let Some(old) = old {
         file.set_permissions(old.permissions())?;
     }
+    file.write_all(bytes)?;
     file.sync_all()
 }
