@@ -1,5 +1,5 @@
 -- Sets that fit under any decisions, and trees of them that would show 0.
-use Rattle.std.proofs.Common.{◌≡◌, ℕ, zero, suc, ◌+◌, ◌≤◌, ◌<◌, List, [], ◌∷◌, ◌++◌, length, drop, slice_index_or, refl, sym, ap, ◌∙◌, subst, arith, append_assoc, append-nil, length-drop, ℤ, pos, ◌≤ℤ◌}
+use Rattle.std.proofs.Common.{◌≡◌, ℕ, zero, suc, ◌+◌, ◌≤◌, ◌<◌, List, [], ◌∷◌, ◌++◌, length, drop, map, slice_index_or, refl, sym, ap, ◌∙◌, subst, arith, append_assoc, append-nil, length-drop, ℤ, pos, ◌≤ℤ◌}
 use Rattle.std.specs.List.{All, AllByRecursion}
 use Rattle.std.proofs.lemmas.Int.{ints}
 use Rattle.std.proofs.lemmas.List.{drop_more}
@@ -10,7 +10,7 @@ use Rattle.decision_chains.specs.declared.decision.Decision.{Decision}
 use Rattle.decision_chains.specs.declared.decision.Decision.TheVariants.{Yes, No, Low, High}
 use Rattle.branch_rules.specs.Decisions.{IsFixed, rules_of}
 use Rattle.branch_rules.specs.Limits.{IsShoreOf}
-use Rattle.branch_rules.specs.Bonds.{GroupWeight}
+use Rattle.branch_rules.specs.Bonds.{GroupWeight, bond_weight}
 use Rattle.branch_rules.specs.Prices.{room_weight, Fits, Prices, Rules, crossing_weight, signed_sum, task_adds, value_of, weight_value}
 use Rattle.branch_rules.specs.Trees.{Tree, pair, cut, price, void, fixed, Support, PriceShows, no_prices, node_at, preorder, set_at}
 use Rattle.branch_rules.specs.declared.node.Node.{Node}
@@ -29,9 +29,13 @@ no_sum : (f : Weight → ℤ) (ws : List Weight) → length ws ≡ 0 → signed_
 no_sum f [] none = refl
 no_sum f (w ∷ ws) none = absurd (omega (arith, none))
 
-none_has : (P : Weight → Type 0) (ws : List Weight) → length ws ≡ 0 → AllByRecursion P ws
+none_has : {X : Type 0} (P : X → Type 0) (xs : List X) → length xs ≡ 0 → AllByRecursion P xs
 none_has P [] none = tt
-none_has P (w ∷ ws) none = absurd (omega (arith, none))
+none_has P (x ∷ xs) none = absurd (omega (arith, none))
+
+no_bonds : (groups : List GroupWeight) (es : List ℕ) → length groups ≡ 0 → bond_weight groups es ≡ pos 0
+no_bonds [] es none = refl
+no_bonds (w ∷ groups) es none = absurd (omega (arith, none))
 
 no_shores : (P : Weight → Type 0) (ws : List Weight) → length ws ≡ 0 → All P ws
 no_shores P ws none = λ k d less. absurd (omega (arith, less, none))
@@ -58,10 +62,11 @@ module _ (p : Problem) (set : Prices) (light : IsLight p set) where
   light_fits pool rules allowed = record {
     not_negative = λ e number. omega (arith, ints, no_sum (crossing_weight pool (edge_at p e)) set.weights light.no_weights);
     has_upper = none_has _ set.weights light.no_weights;
-    tours = λ tasks n tour least. omega (arith, ints, tasks_add tasks tour.required);
+    has_yes = none_has _ set.groups light.no_groups;
+    tours = λ tasks n tour least. omega (arith, ints, tasks_add tasks tour.required, no_bonds set.groups (map (λ (t : Task). t.edge) tasks) light.no_groups);
   }
 
-  no_rooms : (rules : Rules) (groups : List GroupWeight) → length groups ≡ 0 → room_weight rules groups ≡ 0
+  no_rooms : (rules : Rules) (groups : List GroupWeight) → length groups ≡ 0 → room_weight rules groups ≡ pos 0
   no_rooms rules [] none = refl
   no_rooms rules (w ∷ groups) none = absurd (omega (arith, none))
 
