@@ -4,6 +4,10 @@ use Rattle.shore_prices.specs.Proposals.{IsProposal}
 use Rattle.dual_master.proofs.Raised.{no_lower_before, still_fits, still_there}
 use Rattle.dual_master.proofs.raising.by_ascent.Goals as goal
 
+pub is_better-requires-clause-other_shores : goal.is_better-requires-clause-other_shores
+is_better-requires-clause-other_shores c =
+    still_there c.growth_keeps_sets.ensures c.args.inst.now c.args.branch.now c.args.pool.now c.ascend.new.pool c.ascend.ensures.grown c.args.start.now c.requires.shores
+
 pub is_better-requires-clause-other_fits : goal.is_better-requires-clause-other_fits
 is_better-requires-clause-other_fits c =
     still_fits c.growth_keeps_sets.ensures c.args.inst.now c.args.branch.now c.args.pool.now c.ascend.new.pool c.ascend.ensures.grown c.args.start.now c.requires.shores c.requires.fits
