@@ -3,7 +3,7 @@ ghost use Rattle.std.specs.Prelude.{◌≡◌, ◌∷◌, ◌++◌, [], IfOk, On
 ghost use Rattle.cut_pool.specs.Pools.{IsShoreNumber};
 ghost use Rattle.cert_transfer.specs.Copies.{MayPlace};
 
-use branch_rules::{PriceSet, Weight};
+use branch_rules::PriceSet;
 use carp_base::{Fail, Memory};
 use cut_pool::{Shore, ShorePool};
 use std::alloc::Global;
@@ -47,39 +47,7 @@ pub(crate) fn copy_sets(alloc: Global, sets: &[PriceSet]) -> Result<Vec<PriceSet
 {
     let mut copy = Vec::with_capacity(alloc, sets.len())?;
     for set in sets {
-        copy.push(copy_set(alloc, set)?)?;
+        copy.push(set.copy(alloc)?)?;
     }
     Ok(copy)
-}
-
-fn copy_set(alloc: Global, set: &PriceSet) -> Result<PriceSet, Memory>
-    ensures { IfOk result (λ copy. copy ≡ set.now) }
-{
-    let unit = set.unit();
-    let services = services_of(alloc, set)?;
-    let weights = weights_of(alloc, set)?;
-    PriceSet::new(alloc, unit, &services, &weights)
-}
-
-// The prices of services of a set.
-fn services_of(alloc: Global, set: &PriceSet) -> Result<Vec<i64>, Memory>
-    ensures { IfOk result (λ prices. prices.items ≡ set.now.services) }
-{
-    let count = set.services() as u32;
-    let mut prices = Vec::with_capacity(alloc, count as usize)?;
-    for edge in 1..count + 1 {
-        prices.push(set.service(edge))?;
-    }
-    Ok(prices)
-}
-
-// The weights of a set.
-fn weights_of(alloc: Global, set: &PriceSet) -> Result<Vec<Weight>, Memory>
-    ensures { IfOk result (λ weights. weights.items ≡ set.now.weights) }
-{
-    let mut weights = Vec::with_capacity(alloc, set.weights())?;
-    for place in 0..set.weights() {
-        weights.push(set.weight(place))?;
-    }
-    Ok(weights)
 }
