@@ -7,3 +7,5 @@
 mod pricing_grid_tests;
 #[cfg(test)]
 mod route_pricing_tests;
+#[cfg(test)]
+mod surcharge_tests;

@@ -77,7 +77,7 @@ fn grid_of(
     assert!(rt; services.len() == inst.required() as usize && are_prices(services));
     let dist = least_ways(alloc, inst)?;
     let mut grid = Grid::new(alloc, inst)?;
-    grid.copy_from(inst, &dist, 1, services, allowed);
+    grid.copy_from(inst, &dist, 1, services, allowed, &[]);
     Ok(grid)
 }
 

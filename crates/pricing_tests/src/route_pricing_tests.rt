@@ -12,7 +12,7 @@ use std::process::Abort;
 use std::test::Fail;
 
 // By itself the value, not a rate.
-const NOTHING: Rate = Rate { value: 0, load: 1 };
+pub(crate) const NOTHING: Rate = Rate { value: 0, load: 1 };
 
 // The table of an instance, with the unit 1.
 fn filled_by(
@@ -30,7 +30,7 @@ fn filled_by(
 {
     assert!(rt; services.len() == inst.required() as usize && are_prices(services));
     let mut table = Table::new(alloc, inst)?;
-    table.fill(inst, dist, 1, services, allowed);
+    table.fill(inst, dist, 1, services, allowed, &[]);
     Ok(table)
 }
 
@@ -190,25 +190,25 @@ fn next_number(state: &mut u64) -> u64 {
 }
 
 // The next number, below a limit.
-fn draw(state: &mut u64, limit: u64) -> u64
+pub(crate) fn draw(state: &mut u64, limit: u64) -> u64
     requires { 0 < limit }
     ensures { result < limit }
 {
     next_number(state) % limit
 }
 
-fn drawn_street(state: &mut u64) -> RawEdge {
+pub(crate) fn drawn_street(state: &mut u64) -> RawEdge {
     let u = draw(state, 5);
     let v = (u + 1 + draw(state, 4)) % 5;
     street(u + 1, v + 1, draw(state, 4), 1 + draw(state, 3))
 }
 
-fn drawn_price(state: &mut u64) -> i64 {
+pub(crate) fn drawn_price(state: &mut u64) -> i64 {
     draw(state, 12) as i64 - 3
 }
 
 // A relation without the pairs that are drawn.
-fn drawn_pairs(alloc: Global, inst: &Instance, state: &mut u64) -> Result<Allowed, Fail>
+pub(crate) fn drawn_pairs(alloc: Global, inst: &Instance, state: &mut u64) -> Result<Allowed, Fail>
     ensures { IfOk result (λ allowed. allowed.size ≡ inst.now.required) }
 {
     let mut allowed = Allowed::all(alloc, inst)?;
@@ -267,7 +267,7 @@ fn allowed_edge(
 }
 
 // The value and the load of a tour, by the distances alone, after a look at its pairs and its load.
-fn judged(
+pub(crate) fn judged(
     rt: &impl Abort,
     inst: &Instance,
     dist: &Distances,
@@ -306,7 +306,7 @@ fn judged(
 }
 
 // What a tour weighs beside a rate.
-fn weighed(tour: &Rate, rate: &Rate) -> i128 {
+pub(crate) fn weighed(tour: &Rate, rate: &Rate) -> i128 {
     let value = tour.value.saturating_mul(rate.load as i128);
     value.saturating_sub(rate.value.saturating_mul(tour.load as i128))
 }
