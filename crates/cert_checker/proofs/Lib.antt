@@ -13,3 +13,4 @@ pub mod Spelled
 pub mod NodeReasons
 pub mod ReasonOrder
 pub mod Standing
+pub mod PriceLeaves

@@ -282,7 +282,8 @@ keep_weights p n given said follows fine kept =
       no_groups = refl;
     } in
     record {
-      sets_read = All-append (IsSetRead t) (sets_of said) (set ∷ []) kept.sets_read (All-cons (IsSetRead t) set [] new (All-nil (IsSetRead t)));
+      sets_read = All-append (IsSetRead t) (sets_of said) (set ∷ [])
+          (All-weaker (IsSetRead s) (IsSetRead t) (λ old read. set_stays s t old (omega arith) read) (sets_of said) kept.sets_read) (All-cons (IsSetRead t) set [] new (All-nil (IsSetRead t)));
       read = All-weaker (IsNodeRead s) (IsNodeRead t) (λ x read. node_stays s t x (omega arith) (omega (arith, length-append (sets_of said) (set ∷ []))) read) (nodes_of said) kept.read;
       fits = kept.fits;
       state = keep_quiet p (weights n given) said tt follows kept;

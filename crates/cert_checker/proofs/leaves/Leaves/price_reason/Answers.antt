@@ -1,0 +1,22 @@
+use Rattle.std.proofs.Common.{Option, All, ap, subst, sym, ◌∙◌, ℤ}
+use Rattle.branch_rules.specs.Decisions.{rules_of}
+use Rattle.branch_rules.specs.Prices.{Prices, value_of}
+use Rattle.branch_rules.specs.Refusals.{HasUpper}
+use Rattle.branch_rules.specs.Trees.{set_at}
+use Rattle.cert_checker.specs.Claims.{support_in}
+use Rattle.cert_checker.specs.Leaves.{TourSays}
+use Rattle.cert_checker.specs.Nodes.{limit_of}
+use Rattle.cert_checker.proofs.PriceLeaves.{price_says}
+use Rattle.cert_checker.proofs.leaves.Leaves.price_reason.Goals as goal
+
+pub returns-in_None-clause-says : goal.returns-in_None-clause-says
+returns-in_None-clause-says c =
+    let s = support_in c.args.claim.now in
+    let set = set_at s c.args.set in
+    let branch = c.args.branch.now in
+    price_says s c.args.claim.now.bound c.args.node branch c.args.set c.in-Ok.value c.limit.result c.low_leaf.result c.requires.backed c.requires.set
+    (subst (λ (x : Prices). All (HasUpper branch) x.weights) c.set-prices.ensures c.in-Ok.ensures.accepted)
+    (c.in-Ok.ensures.value ∙ ap (λ (x : Prices). value_of (rules_of s.problem s.pool branch) x) c.set-prices.ensures)
+    (c.limit.ensures ∙ ap (λ n. limit_of n c.args.claim.now.bound) (c.unit.ensures.value ∙ ap (λ (x : Prices). x.unit) c.set-prices.ensures))
+    (subst (λ (found : Option ℤ). TourSays s branch set found) c.in-None.is c.in_ok-value.ensures.says)
+    c.low_leaf.ensures
