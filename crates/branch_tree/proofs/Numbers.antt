@@ -123,3 +123,7 @@ pub at_most_more : (unit : ℕ) (base : ℤ) (less more : ℕ) → less ≤ more
 at_most_more unit base less more within most =
     let product : unit * less ≤ unit * more = mul-le-mul_left unit within in
     omega (arith, ints, most, product)
+
+-- what a value shows, one that is no lower shows too
+pub still_shown : (unit : ℕ) (value other : ℤ) → value ≤ℤ other → IsShown unit value 0 → IsShown unit other 0
+still_shown unit value other no_lower shown = omega (arith, ints, no_lower, shown)

@@ -9,8 +9,8 @@ use Rattle.cert_checker.specs.Nodes.{limit_of}
 use Rattle.cert_checker.proofs.PriceLeaves.{price_says}
 use Rattle.cert_checker.proofs.leaves.Leaves.price_reason.Goals as goal
 
-pub returns-in_None-clause-says : goal.returns-in_None-clause-says
-returns-in_None-clause-says c =
+pub returns-in-None-clause-says : goal.returns-in-None-clause-says
+returns-in-None-clause-says c =
     let s = support_in c.args.claim.now in
     let set = set_at s c.args.set in
     let branch = c.args.branch.now in
