@@ -1,4 +1,6 @@
-use Rattle.std.proofs.Common.{Option, All, ap, subst, sym, ◌∙◌, ℤ}
+use Rattle.std.proofs.Common.{rules, Option, All, ap, subst, ◌∙◌, ℤ, to_z, of_z}
+use mir.Syntax.{w128}
+use Rattle.std.proofs.lemmas.Int.{to_z-of_z}
 use Rattle.branch_rules.specs.Decisions.{rules_of}
 use Rattle.branch_rules.specs.Prices.{Prices, value_of}
 use Rattle.branch_rules.specs.Refusals.{HasUpper}
@@ -14,9 +16,9 @@ returns-in-None-clause-says c =
     let s = support_in c.args.claim.now in
     let set = set_at s c.args.set in
     let branch = c.args.branch.now in
-    price_says s c.args.claim.now.bound c.args.node branch c.args.set c.in-Ok.value c.limit.result c.low_leaf.result c.requires.backed c.requires.set
+    price_says s c.args.claim.now.bound c.args.node branch c.args.set (to_z w128 (of_z w128 c.in-Ok.value)) (to_z w128 (of_z w128 c.limit.result)) c.low_leaf.result c.requires.backed c.requires.set
     (subst (λ (x : Prices). All (HasUpper branch) x.weights) c.set-prices.ensures c.in-Ok.ensures.accepted)
-    (c.in-Ok.ensures.value ∙ ap (λ (x : Prices). value_of (rules_of s.problem s.pool branch) x) c.set-prices.ensures)
-    (c.limit.ensures ∙ ap (λ n. limit_of n c.args.claim.now.bound) (c.unit.ensures.value ∙ ap (λ (x : Prices). x.unit) c.set-prices.ensures))
+    (to_z-of_z w128 c.in-Ok.value (search rules) ∙ c.in-Ok.ensures.value ∙ ap (λ (x : Prices). value_of (rules_of s.problem s.pool branch) x) c.set-prices.ensures)
+    (to_z-of_z w128 c.limit.result (search rules) ∙ c.limit.ensures ∙ ap (λ n. limit_of n c.args.claim.now.bound) (c.unit.ensures.value ∙ ap (λ (x : Prices). x.unit) c.set-prices.ensures))
     (subst (λ (found : Option ℤ). TourSays s branch set found) c.in-None.is c.in_ok-value.ensures.says)
     c.low_leaf.ensures
