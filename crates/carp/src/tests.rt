@@ -1,12 +1,7 @@
 // The top call with the four helpers that `main` makes, over files in memory.
-use augment_merge::Merger;
-use carp_cli::{Status, run};
-use carp_engine::dismiss;
+use crate::helping::run_with_helpers;
+use carp_cli::Status;
 use carp_outside::{MemShelf, MemSink};
-use giant_split::Splitter;
-use local_moves::Mover;
-use path_scanning::Scanner;
-use plan_model::Proposer;
 use std::alloc::Global;
 use std::process::Abort;
 use std::test::Fail;
@@ -121,16 +116,6 @@ fn words_of(alloc: Global, words: &[&str]) -> Result<Vec<String>, Fail> {
     Ok(list)
 }
 
-// The four helpers, of ids 1 to 4.
-fn helpers(alloc: Global) -> Result<Vec<Box<dyn Proposer>>, Fail> {
-    let mut helpers: Vec<Box<dyn Proposer>> = Vec::new(alloc);
-    helpers.push(Box::new(alloc, Scanner::new(alloc, 1))?)?;
-    helpers.push(Box::new(alloc, Merger::new(alloc, 2))?)?;
-    helpers.push(Box::new(alloc, Splitter::new(alloc, 3))?)?;
-    helpers.push(Box::new(alloc, Mover::new(alloc, 4))?)?;
-    Ok(helpers)
-}
-
 // What is answered to these words, and whether what is written begins so.
 fn answer(
     alloc: Global,
@@ -140,11 +125,8 @@ fn answer(
 ) -> Result<(Status, bool), Fail> {
     let mut out = MemSink::new(alloc, 1_048_576, 65_536, Vec::new(alloc))?;
     let words = words_of(alloc, words)?;
-    let mut helpers = helpers(alloc)?;
-    let status = run(alloc, &words, shelf, &mut out, &mut helpers);
-    dismiss(&mut helpers);
-    let as_said = helpers.len() == 4 && out.written().starts_with(front.as_bytes());
-    Ok((status, as_said))
+    let status = run_with_helpers(alloc, &words, shelf, &mut out);
+    Ok((status, out.written().starts_with(front.as_bytes())))
 }
 
 // What is answered to a file with so many turns, and the front of what is written; the certificate is accepted with this cost and bound.
@@ -376,8 +358,7 @@ fn drilled(alloc: Global) -> Result<(Status, Vec<u8>), Fail> {
     let mut shelf = MemShelf::new(alloc, 65_536, Vec::new(alloc), Vec::new(alloc));
     let mut out = MemSink::new(alloc, 1_048_576, 65_536, Vec::new(alloc))?;
     let words = words_of(alloc, &["drill"])?;
-    let mut helpers = helpers(alloc)?;
-    let status = run(alloc, &words, &mut shelf, &mut out, &mut helpers);
+    let status = run_with_helpers(alloc, &words, &mut shelf, &mut out);
     Ok((status, out.written().to_vec(alloc)?))
 }
 

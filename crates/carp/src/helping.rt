@@ -1,0 +1,35 @@
+// The four helpers of the program.
+use augment_merge::Merger;
+use carp_cli::{Status, run};
+use carp_outside::{Shelf, Sink};
+use giant_split::Splitter;
+use local_moves::Mover;
+use path_scanning::Scanner;
+use plan_model::Proposer;
+use std::alloc::Global;
+
+/// Runs the command that the words name ([`carp_cli::run`]) with the aid of four helpers: path scanning, augment-merge, splitting of one
+/// order of all tasks, and ruin and recreate with small changes, of ids 1 to 4.
+pub(crate) fn run_with_helpers<H: Shelf, O: Sink>(
+    alloc: Global,
+    words: &[String],
+    shelf: &mut H,
+    out: &mut O,
+) -> Status {
+    let (Ok(scanner), Ok(merger), Ok(splitter), Ok(mover)) = (
+        Box::new(alloc, Scanner::new(alloc, 1)),
+        Box::new(alloc, Merger::new(alloc, 2)),
+        Box::new(alloc, Splitter::new(alloc, 3)),
+        Box::new(alloc, Mover::new(alloc, 4)),
+    ) else {
+        return Status::Memory;
+    };
+    let four: [Box<dyn Proposer>; 4] = [scanner, merger, splitter, mover];
+    let mut helpers: Vec<Box<dyn Proposer>> = Vec::new(alloc);
+    for helper in four {
+        if helpers.push(helper).is_err() {
+            return Status::Memory;
+        }
+    }
+    run(alloc, words, shelf, out, &mut helpers)
+}
