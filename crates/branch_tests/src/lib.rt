@@ -4,7 +4,11 @@
 #![tactic(auto)]
 
 #[cfg(test)]
+mod branch_rules_bond_tests;
+#[cfg(test)]
 mod branch_rules_deciding_tests;
+#[cfg(test)]
+mod branch_rules_group_tests;
 #[cfg(test)]
 mod branch_rules_tree_tests;
 pub mod signs;
