@@ -8,7 +8,7 @@ import re
 import subprocess
 import sys
 
-from solving import Solved
+from solving import Solved, at_the_limits
 
 
 def floor(program, path):
@@ -45,10 +45,9 @@ def main(program, floors, folder, work, names):
         print(f"| {name} | {base} | {floor(floors, path)} | {solved.bound} | {lp:.2f} | {percent:.1f} % | {solved.cost} | {solved.gap():.2f} % | {solved.seconds:.2f} s | {solved.memory:.0f} MB |", flush=True)
     print(f"| mean of {len(reached)} | | | | | {sum(reached) / len(reached):.1f} % | | | | |")
     print(f"| least | | | | | {min(reached):.1f} % | | | | |")
-    limits = os.path.join(work, "limits.dat")
-    if os.path.exists(limits):
-        solved = Solved(program, limits, os.path.join(work, "cert"), ["--turns", "1"])
-        print(f"| at the limits | {services(limits)} | {floor(floors, limits)} | {solved.bound} | | | {solved.cost} | {solved.gap():.2f} % | {solved.seconds:.2f} s | {solved.memory:.0f} MB |")
+    for name, path in at_the_limits(work):
+        solved = Solved(program, path, os.path.join(work, "cert"), ["--turns", "1"])
+        print(f"| {name} | {services(path)} | {floor(floors, path)} | {solved.bound} | | | {solved.cost} | {solved.gap():.2f} % | {solved.seconds:.2f} s | {solved.memory:.0f} MB |")
 
 
 main(sys.argv[1], sys.argv[2], sys.argv[3], sys.argv[4], sys.argv[5:])

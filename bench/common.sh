@@ -10,6 +10,13 @@ build() {
   g++ -std=c++17 -O2 -Wall -Wextra -Wl,--as-needed -o "$work/$1" "$bench/plain/$1.cpp"
 }
 
+# make_limits: makes two instances of 1,000 vertices, 4,000 edges and 600 required ones, with the capacities 1,000 and 19,999, in the folder
+make_limits() {
+  for capacity in 1000 19999; do
+    python3 "$bench/make_instance.py" 1000 4000 600 "$capacity" 1 >"$work/limits-$capacity.dat"
+  done
+}
+
 # race KIND NAME FILE: times carp and the plain program KIND on the file, and prints a row of the table in bench/README.md
 race() {
   local ours plain

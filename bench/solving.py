@@ -5,6 +5,14 @@ import sys
 import time
 
 
+def at_the_limits(work):
+    """The name and the path of each instance at the limits that the folder holds, by rising capacity."""
+    for capacity in (1000, 19999):
+        path = os.path.join(work, f"limits-{capacity}.dat")
+        if os.path.exists(path):
+            yield f"at the limits, capacity {capacity:,}", path
+
+
 class Solved:
     """What a run found and took: the cost, the bound, the turns, the seconds, and the greatest memory in megabytes."""
 

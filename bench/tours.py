@@ -6,7 +6,7 @@ import csv
 import os
 import sys
 
-from solving import Solved
+from solving import Solved, at_the_limits
 
 
 def main(program, folder, work, names):
@@ -20,10 +20,9 @@ def main(program, folder, work, names):
         print(f"| {name} | {solved.cost} | {best[name]} | {percent:.2f} % | {solved.seconds:.2f} s |", flush=True)
     print(f"| mean of {len(over)} | | | {sum(over) / len(over):.2f} % | |")
     print(f"| greatest | | | {max(over):.2f} % | |")
-    limits = os.path.join(work, "limits.dat")
-    if os.path.exists(limits):
-        solved = Solved(program, limits, os.path.join(work, "cert"), ["--turns", "1"])
-        print(f"| at the limits | {solved.cost} | | | {solved.seconds:.2f} s |")
+    for name, path in at_the_limits(work):
+        solved = Solved(program, path, os.path.join(work, "cert"), ["--turns", "1"])
+        print(f"| {name} | {solved.cost} | | | {solved.seconds:.2f} s |")
 
 
 main(sys.argv[1], sys.argv[2], sys.argv[3], sys.argv[4:])
