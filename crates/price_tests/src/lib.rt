@@ -5,6 +5,8 @@
 #![tactic(auto)]
 
 #[cfg(test)]
+mod group_tests;
+#[cfg(test)]
 mod price_ascent_tests;
 #[cfg(test)]
 mod shore_prices_tests;

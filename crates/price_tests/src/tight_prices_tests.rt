@@ -19,7 +19,7 @@ use std::test::Fail;
 use tight_prices::{fits, tighten};
 
 // The row, with vehicles of a capacity.
-fn row(alloc: Global, capacity: u64) -> Result<Instance, Fail>
+pub(crate) fn row(alloc: Global, capacity: u64) -> Result<Instance, Fail>
     ensures { IfOk result (λ inst. inst.required ≡ 2) }
 {
     let streets = [street(1, 2, 3, 2), street(2, 3, 4, 2)];
@@ -68,7 +68,7 @@ fn is_shore_of(inst: &Instance, pool: &ShorePool, shore: u32) -> bool
 }
 
 // The set of these prices, without weights.
-fn plain(alloc: Global, first: i64, second: i64) -> Result<PriceSet, Fail>
+pub(crate) fn plain(alloc: Global, first: i64, second: i64) -> Result<PriceSet, Fail>
     requires first { IsPriceNumber first }
     requires second { IsPriceNumber second }
 {
@@ -95,7 +95,7 @@ fn weighted(
 }
 
 // Whether the set fits.
-fn fit(
+pub(crate) fn fit(
     rt: &impl Abort,
     alloc: Global,
     inst: &Instance,
@@ -125,8 +125,8 @@ fn weight_on(set: &PriceSet, shore: u32) -> i64 {
     0
 }
 
-// The set fits, and tightened over so many shores it has these two prices and these weights on the two shores.
-fn expect_tight(
+// The set fits, and tightened over so many shores it has these two prices and these weights on the two shores; it is answered.
+pub(crate) fn expect_tight(
     rt: &impl Abort,
     alloc: Global,
     inst: &Instance,
@@ -134,7 +134,7 @@ fn expect_tight(
     start: &PriceSet,
     held: u32,
     expected: [i64; 4],
-) -> Result<(), Fail>
+) -> Result<PriceSet, Fail>
     requires pairs { ArePairsIn inst.now branch.now }
     requires held { held ≤ 2 }
 {
@@ -163,7 +163,7 @@ fn expect_tight(
         ],
         expected
     );
-    Ok(())
+    Ok(set)
 }
 
 // The same from a set without weights, under no decisions, with vehicles of a capacity.
@@ -183,7 +183,8 @@ fn expect_rise(
     let inst = row(alloc, capacity)?;
     let branch = Branch::new(alloc);
     let start = plain(alloc, first, second)?;
-    expect_tight(rt, alloc, &inst, &branch, &start, held, expected)
+    expect_tight(rt, alloc, &inst, &branch, &start, held, expected)?;
+    Ok(())
 }
 
 // Alone, the tours there and back have 3 and 10 left. Both streets in one tour have 4 more than the first one alone. A tour that serves
@@ -223,7 +224,8 @@ fn a_decision_lets_a_price_rise(rt: HostRuntime) -> Result<(), Fail> {
     let inst = row(alloc, 4)?;
     let branch = apart(alloc)?;
     let start = plain(alloc, 3, 4)?;
-    expect_tight(&rt, alloc, &inst, &branch, &start, 0, [6, 14, 0, 0])
+    expect_tight(&rt, alloc, &inst, &branch, &start, 0, [6, 14, 0, 0])?;
+    Ok(())
 }
 
 // Whether the set of these prices fits.
