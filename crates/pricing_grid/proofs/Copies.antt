@@ -9,7 +9,7 @@ use Rattle.carp_base.specs.Allowed.{IsOf, allows}
 use Rattle.deadhead_paths.specs.Prices.{IsLeastPrice, price_of}
 use Rattle.carp_base.specs.declared.edge.Task.{Task}
 use Rattle.pricing_grid.specs.declared.grid.Grid.{Grid}
-use Rattle.pricing_grid.specs.Partial.{base, IsGrid, between}
+use Rattle.pricing_grid.specs.Partial.{base, IsGrid, AreEnds, between}
 use Rattle.pricing_grid.specs.Pricing.{AreSurcharges, Pricing, service_price, IsGridOf, lift, IsWay}
 use Rattle.pricing_grid.specs.declared.charging.Charge.{Charge}
 use Rattle.pricing_grid.specs.Charging.{AreCharged}
@@ -62,6 +62,7 @@ reached_in p a valid reached = reached_by p p.depot a reached.path valid valid.d
 module _ (x : Pricing) (g : Grid) (valid : IsValid g.inst) (problem : x.problem ≡ g.inst) (net : g.net ≡ g.inst)
     (may_long : length g.may.items ≡ g.inst.required * g.inst.required)
     (dist_long : length g.dist.items ≡ (g.inst.vertices + 1) * (g.inst.vertices + 1))
+    (ends : AreEnds g.inst g.ends.items)
     (lengths_long : length g.lengths.items ≡ length g.inst.edges)
     (adds_long : length g.adds.items ≡ g.inst.required)
     (on : x.relation.size ≡ g.inst.required)
@@ -84,6 +85,7 @@ module _ (x : Pricing) (g : Grid) (valid : IsValid g.inst) (problem : x.problem 
     net = net;
     may_long = may_long;
     dist_long = dist_long;
+    ends = ends;
     adds_long = adds_long;
     lengths_long = lengths_long;
     lengths = lengths;
@@ -135,8 +137,8 @@ pub record AreCopied (x : Pricing) (p : Problem) (pairs : List Bool) (ways_now l
   pub charged : AreCharged p.required x.surcharges charges raised
 
 pub copied_from : (x : Pricing) (g : Grid) (pairs : List Bool) (ways lengths adds : List ℕ) (charges : List Charge) (raised : List ℕ) → g.may.items ≡ pairs → g.dist.items ≡ ways → g.lengths.items ≡ lengths → g.adds.items ≡ adds →
-    g.charges.items ≡ charges → g.raised.items ≡ raised → IsValid x.problem → g.inst ≡ x.problem → g.net ≡ x.problem → AreCopied x x.problem pairs ways lengths adds charges raised → IsGridOf x g
-copied_from x g pairs ways lengths adds charges raised pairs_are ways_are lengths_are adds_are charges_are raised_are valid inst net are =
+    g.charges.items ≡ charges → g.raised.items ≡ raised → IsValid x.problem → g.inst ≡ x.problem → g.net ≡ x.problem → AreEnds x.problem g.ends.items → AreCopied x x.problem pairs ways lengths adds charges raised → IsGridOf x g
+copied_from x g pairs ways lengths adds charges raised pairs_are ways_are lengths_are adds_are charges_are raised_are valid inst net ends are =
     let here : AreCopied x g.inst g.may.items g.dist.items g.lengths.items g.adds.items g.charges.items g.raised.items =
     subst (λ xs. AreCopied x g.inst xs g.dist.items g.lengths.items g.adds.items g.charges.items g.raised.items) (sym pairs_are)
     (subst (λ xs. AreCopied x g.inst pairs xs g.lengths.items g.adds.items g.charges.items g.raised.items) (sym ways_are)
@@ -144,7 +146,7 @@ copied_from x g pairs ways lengths adds charges raised pairs_are ways_are length
     (subst (λ xs. AreCopied x g.inst pairs ways lengths xs g.charges.items g.raised.items) (sym adds_are)
     (subst (λ xs. AreCopied x g.inst pairs ways lengths adds xs g.raised.items) (sym charges_are)
     (subst (λ xs. AreCopied x g.inst pairs ways lengths adds charges xs) (sym raised_are) (subst (λ p. AreCopied x p pairs ways lengths adds charges raised) (sym inst) are)))))) in
-    copied x g (subst IsValid (sym inst) valid) (sym inst) (net ∙ sym inst) here.pairs_long here.ways_long here.lengths_long here.adds_long here.on here.same here.symmetric here.ways here.lengths here.value here.small
+    copied x g (subst IsValid (sym inst) valid) (sym inst) (net ∙ sym inst) here.pairs_long here.ways_long (subst (λ p. AreEnds p g.ends.items) (sym inst) ends) here.lengths_long here.adds_long here.on here.same here.symmetric here.ways here.lengths here.value here.small
     here.surcharges here.charged
 
 -- what the copies are, by the numbers that they were made with

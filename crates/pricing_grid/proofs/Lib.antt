@@ -6,3 +6,4 @@ pub mod Passing
 pub mod Ways
 pub mod Marking
 pub mod LeastGains
+pub mod Succeeding

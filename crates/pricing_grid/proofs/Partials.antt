@@ -2,10 +2,12 @@
 use Rattle.std.proofs.Common.{◌≡◌, ◌≢◌, ℕ, ◌+◌, ◌-◌, ◌*◌, ◌/◌, ◌%◌, ◌^◌, ◌<◌, ◌≤◌, Bool, true, false, cond, List, [], ◌∷◌, ◌++◌, length, slice_index, refl, sym, ap, ◌∙◌, arith, inl, inr, subst, ◌⊎◌, slice_index_or, slice_set, get_or}
 use Rattle.std.proofs.lemmas.Bool.{cases_eq, cases_lt, eq-eqb, ne_eqb}
 use Rattle.std.proofs.Math.Nat.{mul-le-mul_right}
-use Rattle.std.proofs.lemmas.List.{length-set, get_or-set_same, get_or-set_other}
+use Rattle.std.proofs.lemmas.List.{length-set, get_or-set_same, get_or-set_other, get_or_default}
 use Rattle.carp_base.specs.declared.edge.Task.{Task}
 use Rattle.carp_base.specs.Problem.{Problem, IsValid, IsRequired, IsEdgeNumber, IsReached, TasksLead, edge_at, tail_of, head_of}
-use Rattle.pricing_grid.specs.Partial.{base, no_value, IsGrid, width, column_task, task_start, task_end, demand_of, between, leg, adds_of, may_follow, IsPartial, Reaches, IsCell, IsJoin, IsLeastJoin, IsJoinFrom, IsPredecessor, IsPredecessorUpTo, IsLeastFrom, IsLeastUpTo, cell_place, AreFilled, AreBegun}
+use Rattle.pricing_grid.specs.declared.charging.Charge.{Charge}
+use Rattle.pricing_grid.specs.declared.charging.Charge.TheVariants.{Free, Charged, Gained}
+use Rattle.pricing_grid.specs.Partial.{base, charge_at, raised_from, least_raised, no_value, IsGrid, width, column_task, task_start, task_end, demand_of, between, leg, adds_of, may_follow, IsPartial, Reaches, IsCell, IsJoin, IsLeastJoin, IsJoinFrom, IsPredecessor, IsPredecessorUpTo, IsLeastFrom, IsLeastUpTo, cell_place, AreFilled, AreBegun}
 use Rattle.pricing_grid.specs.declared.grid.Grid.{Grid}
 
 -- the depot reaches both ends of a required edge
@@ -105,6 +107,12 @@ module _ (g : Grid) (grid : IsGrid g) where
   pub leg_small : (u t : Task) → IsRequired g.inst u.edge → IsRequired g.inst t.edge → leg g u t ≤ 2 ^ 73 + 2 ^ 62
   leg_small u t u_in t_in = omega (arith, between_small u t u_in t_in, grid.small_surcharges u.edge t.edge u_in t_in)
 
+  -- no leg to a task is below the least of what is known of its edge
+  pub leg_least : (u t : Task) (x : Charge) → IsRequired g.inst u.edge → IsRequired g.inst t.edge → x ≡ charge_at g t.edge → least_raised x ≤ leg g u t
+  leg_least u t Free u_in t_in is = omega (arith, ap {A = Charge} {B = ℕ} (λ c. raised_from c (slice_index g.raised.items ((t.edge - 1) * g.inst.required + (u.edge - 1)))) is)
+  leg_least u t Charged u_in t_in is = omega (arith, grid.charged u.edge t.edge u_in t_in (sym is))
+  leg_least u t Gained u_in t_in is = omega arith
+
   pub first_small : (t : Task) → IsRequired g.inst t.edge → between g g.inst.depot (task_start g t) ≤ 2 ^ 73
   first_small t t_in = grid.small_dist g.inst.depot (task_start g t) (depot_reached g.inst) (tail_reached g.inst t.edge t.forward grid.valid t_in)
 
@@ -162,6 +170,19 @@ module _ (g : Grid) (grid : IsGrid g) where
     ];
   }
 
+  -- one column more, whose joins are no less
+  pub up_to_same : (load : ℕ) (t : Task) (columns best : ℕ) → IsLeastUpTo g load t columns best →
+      ((w : ℕ) → Reaches g (column_task columns) load w → may_follow g (column_task columns) t ≡ true → best ≤ w + leg g (column_task columns) t) → IsLeastUpTo g load t (columns + 1) best
+  up_to_same load t columns best so_far more = record {
+    attained = so_far.attained;
+    least = λ c w before reaches allowed. elim (cases_eq c columns) [
+      | inl is ↦
+          subst (λ d. best ≤ w + leg g (column_task d) t) (sym is)
+          (more w (subst (λ d. Reaches g (column_task d) load w) is reaches) (subst (λ d. may_follow g (column_task d) t ≡ true) is allowed))
+      | inr other ↦ so_far.least c w (omega (arith, before, other)) reaches allowed
+    ];
+  }
+
   pub up_to_all : (load : ℕ) (t : Task) (n : ℕ) → IsLeastUpTo g load t (width g) n → IsLeastJoin g load t n
   up_to_all load t n so_far = record {
     attained = so_far.attained;
@@ -176,6 +197,21 @@ module _ (g : Grid) (grid : IsGrid g) where
               (subst (λ u. may_follow g u t ≡ true) (sym is) join.allowed)),
         );
   }
+
+  -- the place of a pair in its rows
+  pub pair_place : (a b : ℕ) → (a / 2) * g.inst.required + b / 2 ≡ ((column_task a).edge - 1) * g.inst.required + ((column_task b).edge - 1)
+  pair_place a b =
+      let half : (n : ℕ) → n / 2 ≡ n / 2 + 1 - 1 = λ n. omega arith in
+      ap (λ k. k * g.inst.required + b / 2) (half a) ∙ ap (λ k. ((column_task a).edge - 1) * g.inst.required + k) (half b)
+
+  pub pair_in : (a b : ℕ) → a < width g → b < width g → (a / 2) * g.inst.required + b / 2 < g.inst.required * g.inst.required
+  pair_in a b a_in b_in =
+      let row : a / 2 + 1 ≤ g.inst.required = omega (arith, a_in) in
+      omega (arith, mul-le-mul_right g.inst.required row, b_in)
+
+  pub pair_read : (a b place : ℕ) (x : Bool) → a < width g → b < width g → place ≡ (a / 2) * g.inst.required + b / 2 → x ≡ get_or g.may.items place x → x ≡ may_follow g (column_task a) (column_task b)
+  pair_read a b place x a_in b_in is read =
+      read ∙ get_or_default g.may.items place x false (omega (arith, is, grid.may_long, pair_in a b a_in b_in)) ∙ ap (λ i. get_or g.may.items i false) (is ∙ pair_place a b)
 
   pub cell_read : (cells : List ℕ) (load column c place : ℕ) → AreFilled g cells load column → load ≤ g.inst.capacity → c < width g → place ≡ cell_place g load c → IsCell g load (column_task c) (slice_index_or cells place 0)
   cell_read cells load column c place filled fits below is =

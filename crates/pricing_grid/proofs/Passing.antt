@@ -227,17 +227,36 @@ module _ (g : Grid) (grid : IsGrid g) where
     extra_free : charge_at g t.edge ≡ Free → (e : ℕ) → extra e ≡ base
     extra_free free e = ap {A = Charge} {B = ℕ} (λ c. raised_from c (slice_index g.raised.items ((t.edge - 1) * g.inst.required + (e - 1)))) free
 
+    -- each label joined is a join
+    first_most : (n : ℕ) → n ≡ label_joined g here.first here.first_edge t → (m : ℕ) (j : IsJoin g load t m) → j.last.edge ≡ here.first_edge → n ≤ m
+    first_most n is m j same =
+        omega (arith, joined_true here.first here.first_edge n is (subst (λ d. may_edge d ≡ true) same j.allowed), (way_bound m j).first, leg_is m j, ap extra same)
+
+    pub first_joins : (n : ℕ) → n ≡ label_joined g here.first here.first_edge t → here.first ≢ no_value → n < no_value → IsJoin g load t n
+    first_joins n is some less = elim (cases_Bool (may_edge here.first_edge)) [
+      | inl allowed ↦
+          let sum = joined_true here.first here.first_edge n is allowed in
+          subst (IsJoin g load t) (sym sum)
+          (label_join here.first here.first_edge ((are.sound at here_in).first (first_below some)) allowed (λ m j own. omega (arith, sum, first_most n is m j own)))
+      | inr excluded ↦ absurd (omega (arith, less, joined_false here.first here.first_edge n is excluded))
+    ]
+
+    pub second_joins : (n : ℕ) → n ≡ label_joined g here.second here.second_edge t → here.second < no_value → n < no_value → IsJoin g load t n
+    second_joins n is some less = elim (cases_Bool (may_edge here.second_edge)) [
+      | inl allowed ↦
+          subst (IsJoin g load t) (sym (joined_true here.second here.second_edge n is allowed))
+          (label_join here.second here.second_edge ((are.sound at here_in).second some) allowed
+          (λ m j own. omega (arith, (way_bound m j).second (λ same. are_two.differ some (sym same ∙ own)), leg_is m j, ap extra own)))
+      | inr excluded ↦ absurd (omega (arith, less, joined_false here.second here.second_edge n is excluded))
+    ]
+
     -- what follows the edge of the first label is no less than that label joined, what gains no less than the least of both, and all else no less than the second label raised
     module _ (n : ℕ) (is : n ≡ label_joined g here.first here.first_edge t) (low : ℕ) (most : low ≤ n) (either : (low ≡ n) ⊎ (low < no_value → IsJoin g load t low)) (gains : (m : ℕ) (j : IsJoin g load t m) → IsGain g j.last t → low ≤ m) where
-      first_most : (m : ℕ) (j : IsJoin g load t m) → j.last.edge ≡ here.first_edge → n ≤ m
-      first_most m j same =
-          omega (arith, joined_true here.first here.first_edge n is (subst (λ d. may_edge d ≡ true) same j.allowed), (way_bound m j).first, leg_is m j, ap extra same)
-
       lesser : (k : ℕ) → k ≤ low → k ≤ here.second + base → (m : ℕ) (j : IsJoin g load t m) → k ≤ m
       lesser k one two m j = elim (cases_lt (extra j.last.edge) base) [
         | inl gain ↦ omega (arith, one, gains m j gain)
         | inr more ↦ elim (cases_eq j.last.edge here.first_edge) [
-          | inl same ↦ omega (arith, one, most, first_most m j same)
+          | inl same ↦ omega (arith, one, most, first_most n is m j same)
           | inr other ↦ omega (arith, two, more, (way_bound m j).second other, leg_is m j)
         ]
       ]
@@ -245,13 +264,7 @@ module _ (g : Grid) (grid : IsGrid g) where
       pub best_first : here.first ≢ no_value → low ≤ here.second + base → IsLeastJoin g load t low
       best_first some below = record {
         attained = λ less. elim either [
-          | inl same ↦ elim (cases_Bool (may_edge here.first_edge)) [
-            | inl allowed ↦
-                let sum = joined_true here.first here.first_edge n is allowed in
-                subst (IsJoin g load t) (sym (same ∙ sum))
-                (label_join here.first here.first_edge ((are.sound at here_in).first (first_below some)) allowed (λ m j own. omega (arith, sum, first_most m j own)))
-            | inr excluded ↦ absurd (omega (arith, less, same, joined_false here.first here.first_edge n is excluded))
-          ]
+          | inl same ↦ subst (IsJoin g load t) (sym same) (first_joins n is some (omega (arith, less, same)))
           | inr join ↦ join less
         ];
         least = lesser low (omega arith) below;

@@ -2,10 +2,11 @@
 -- but where it says that a table is filled.
 use Rattle.std.specs.Prelude.{◌≡◌, ◌==◌, ℕ, ◌+◌, ◌-◌, ◌*◌, ◌/◌, ◌%◌, ◌^◌, ◌<◌, ◌≤◌, Bool, true, false, List, [], ◌∷◌, length, slice_index, slice_index_or}
 use Rattle.carp_base.specs.declared.edge.Task.{Task}
-use Rattle.carp_base.specs.Problem.{IsValid, IsRequired, IsEdgeNumber, IsReached, TasksLead, edge_at, tail_of, head_of}
+use Rattle.carp_base.specs.Problem.{Problem, IsValid, IsRequired, IsEdgeNumber, IsReached, TasksLead, edge_at, tail_of, head_of}
 use Rattle.pricing_grid.specs.declared.charging.Charge.{Charge}
 use Rattle.pricing_grid.specs.declared.charging.Charge.TheVariants.{Free, Charged, Gained}
 use Rattle.pricing_grid.specs.declared.grid.Grid.{Grid}
+use Rattle.pricing_grid.specs.declared.joining.Successor.{Successor}
 
 -- what stands where there is no partial tour
 abbrev pub no_value : ℕ
@@ -53,6 +54,12 @@ raised_from Free n = base
 raised_from Charged n = n
 raised_from Gained n = n
 
+-- the least raised surcharge of an edge of which this is known
+abbrev pub least_raised : Charge → ℕ
+least_raised Free = base
+least_raised Charged = base
+least_raised Gained = 0
+
 -- what is known of the surcharges of an edge of a number from 1
 abbrev pub charge_in : List Charge → ℕ → Charge
 charge_in charges f = slice_index_or charges (f - 1) Free
@@ -77,6 +84,11 @@ abbrev pub crossed : Grid → List Task → ℕ
 crossed g [] = 0
 crossed g (t ∷ ts) = between g (task_start g t) (task_end g t) + crossed g ts
 
+-- the list has the vertex where the task of each column ends
+pub record AreEnds (p : Problem) (ends : List ℕ) : Type 0 where
+  pub long : length ends ≡ 2 * p.required
+  pub each : (c : ℕ) → c < 2 * p.required → slice_index ends c ≡ head_of (edge_at p (column_task c).edge) (column_task c).forward
+
 -- streets that lead from a to b, together no longer than the least way
 pub record IsLedBy (g : Grid) (a b : ℕ) : Type 0 where
   pub path : List Task
@@ -90,6 +102,7 @@ pub record IsGrid (g : Grid) : Type 0 where
   pub net : g.net ≡ g.inst
   pub may_long : length g.may.items ≡ g.inst.required * g.inst.required
   pub dist_long : length g.dist.items ≡ (g.inst.vertices + 1) * (g.inst.vertices + 1)
+  pub ends : AreEnds g.inst g.ends.items
   pub adds_long : length g.adds.items ≡ g.inst.required
   pub lengths_long : length g.lengths.items ≡ length g.inst.edges
   pub lengths : (e : ℕ) → IsEdgeNumber g.inst e → slice_index g.lengths.items (e - 1) ≡ between g (edge_at g.inst e).u (edge_at g.inst e).v
@@ -166,6 +179,15 @@ pub record IsLeastUpTo (g : Grid) (load : ℕ) (t : Task) (columns n : ℕ) : Ty
 
 abbrev pub cell_place : Grid → ℕ → ℕ → ℕ
 cell_place g load c = load * width g + c
+
+-- the task's column is one of the table, its rows begin at these places, and this is known of the surcharges of its edge
+pub record IsSuccessor (g : Grid) (x : Successor) : Type 0 where
+  pub fits : x.load ≤ g.inst.capacity
+  pub column_in : x.column < width g
+  pub cells_from : x.cells ≡ x.load * width g
+  pub pairs_from : x.pairs ≡ (x.column / 2) * g.inst.required
+  pub ways_from : x.ways ≡ task_start g (column_task x.column) * (g.inst.vertices + 1)
+  pub known : x.charge ≡ charge_at g (column_task x.column).edge
 
 -- filled up to the cells that follow partial tours of this load, in the columns before one
 pub record AreFilled (g : Grid) (cells : List ℕ) (load column : ℕ) : Type 0 where

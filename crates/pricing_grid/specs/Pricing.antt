@@ -4,7 +4,7 @@ use Rattle.carp_base.specs.Problem.{Problem, IsRequired, IsReached, edge_at}
 use Rattle.carp_base.specs.Allowed.{Relation, allows}
 use Rattle.deadhead_paths.specs.Prices.{IsLeastPrice, NoneLead, price_of}
 use Rattle.pricing_grid.specs.declared.grid.Grid.{Grid}
-use Rattle.pricing_grid.specs.Partial.{IsGrid, between, surcharge_at}
+use Rattle.pricing_grid.specs.Partial.{IsGrid, AreEnds, between, surcharge_at}
 pub use Rattle.pricing_grid.specs.Partial.{base, lift}
 
 -- what tours are priced by: a price for each deadhead, a unit, a price for each service, the pairs that may be neighbours, and a
@@ -70,6 +70,7 @@ pub record IsGridRoom (p : Problem) (g : Grid) : Type 0 where
   pub net : g.net ≡ p
   pub may_long : length g.may.items ≡ p.required * p.required
   pub dist_long : length g.dist.items ≡ (p.vertices + 1) * (p.vertices + 1)
+  pub ends : AreEnds p g.ends.items
   pub lengths_long : length g.lengths.items ≡ length p.edges
   pub adds_long : length g.adds.items ≡ p.required
   pub charges_long : length g.charges.items ≡ p.required

@@ -1,9 +1,11 @@
 // Surcharges, copied into a grid.
 ghost use Rattle.std.specs.Prelude.{◌≡◌, ℕ, ◌+◌, ◌*◌, ◌<◌, ◌≤◌, ◌⊎◌, length, slice_index, slice_index_or, ℤ, pos, ◌+ℤ◌, All};
 ghost use Rattle.pricing_grid.specs.declared.charging.Charge.TheVariants.{Free};
-ghost use Rattle.pricing_grid.specs.Partial.{base};
+ghost use Rattle.pricing_grid.specs.Partial.{base, least_raised};
 ghost use Rattle.pricing_grid.specs.Pricing.{AreSurcharges, IsSurcharge};
 ghost use Rattle.pricing_grid.specs.Charging.{AreCharged, Holds, HoldsOfRow};
+
+use crate::grid::BASE;
 
 // What each surcharge is raised by.
 const RAISE: u64 = 2_305_843_009_213_693_952;
@@ -20,6 +22,16 @@ pub(crate) enum Charge {
 }
 
 impl Charge {
+    // The least raised surcharge of an edge of which this is known.
+    pub(crate) fn least_raised(self) -> u128
+        ensures { result ≡ least_raised self }
+    {
+        match self {
+            Charge::Free | Charge::Charged => BASE,
+            Charge::Gained => 0,
+        }
+    }
+
     // What is known of these and of one more.
     fn with(self, surcharge: &i64) -> Charge
         ensures one { Holds result surcharge.now }

@@ -2,10 +2,11 @@
 ghost use Rattle.std.specs.Prelude.{◌≡◌, ℕ, ◌+◌, ◌*◌, ◌^◌, ◌<◌, ◌≤◌, ◌-◌, length, slice_index, slice_index_or, false, pos, ◌+ℤ◌, ◌-ℤ◌, All, IfOk};
 ghost use Rattle.carp_base.specs.Problem.{IsVertex, IsRequired, IsEdgeNumber, edge_at};
 ghost use Rattle.carp_base.specs.Allowed.{IsOf, allows};
+ghost use Rattle.pricing_grid.specs.Partial.{AreEnds};
 ghost use Rattle.pricing_grid.specs.Pricing.{base, lift, AreSurcharges, IsServicePrice, IsWay, service_price, IsGridOf, IsGridRoom};
 
 use crate::charging::{Charge, copy_surcharges};
-use crate::grid::{BASE, Grid, LIFT, UNREACHED};
+use crate::grid::{BASE, Grid, LIFT, UNREACHED, end_of};
 use carp_base::{Allowed, Edge, Instance, Memory};
 use deadhead_paths::Distances;
 use road_network::Network;
@@ -20,6 +21,7 @@ impl Grid {
         let vertices = inst.vertices() as usize;
         let may = vec![in alloc; false; required * required]?;
         let dist = vec![in alloc; 0u128; (vertices + 1) * (vertices + 1)]?;
+        let ends = ends(alloc, inst)?;
         let lengths = vec![in alloc; 0u128; inst.edge_count() as usize]?;
         let adds = vec![in alloc; 0u128; required]?;
         let charges = vec![in alloc; Charge::Free; required]?;
@@ -31,6 +33,7 @@ impl Grid {
             net,
             may,
             dist,
+            ends,
             lengths,
             adds,
             charges,
@@ -69,6 +72,24 @@ impl Grid {
         copy_lengths(&mut self.lengths, &self.dist, inst);
         copy_services(&mut self.adds, inst, unit, services);
         copy_surcharges(&mut self.charges, &mut self.raised, surcharges, required);
+    }
+}
+
+// The vertex where the task of each column ends.
+fn ends(alloc: Global, inst: &Instance) -> Result<Vec<u32>, Memory>
+    ensures { IfOk result (λ ends. AreEnds inst.now ends.items) }
+{
+    let mut ends = vec![in alloc; 0u32; 2 * inst.required() as usize]?;
+    list_ends(&mut ends, inst);
+    Ok(ends)
+}
+
+fn list_ends(ends: &mut [u32], inst: &Instance)
+    requires { length ends.old ≡ 2 * inst.now.required }
+    ensures { AreEnds inst.now ends.new }
+{
+    for column in 0..2 * inst.required() as usize {
+        ends[column] = end_of(inst, column);
     }
 }
 

@@ -41,24 +41,6 @@ impl Grid {
         }
     }
 
-    // The least value of a partial tour of this load that the task may follow, with the raised leg to it.
-    pub(crate) fn least_join(&self, cells: &[u128], load: usize, column: usize) -> u128
-        requires grid { IsGrid self.now }
-        requires filled { AreFilled self.now cells.now load column }
-        requires load { load ≤ self.now.inst.capacity }
-        requires column { column < width self.now }
-        ensures { IsLeastJoin self.now load (column_task column) result }
-    {
-        let mut best = UNREACHED;
-        for before in 0..self.width() {
-            let joined = self.join(cells, load, before, column);
-            if joined < best {
-                best = joined;
-            }
-        }
-        best
-    }
-
     /// The column of the task from which the least partial tour of this load before a task comes. It takes m steps for m required
     /// edges, and no memory.
     pub fn before(&self, cells: &[u128], load: usize, column: usize) -> Before

@@ -1,6 +1,6 @@
 // What a table is filled from: an instance, the pairs that may follow each other, distances, and what services add.
 ghost use Rattle.std.specs.Prelude.{◌≡◌, ◌+◌, ◌*◌, ◌/◌, ◌^◌, ◌<◌, ◌≤◌, ◌-◌, length, slice_index};
-ghost use Rattle.carp_base.specs.Problem.{IsVertex, IsRequired, IsFineTask, IsFineEdge, edge_at};
+ghost use Rattle.carp_base.specs.Problem.{IsVertex, IsRequired, IsFineTask, IsFineEdge, edge_at, head_of};
 ghost use Rattle.pricing_grid.specs.Partial.{IsGrid, width, column_task, between, may_follow, adds_of, charge_at, demand_of, surcharge_at, task_start, task_end};
 
 use crate::charging::Charge;
@@ -29,6 +29,8 @@ pub struct Grid {
     pub(crate) net: Network,
     pub(crate) may: Vec<bool>,
     pub(crate) dist: Vec<u128>,
+    // The vertex where the task of each column ends.
+    pub(crate) ends: Vec<u32>,
     pub(crate) lengths: Vec<u128>,
     pub(crate) adds: Vec<u128>,
     // What is known of the surcharges of each required edge.
@@ -87,9 +89,7 @@ impl Grid {
         ensures value { result ≡ task_end self.now (column_task column) }
         ensures vertex { IsVertex self.now.inst result }
     {
-        let task = self.task(column);
-        let edge = self.inst.edge(task.edge);
-        if task.forward { edge.v } else { edge.u }
+        end_of(&self.inst, column)
     }
 
     /// The least price of deadheads from one vertex to another, at most `2^73`, where the depot reaches both. Of other vertices nothing
@@ -154,4 +154,15 @@ impl Grid {
     {
         self.adds[column / 2]
     }
+}
+
+// The vertex where the task of a column ends.
+pub(crate) fn end_of(inst: &Instance, column: usize) -> u32
+    requires { column < 2 * inst.now.required }
+    ensures value { result ≡ head_of (edge_at inst.now (column_task column).edge) (column_task column).forward }
+    ensures vertex { IsVertex inst.now result }
+{
+    let _required = inst.required();
+    let edge = inst.edge((column / 2) as u32 + 1);
+    if column % 2 == 0 { edge.v } else { edge.u }
 }

@@ -186,7 +186,7 @@ impl Grid {
         if self.may_follow_edge(x.second_edge, column) {
             return x.second + BASE;
         }
-        self.least_join(cells, load, column)
+        self.least_join(cells, load, column, UNREACHED)
     }
 
     // The same where the least of those with a surcharge below 0 is known: that, or the first of the two labels where the task starts
@@ -218,10 +218,11 @@ impl Grid {
         if least <= second {
             return least;
         }
-        if self.label_joined(x.second, x.second_edge, column) == second {
+        let other = self.label_joined(x.second, x.second_edge, column);
+        if other == second {
             return second;
         }
-        self.least_join(cells, load, column)
+        self.least_join(cells, load, column, lesser(least, other))
     }
 
     fn may_follow_edge(&self, edge: u32, column: usize) -> bool
@@ -287,7 +288,7 @@ impl Grid {
     }
 }
 
-fn lesser(a: u128, b: u128) -> u128
+pub(crate) fn lesser(a: u128, b: u128) -> u128
     ensures first { result ≤ a }
     ensures second { result ≤ b }
     ensures either { (result ≡ a) ⊎ (result ≡ b) }

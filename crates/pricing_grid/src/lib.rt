@@ -13,6 +13,7 @@ mod examples;
 mod filling;
 mod gaining;
 mod grid;
+mod joining;
 mod labels;
 
 pub use filling::Before;

@@ -18,7 +18,7 @@ returns-clause-of c =
     let charges = c.copy_surcharges.new.charges in
     let raised = c.copy_surcharges.new.raised in
     let x : Pricing = record { problem = p; prices = c.args.dist.now.prices; unit = c.args.unit; services = c.args.services.now; relation = c.args.allowed.now; surcharges = c.args.surcharges.now } in
-    let g : Grid = record { inst = old.inst; net = old.net; may = with_items old.may pairs; dist = with_items old.dist ways; lengths = with_items old.lengths lengths; adds = with_items old.adds adds; charges = with_items old.charges charges; raised = with_items old.raised raised } in
+    let g : Grid = record { inst = old.inst; net = old.net; may = with_items old.may pairs; dist = with_items old.dist ways; ends = old.ends; lengths = with_items old.lengths lengths; adds = with_items old.adds adds; charges = with_items old.charges charges; raised = with_items old.raised raised } in
     let pairs_are = with_items_is old.may pairs (c.copy_pairs.auto.pairs ∙ c.deref_mut.ensures.len) in
     let ways_are = with_items_is old.dist ways (c.copy_distances.auto.ways ∙ c.deref_mut-2.ensures.len) in
     let lengths_are = with_items_is old.lengths lengths (c.copy_lengths.auto.lengths ∙ c.deref_mut-3.ensures.len) in
@@ -29,4 +29,4 @@ returns-clause-of c =
     let are = copies x c.required-required.result c.vertices-vertices.result c.args.dist.now.problem pairs ways lengths adds charges raised c.required-required.ensures.value c.vertices-vertices.ensures.value c.requires.dist
     c.copy_pairs.ensures.long c.copy_distances.ensures.long c.copy_lengths.ensures.long c.copy_services.ensures.long c.requires.allowed c.copy_pairs.ensures.same c.copy_pairs.ensures.symmetric
     c.copy_distances.ensures.same streets c.copy_services.ensures.value c.copy_services.ensures.small c.requires.surcharges c.copy_surcharges.ensures in
-    copied_from x g pairs ways lengths adds charges raised pairs_are ways_are lengths_are adds_are charges_are raised_are c.required-required.ensures.valid c.requires.room.inst c.requires.room.net are
+    copied_from x g pairs ways lengths adds charges raised pairs_are ways_are lengths_are adds_are charges_are raised_are c.required-required.ensures.valid c.requires.room.inst c.requires.room.net c.requires.room.ends are

@@ -1,18 +1,7 @@
-use Rattle.std.proofs.Common.{◌≡◌, ◌*◌, arith, subst, inl, inr}
+use Rattle.std.proofs.Common.{◌≡◌, ◌*◌, arith, subst}
 use Rattle.pricing_grid.specs.Partial.{column_task, IsLeastUpTo}
-use Rattle.pricing_grid.proofs.Partials.{up_to_more, up_to_all}
-use Rattle.pricing_grid.proofs.grid.Grid.least_join.Goals.{then-joined-best, else-joined-best}
+use Rattle.pricing_grid.proofs.Partials.{up_to_all}
 use Rattle.pricing_grid.proofs.grid.Grid.least_join.Goals as goal
-
-pub loop-before-preserved : goal.loop-before-preserved
-loop-before-preserved c =
-    let g = c.args.self.now in
-    let more = up_to_more g c.requires.grid c.args.load (column_task c.args.column) c.loop-before.before c.loop-before.best c.join-joined.result c.if-joined-best.best
-    c.loop-before.invariant c.join-joined.ensures in
-    elim c.if-joined-best.branch [
-      | then-joined-best w ↦ more (omega (arith, w.if-joined-best.true, w.best-is)) (omega (arith, w.best-is)) (inr w.best-is)
-      | else-joined-best w ↦ more (omega (arith, w.best-is)) (omega (arith, w.if-joined-best.false, w.best-is)) (inl w.best-is)
-    ]
 
 pub returns : goal.returns
 returns c =

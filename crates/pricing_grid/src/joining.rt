@@ -1,0 +1,100 @@
+// The least of the partial tours that a task may follow, found among all tasks.
+ghost use Rattle.std.specs.Prelude.{◌≡◌, ◌+◌, ◌*◌, ◌^◌, ◌<◌, ◌≤◌};
+ghost use Rattle.pricing_grid.specs.Partial.{no_value, IsGrid, IsSuccessor, IsJoin, IsLeastJoin, IsLeastUpTo, AreFilled, leg, may_follow, surcharge_at, width, column_task};
+
+use crate::charging::Charge;
+use crate::grid::{BASE, Grid};
+use crate::labels::lesser;
+
+// A task after the partial tours of one load, with what a grid holds of it, read once for all of them.
+#[derive(Clone, Copy)]
+pub(crate) struct Successor {
+    load: usize,
+    column: usize,
+    // Where the cells of the load, the pairs of the task's edge and the ways from the vertex where it starts begin.
+    cells: usize,
+    pairs: usize,
+    ways: usize,
+    // What is known of the surcharges of its edge.
+    charge: Charge,
+}
+
+impl Grid {
+    // The least value of a partial tour of this load that the task may follow, with the raised leg to it, where one such value is known, or
+    // else `UNREACHED`. Tours that no leg can bring below the least so far are passed over.
+    pub(crate) fn least_join(&self, cells: &[u128], load: usize, column: usize, bound: u128) -> u128
+        requires grid { IsGrid self.now }
+        requires filled { AreFilled self.now cells.now load column }
+        requires load { load ≤ self.now.inst.capacity }
+        requires column { column < width self.now }
+        requires bound { bound < no_value → IsJoin self.now load (column_task column) bound }
+        ensures { IsLeastJoin self.now load (column_task column) result }
+    {
+        let next = Successor {
+            load,
+            column,
+            cells: load * self.width(),
+            pairs: column / 2 * self.inst.required() as usize,
+            ways: self.start(column) as usize * (self.inst.vertices() as usize + 1),
+            charge: self.charge(column),
+        };
+        let mut best = bound;
+        for before in 0..self.width() {
+            best = self.lowered(cells, &next, before, best);
+        }
+        best
+    }
+
+    // The least so far, or the value of the join with the task of one column more, if that is less.
+    fn lowered(&self, cells: &[u128], next: &Successor, before: usize, best: u128) -> u128
+        requires grid { IsGrid self.now }
+        requires next { IsSuccessor self.now next.now }
+        requires filled { AreFilled self.now cells.now next.now.load next.now.column }
+        requires before { before < width self.now }
+        requires best { IsLeastUpTo self.now next.now.load (column_task next.now.column) before best }
+        ensures { IsLeastUpTo self.now next.now.load (column_task next.now.column) (before + 1) result }
+    {
+        let value = cells[next.cells + before];
+        if value.saturating_add(next.charge.least_raised()) >= best {
+            return best;
+        }
+        if !self.may_precede(next, before) {
+            return best;
+        }
+        lesser(best, value + self.leg(next, before))
+    }
+
+    fn may_precede(&self, next: &Successor, before: usize) -> bool
+        requires grid { IsGrid self.now }
+        requires next { IsSuccessor self.now next.now }
+        requires before { before < width self.now }
+        ensures { result ≡ may_follow self.now (column_task next.now.column) (column_task before) }
+    {
+        self.may[next.pairs + before / 2]
+    }
+
+    // The raised leg from the task of a column.
+    fn leg(&self, next: &Successor, before: usize) -> u128
+        requires grid { IsGrid self.now }
+        requires next { IsSuccessor self.now next.now }
+        requires before { before < width self.now }
+        ensures value { result ≡ leg self.now (column_task before) (column_task next.now.column) }
+        ensures small { result ≤ 2 ^ 73 + 2 ^ 62 }
+    {
+        let way = self.dist[next.ways + self.ends[before] as usize];
+        way + self.raised(next, before)
+    }
+
+    fn raised(&self, next: &Successor, before: usize) -> u128
+        requires grid { IsGrid self.now }
+        requires next { IsSuccessor self.now next.now }
+        requires before { before < width self.now }
+        ensures value { result ≡ surcharge_at self.now (column_task before).edge (column_task next.now.column).edge }
+        ensures small { result ≤ 2 ^ 62 }
+    {
+        match next.charge {
+            Charge::Free => BASE,
+            _ => u128::from(self.raised[next.pairs + before / 2]),
+        }
+    }
+}
