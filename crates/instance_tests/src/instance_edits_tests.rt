@@ -4,8 +4,8 @@ ghost use Rattle.std.specs.List.{All};
 ghost use Rattle.instance_edits.specs.Edits.{AreKnown};
 ghost use Rattle.instance_edits.specs.Texts.{IsShort};
 
-use carp_base::{Fail as Refusal, Instance, RawEdge};
-use instance_edits::{Edit, edited, edits_are_unique, read_edits};
+use carp_base::{Fail as Refusal, Instance, InstanceFault, RawEdge};
+use instance_edits::{Edit, EditFault, edited, edits_are_unique, read_edits};
 use samples::street;
 use std::alloc::{AllocError, Global};
 use std::fmt::Write;
@@ -242,4 +242,18 @@ fn numbers_move_down(rt: HostRuntime) -> Result<(), Fail> {
 #[test]
 fn the_laws_can_be_called() {
     edits_are_unique();
+}
+
+// What is written of each fault of edits.
+#[test]
+fn faults_of_edits_have_words(rt: HostRuntime) -> Result<(), Fail> {
+    let alloc = rt.alloc();
+    let (syntax, unknown) = (EditFault::Syntax(7), EditFault::Unknown(1));
+    let refused = EditFault::Refused(InstanceFault::Overweight(2));
+    let words = format!(in alloc; "{syntax}; {unknown}; {refused}")?;
+    assert_eq!(&rt;
+        words.as_str(),
+        "line 7 cannot be read; line 1 names a wrong edge; the edited instance is not valid: edge 2 has a demand above the capacity"
+    );
+    Ok(())
 }
