@@ -196,7 +196,7 @@ fn first_offer(
     }
 }
 
-// One seed has the same offer twice, and some other seed another one.
+// One seed has the same offer twice, and some other seed another one, though all of them end with the same seven bits.
 #[test]
 fn draws_follow_the_seed(rt: HostRuntime) -> Result<(), Fail> {
     let inst = town(rt.alloc(), 1)?;
@@ -205,8 +205,8 @@ fn draws_follow_the_seed(rt: HostRuntime) -> Result<(), Fail> {
     let first = first_offer(rt.alloc(), &inst, &best, 1)?;
     let again = first_offer(rt.alloc(), &inst, &best, 1)?;
     assert!(rt; first.is_some() && again == first);
-    for seed in 2..10 {
-        if first_offer(rt.alloc(), &inst, &best, seed)? != first {
+    for bit in [7, 15, 23, 31, 47, 63] {
+        if first_offer(rt.alloc(), &inst, &best, 1 + (1 << bit))? != first {
             return Ok(());
         }
     }
