@@ -150,6 +150,7 @@ public:
   Table(const Town &town, uint32_t required, size_t capacity, const std::vector<Wide> &distances, const Charges &charges)
       : town(town), required(required), capacity(capacity), distances(distances), charges(charges), cells((capacity + 1) * 2 * required), layer(town.corners), adds(required) {
     for (const Street &s : town.streets) lengths.push_back(between(s.u, s.v));
+    for (uint32_t c = 0; c < 2 * required; c++) ends.push_back(end(c));
   }
 
   void fill(const std::vector<int64_t> &prices) {
@@ -186,6 +187,7 @@ private:
   std::vector<Wide> cells;
   std::vector<Labels> layer;
   std::vector<Wide> adds, lengths;
+  std::vector<uint32_t> ends;
 
   Wide &cell(size_t load, uint32_t c) { return cells[load * 2 * required + c]; }
   Wide between(uint32_t a, uint32_t b) const { return distances[size_t(a) * town.corners + b]; }
@@ -241,11 +243,19 @@ private:
     if (x.first == NEVER) return NEVER;
     Wide first = label(x.first, x.first_edge, c);
     if (first <= x.second) return first;
-    if (label(x.second, x.second_edge, c) == x.second) return x.second;
-    Wide best = NEVER;
+    Wide second = label(x.second, x.second_edge, c);
+    if (second == x.second) return second;
+    return joined(load, c, std::min(first, second));
+  }
+
+  // The least value with the way and the charge to a task, where one is known. Distances are the same both ways.
+  Wide joined(size_t load, uint32_t c, Wide best) const {
+    const Wide *values = &cells[load * 2 * required];
+    const Wide *ways = &distances[size_t(start(c)) * town.corners];
+    const uint64_t *charged = &charges.pairs[size_t(c / 2) * required];
     for (uint32_t b = 0; b < 2 * required; b++) {
-      Wide value = cell(load, b);
-      if (value != NEVER && b / 2 != c / 2) best = std::min(best, value + between(end(b), start(c)) + charges.pairs[size_t(c / 2) * required + b / 2]);
+      if (values[b] >= best || b / 2 == c / 2) continue;
+      best = std::min(best, values[b] + ways[ends[b]] + charged[b / 2]);
     }
     return best;
   }
