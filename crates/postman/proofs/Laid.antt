@@ -222,8 +222,8 @@ module _ (p : Problem) (valid : IsValid p) (deadheads start : List ℕ) (makes_e
               (λ i other. none_idle (parts_of deadheads i) (i == e) (ne_eqb i e other)),
         )
 
-    pub cheap_round : AreJoined p → IsCheapRound p deadheads walk
-    cheap_round joined = record {
+    pub cheap_round : AreJoined p → p.required ≢ 0 → IsCheapRound p deadheads walk
+    cheap_round joined some = record {
       is_round = record {
         leads = laid.closed;
         serves_required = all_required walk (on_edges p p.depot p.depot walk laid.closed) none_astray;
@@ -240,4 +240,5 @@ module _ (p : Problem) (valid : IsValid p) (deadheads start : List ℕ) (makes_e
       );
       few = laid.few;
       once_idle = few_idle;
+      idle = λ none. absurd (some none);
     }

@@ -42,4 +42,5 @@ shown_round pays p counts shores value walk cost valid bound cheap cost_is = rec
   shown = record { odd = bound.odd; packs = bound.packs; twice = omega (arith, bound.twice, cost_is) };
   few_steps = cheap.few;
   once_idle = cheap.once_idle;
+  idle = cheap.idle;
 }

@@ -1,11 +1,11 @@
 -- Rounds and joined edges of small instances.
-use Rattle.std.proofs.Common.{◌≡◌, ◌≢◌, ℕ, zero, suc, ◌≤◌, ◌==◌, ◌%◌, Bool, true, false, cond, List, [], ◌∷◌, get_or, refl, ap, inl, inr, arith}
-use Rattle.std.proofs.lemmas.Bool.{cases_Bool}
+use Rattle.std.proofs.Common.{◌≡◌, ◌≢◌, ℕ, zero, suc, ◌≤◌, ◌==◌, ◌%◌, Bool, true, false, cond, List, [], ◌∷◌, length, get_or, refl, ap, inl, inr, arith}
+use Rattle.std.proofs.lemmas.Bool.{false≢true, cases_Bool}
 use Rattle.std.specs.List.{AllByRecursion, count_by}
 use Rattle.carp_base.specs.declared.edge.Task.{Task}
 use Rattle.carp_base.specs.Problem.{IsEdgeNumber, IsRequired, IsVertex, TasksLead, edge_at, tail_of}
 use Rattle.plan_model.specs.Plans.{serves}
-use Rattle.postman.specs.Examples.{no_street, once_more, one_street, out_and_back, street_apart}
+use Rattle.postman.specs.Examples.{free_streets, idle_trip, no_street, once_more, one_street, out_and_back, street_apart}
 use Rattle.postman.specs.Trails.{IsSpent, IsStart, left_at}
 use Rattle.postman.specs.Rounds.{AreJoined, IsFirstApart, IsJoined, IsRound, idles}
 
@@ -53,6 +53,17 @@ stays_is_round = record {
   serves_required = tt;
   once = λ e required. absurd (omega (arith, required.from_one, required.in_range));
 }
+
+pub trip_is_round : IsRound free_streets idle_trip
+trip_is_round = record {
+  leads = (record { from_one = omega arith; in_range = omega arith }, refl, (record { from_one = omega arith; in_range = omega arith }, refl, refl));
+  serves_required = ((λ is. absurd (false≢true is)), ((λ is. absurd (false≢true is)), tt));
+  once = λ e required. absurd (omega (arith, required.from_one, required.in_range));
+}
+
+-- a trip is not empty
+pub goes_nowhere : idle_trip ≡ [] → ⊥
+goes_nowhere is = absurd (omega (arith, ap length is))
 
 pub street_joined : AreJoined one_street
 street_joined e required = only_first (IsJoined one_street) (record { path = []; required = tt; leads = refl }) e required.from_one required.in_range

@@ -17,6 +17,12 @@ one_street = record { vertices = 2; depot = 1; capacity = 9; required = 1; edges
 abbrev pub no_street : Problem
 no_street = record { vertices = 1; depot = 1; capacity = 9; required = 0; edges = [] }
 
+-- two streets from 1 to 2 that are not to be served and cost nothing
+abbrev pub free_streets : Problem
+free_streets =
+    let free : Edge = record { u = 1; v = 2; cost = 0; demand = 0; service = 0 } in
+    record { vertices = 2; depot = 1; capacity = 9; required = 0; edges = free ∷ free ∷ [] }
+
 -- a street from 2 to 3 that is to be served, and one from the depot 1 to 2 that is not
 abbrev pub street_apart : Problem
 street_apart = record { vertices = 3; depot = 1; capacity = 9; required = 1; edges = street 2 3 ∷ record { u = 1; v = 2; cost = 5; demand = 0; service = 0 } ∷ [] }
@@ -34,6 +40,10 @@ served_twice = over true true ∷ over false true ∷ []
 
 abbrev pub once_more : List Step
 once_more = over true true ∷ over false false ∷ over true false ∷ over false false ∷ []
+
+-- out over the first street and back over the second one, without service
+abbrev pub idle_trip : List Step
+idle_trip = over true false ∷ record { edge = 2; forward = false; served = false } ∷ []
 
 -- the vertex 2 with ten halves
 abbrev pub one_shore : List Weighted

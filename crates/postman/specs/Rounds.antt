@@ -1,6 +1,6 @@
 -- Rounds: closed walks from the depot that serve each required edge, by one vehicle without a limit (the rural postman problem;
 -- Eiselt, Gendreau and Laporte 1995, part II).
-use Rattle.std.specs.Prelude.{◌≡◌, ℕ, ◌+◌, ◌*◌, ◌<◌, ◌≤◌, ◌==◌, ◌&&◌, Bool, List, IsTrue, count_by, length, not}
+use Rattle.std.specs.Prelude.{◌≡◌, ℕ, ◌+◌, ◌*◌, ◌<◌, ◌≤◌, ◌==◌, ◌&&◌, Bool, List, [], IsTrue, count_by, length, not}
 use Rattle.std.specs.List.{All, AllByRecursion}
 use Rattle.carp_base.specs.declared.edge.Task.{Task}
 use Rattle.carp_base.specs.Problem.{Problem, IsRequired, TasksLead, edge_at, required_cost}
@@ -49,7 +49,7 @@ pub record ShowLeast (p : Problem) (shores : List Weighted) (cost : ℕ) : Type 
   pub packs : Packs p shores
   pub twice : all_halves shores + 2 * required_cost p ≡ 2 * cost
 
--- a least round of few steps that crosses no edge twice without service, what it costs, and shores that show that no other costs less
+-- a least round of few steps that crosses no edge twice without service and is empty if no edge is required, what it costs, and shores that show that no other costs less
 pub record IsShownRound (p : Problem) (walk : List Step) (shores : List Weighted) (cost : ℕ) : Type 0 where
   pub is_round : IsRound p walk
   pub costs : walk_cost p walk ≡ cost
@@ -57,3 +57,4 @@ pub record IsShownRound (p : Problem) (walk : List Step) (shores : List Weighted
   pub shown : ShowLeast p shores cost
   pub few_steps : length walk ≤ p.required + length p.edges
   pub once_idle : (e : ℕ) → count_by (idles e) walk ≤ 1
+  pub idle : p.required ≡ 0 → walk ≡ []

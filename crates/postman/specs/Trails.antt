@@ -137,9 +137,10 @@ pub record IsLaid (p : Problem) (start left : List ℕ) (walk : List Step) : Typ
   pub spends : (f : ℕ → Bool → ℕ) → worth_of f walk + worth_left p f left ≡ worth_left p f start
   pub few : length walk ≤ p.required + length p.edges
 
--- a round over some of these deadheads
+-- a round over some of these deadheads, which is empty if no edge is required
 pub record IsCheapRound (p : Problem) (deadheads : List ℕ) (walk : List Step) : Type 0 where
   pub is_round : IsRound p walk
   pub cheap : walk_cost p walk ≤ required_cost p + join_cost p deadheads
   pub few : length walk ≤ p.required + length p.edges
   pub once_idle : (e : ℕ) → count_by (idles e) walk ≤ 1
+  pub idle : p.required ≡ 0 → walk ≡ []

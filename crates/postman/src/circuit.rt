@@ -34,7 +34,8 @@ fn close(
     Ok(())
 }
 
-// A closed walk from the depot over the required edges and some of the deadheads. What is left of them stays behind.
+// A closed walk from the depot over the required edges and some of the deadheads. What is left of them stays behind. Without
+// required edges it has no steps, also where deadheads cost nothing.
 pub(crate) fn lay_circuit(
     alloc: Global,
     inst: &Instance,
@@ -47,6 +48,9 @@ pub(crate) fn lay_circuit(
     requires once { (e : ℕ) → parts_of deadheads.old e ≤ 1 }
     ensures { IfOk result (λ walk. IsCheapRound inst.now deadheads.old walk) }
 {
+    if inst.required() == 0 {
+        return Ok(Walk::new(alloc));
+    }
     add_services(inst, deadheads);
     let mut next = vec![in alloc; 0; inst.vertices() as usize + 1]?;
     let mut stack = Vec::new(alloc);

@@ -2,7 +2,7 @@
 ghost use Rattle.std.specs.Prelude.{◌≡◌, ℕ, ◌≤◌, [], ◌∷◌, true, false, count_by};
 ghost use Rattle.carp_base.specs.declared.fail.Fail.TheVariants.{Memory as OutOfMemory, Refused};
 ghost use Rattle.plan_model.specs.Plans.{walk_cost};
-ghost use Rattle.postman.specs.Examples.{no_street, once_more, one_shore, one_street, out_and_back, over, served_twice, street_apart};
+ghost use Rattle.postman.specs.Examples.{free_streets, idle_trip, no_street, once_more, one_shore, one_street, out_and_back, over, served_twice, street_apart};
 ghost use Rattle.postman.specs.Refusals.{RefusesApart};
 ghost use Rattle.postman.specs.Rounds.{AreJoined, IsFirstApart, IsJoined, IsLeastRound, IsRound, IsShownRound, ShowLeast, deadheads_in, idles};
 ghost use Rattle.postman.specs.Trails.{IsCheapRound, IsSpent, IsStart, is_service, left_at, one_each, worth_left};
@@ -27,6 +27,9 @@ fn least_rounds()
     ensures off { ¬ (ShowLeast one_street one_shore 13) }
     ensures all { IsShownRound no_street [] [] 0 }
     ensures not_all { ¬ (IsShownRound no_street [] [] 1) }
+    ensures stays { IsShownRound free_streets [] [] 0 }
+    ensures trip { IsRound free_streets idle_trip }
+    ensures idle { ¬ (IsShownRound free_streets idle_trip [] 0) }
 {}
 
 fn joined_edges()
@@ -55,4 +58,5 @@ fn crossings_left()
     ensures no_start { ¬ (IsStart one_street (1 ∷ []) (0 ∷ 0 ∷ 0 ∷ [])) }
     ensures cheap { IsCheapRound one_street (1 ∷ []) out_and_back }
     ensures dear { ¬ (IsCheapRound one_street (1 ∷ []) once_more) }
+    ensures needless { ¬ (IsCheapRound free_streets (1 ∷ 1 ∷ []) idle_trip) }
 {}

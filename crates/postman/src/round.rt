@@ -21,7 +21,7 @@ use std::alloc::Global;
 #[derive(Drop)]
 pub struct Round {
     /// The walk: each required edge has one served step, and no other edge has one. It crosses no edge twice without
-    /// service, and has at most as many steps as there are required edges and edges together.
+    /// service, and has at most as many steps as there are required edges and edges together. Without required edges it has none.
     pub walk: Walk,
     /// Sets of vertices without the depot, each crossed by an odd number of required edges. The weight of each is a
     /// number of halves of a unit of cost, above 0. Over each edge they sum to at most twice its cost. They and

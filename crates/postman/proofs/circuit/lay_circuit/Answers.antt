@@ -1,4 +1,4 @@
-use Rattle.std.proofs.Common.{suc, ◌+◌, ap, ◌∙◌, replicate}
+use Rattle.std.proofs.Common.{suc, ◌+◌, ap, ◌∙◌, replicate, rules}
 use Rattle.postman.proofs.Laid.{cheap_round, starts}
 use Rattle.postman.proofs.circuit.lay_circuit.Goals as goal
 
@@ -13,4 +13,4 @@ close-requires-clause-start c =
 pub returns : goal.returns
 returns c =
     cheap_round c.args.inst.now c.vertices.ensures.valid c.args.deadheads.now c.add_services.new.counts c.requires.makes_even c.requires.once c.add_services.auto.counts c.add_services.ensures
-    c.close.new.left c.close.new.walk c.in_ok-close.ensures c.requires.joined
+    c.close.new.left c.close.new.walk c.in_ok-close.ensures c.requires.joined (search rules)

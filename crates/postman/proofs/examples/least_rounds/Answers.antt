@@ -1,6 +1,6 @@
-use Rattle.std.proofs.Common.{arith}
+use Rattle.std.proofs.Common.{refl, arith}
 use Rattle.postman.specs.Examples.{out_and_back}
-use Rattle.postman.proofs.Small.{back_is_round}
+use Rattle.postman.proofs.Small.{back_is_round, goes_nowhere, trip_is_round}
 use Rattle.postman.proofs.examples.least_rounds.Goals as goal
 
 pub returns-clause-least : goal.returns-clause-least
@@ -14,3 +14,9 @@ returns-clause-off c = λ shown. absurd (omega (arith, shown.twice))
 
 pub returns-clause-not_all : goal.returns-clause-not_all
 returns-clause-not_all c = λ shown. absurd (omega (arith, shown.costs))
+
+pub returns-clause-trip : goal.returns-clause-trip
+returns-clause-trip c = trip_is_round
+
+pub returns-clause-idle : goal.returns-clause-idle
+returns-clause-idle c = λ shown. goes_nowhere (shown.idle refl)
