@@ -12,3 +12,4 @@ pub mod WrittenEdges
 pub mod RoundTrip
 pub mod LineVerdicts
 pub mod TextVerdicts
+pub mod Lengths

@@ -60,7 +60,7 @@ at_idle p i d valid from below =
     let idle = valid.idle (i + 1) (record { from_one = omega arith; in_range = omega arith }) (omega arith) in
     subst (λ (x : Edge). IsIdle x) (edge_after p i ∙ get_or_default p.edges i no_edge d below) idle
 
-small_required : (p : Problem) → IsValid p → All (λ (x : Edge). IsSmall x × (x.demand ≤ 30000) × (x.service ≤ 1000000)) (required_edges p)
+pub small_required : (p : Problem) → IsValid p → All (λ (x : Edge). IsSmall x × (x.demand ≤ 30000) × (x.service ≤ 1000000)) (required_edges p)
 small_required p valid i d below =
     let long : length (required_edges p) ≡ p.required = length-take-le p.required p.edges valid.required_in in
     let short : i < p.required = omega (arith, below, long) in
@@ -78,7 +78,7 @@ small_required p valid i d below =
       task.1,
     )
 
-small_others : (p : Problem) → IsValid p → All (λ (x : Edge). IsSmall x × IsIdle x) (other_edges p)
+pub small_others : (p : Problem) → IsValid p → All (λ (x : Edge). IsSmall x × IsIdle x) (other_edges p)
 small_others p valid i d below =
     let within : p.required + i < length p.edges = omega (arith, below, length-drop p.required p.edges) in
     let fine = at_fine p (p.required + i) d valid within in
@@ -94,15 +94,15 @@ small_others p valid i d below =
       idle,
     )
 
-small_demand : (p : Problem) → IsValid p → total_demand p ≤ p.required * 30000
+pub small_demand : (p : Problem) → IsValid p → total_demand p ≤ p.required * 30000
 small_demand p valid =
     omega (arith, length-take-le p.required p.edges valid.required_in, sum_by-le (λ x. x.demand) 30000 (required_edges p) (λ i d below. (small_required p valid i d below).1))
 
-small_cost : (p : Problem) → IsValid p → required_cost p ≤ p.required * 1000000
+pub small_cost : (p : Problem) → IsValid p → required_cost p ≤ p.required * 1000000
 small_cost p valid =
     omega (arith, length-take-le p.required p.edges valid.required_in, sum_by-le (λ x. x.service) 1000000 (required_edges p) (λ i d below. (small_required p valid i d below).2))
 
-small_vehicles : (demand capacity : ℕ) → demand ≤ 18000000 → div_ceil demand capacity < 10 ^ 18
+pub small_vehicles : (demand capacity : ℕ) → demand ≤ 18000000 → div_ceil demand capacity < 10 ^ 18
 small_vehicles demand capacity small = omega (arith, div-le_self demand capacity)
 
 -- What the text says.

@@ -21,6 +21,6 @@ mod write;
 
 pub use fault::DatFault;
 pub use key::Key;
-pub use laws::{readings_are_unique, written_is_read};
+pub use laws::{readings_are_unique, written_is_read, written_is_short};
 pub use reading::read_dat;
 pub use write::write_dat;
