@@ -14,3 +14,4 @@ pub mod Shapeless
 pub mod SpellableNodes
 pub mod SpellableLists
 pub mod Spellable
+pub mod Lengths

@@ -1,5 +1,5 @@
 -- Laws over all texts of certificates.
-use Rattle.std.specs.Prelude.{◌≡◌, ℕ, ◌==◌, ◌+◌, ◌*◌, ◌^◌, ◌≤◌, ◌<◌, ℤ, nat_abs, List, [], ◌∷◌, ◌++◌}
+use Rattle.std.specs.Prelude.{◌≡◌, ℕ, ◌==◌, ◌+◌, ◌*◌, ◌^◌, ◌≤◌, ◌<◌, ℤ, nat_abs, List, [], ◌∷◌, ◌++◌, length}
 use Rattle.std.specs.Fmt.{decimal, signed_decimal}
 use Rattle.std.specs.List.{AllByRecursion, slice_split}
 use Rattle.carp_base.specs.Problem.{Problem, IsValid}
@@ -96,3 +96,10 @@ SpellableIsFine = (c : Certificate) → IsSpellable c → IsFine c
 -- a shore of a valid instance can be spelled
 abbrev pub ShoreIsFine : Type 0
 ShoreIsFine = (p : Problem) (shore : List ℕ) → IsValid p → IsShore shore → Belongs p shore → IsFineShore shore
+
+-- the text of a certificate has at most 268,435,456 bytes
+abbrev pub TextIsShort : Type 0
+TextIsShort = (bytes : List ℕ) (c : Certificate) → IsTextOf bytes c → length bytes ≤ 268435456
+
+abbrev pub SpellingIsShort : Type 0
+SpellingIsShort = (c : Certificate) → IsSpellable c → length (text_of c) ≤ 268435456

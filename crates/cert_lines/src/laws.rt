@@ -22,6 +22,8 @@ ghost use Rattle.cert_lines.specs.Laws.{
   FineIsSpellable,
   SpellableIsFine,
   ShoreIsFine,
+  TextIsShort,
+  SpellingIsShort,
 };
 
 /// A number of 64 bits is spelled as std writes it.
@@ -89,4 +91,10 @@ pub fn spellable_is_fine()
 /// A shore that belongs to a valid instance can be spelled: it has at most 999 vertices.
 pub fn shores_are_fine()
     ensures { ShoreIsFine }
+{}
+
+/// The text of a certificate has at most 268,435,456 bytes, so that a reader with this limit refuses none for its length.
+pub fn texts_are_short()
+    ensures text { TextIsShort }
+    ensures spelling { SpellingIsShort }
 {}

@@ -19,6 +19,6 @@ pub use item::Item;
 pub use laws::{
     fine_is_spellable, lines_are_cut, lines_are_unique, numerals_are_decimals, numerals_grow,
     read_is_spelled, readings_are_unique, shores_are_fine, spellable_is_fine, spelled_is_read,
-    texts_are_unique,
+    texts_are_short, texts_are_unique,
 };
 pub use next::Next;
