@@ -1,8 +1,9 @@
 // Asks a list of helpers, round after round.
-ghost use Rattle.std.specs.Prelude.{◌≡◌, ◌+◌, ◌%◌, ◌^◌, ◌<◌, ◌≤◌, All, EachIndex, None, OnOk, map, slice_index};
+ghost use Rattle.std.specs.Prelude.{◌≡◌, ◌+◌, ◌%◌, ◌^◌, ◌<◌, ◌≤◌, All, EachIndex, IfOk, None, OnOk, length, map, replicate, slice_index};
 ghost use Rattle.deadhead_paths.specs.Prices.{costs_of};
 ghost use Rattle.plan_model.specs.Plans.{IsLawful, plan_cost};
 ghost use Rattle.short_plans.specs.Shorts.{IsShortPlan};
+ghost use Rattle.helper_rounds.specs.Asking.{AreRounds, IsRound, IsTurn, TellsOfBetter, fresh, standings};
 ghost use Rattle.helper_rounds.specs.Helpers.{IsAtMost, IsFit};
 
 use crate::consulting::{Heard, hear};
@@ -51,6 +52,8 @@ fn ask<P: Proposer>(
     ensures seed { P.seed helper.new ≡ P.seed helper.old }
     ensures fit { OnOk result (IsFit (round + 1) (plan_cost inst.now best.new) (P.asked helper.new) (P.tally helper.new)) }
     ensures asked { OnOk result (1 ≤ P.asked helper.new) }
+    ensures turn { OnOk result (IsTurn inst.now best.old (record { asked = P.asked helper.old; tally = P.tally helper.old }) (record { asked = P.asked helper.new; tally = P.tally helper.new }) best.new) }
+    ensures better { IfOk result (λ taken. TellsOfBetter inst.now taken best.old best.new) }
     ensures short { IsShortPlan inst.now best.new }
     ensures no_dearer { plan_cost inst.now best.new ≤ plan_cost inst.now best.old }
 {
@@ -80,20 +83,22 @@ fn ask_round<P: Proposer>(
     ensures seeds { map P.seed helpers.new.items ≡ map P.seed helpers.old.items }
     ensures fit { OnOk result (All (λ helper. IsFit (round + 1) (plan_cost inst.now best.new) (P.asked helper) (P.tally helper)) helpers.new.items) }
     ensures asked { OnOk result (All (λ helper. 1 ≤ P.asked helper) helpers.new.items) }
+    ensures turns { OnOk result (IsRound inst.now (record { best = best.old; helpers = standings P.asked P.tally helpers.old.items }) (record { best = best.new; helpers = standings P.asked P.tally helpers.new.items })) }
+    ensures better { IfOk result (λ better. TellsOfBetter inst.now better best.old best.new) }
     ensures short { IsShortPlan inst.now best.new }
     ensures no_dearer { plan_cost inst.now best.new ≤ plan_cost inst.now best.old }
 {
     let mut better = false;
     for i in 0..helpers.len() {
         let taken = ask(alloc, inst, dist, best, &mut helpers[i], round)?;
-        better = better || taken;
+        better |= taken;
     }
     Ok(better)
 }
 
-/// Gives each helper a seed of its own, the word plus its place from 0, wrapping, and asks all of them in up to four rounds. A better plan
-/// takes the place of the best one; after an unlawful offer a helper is not asked again. A round without a better plan is the last.
-/// Contracts do not say so, nor in which order the helpers of a round are asked.
+/// Gives each helper a seed of its own, the word plus its place from 0, wrapping, and asks all of them in up to four rounds, each time in the
+/// order of the list. A lawful plan that costs less takes the place of the best one at once; after an unlawful offer a helper is not asked
+/// again. A round without a better plan is the last.
 ///
 /// The best plan is short before and after, and costs no more than before, also where the answer is `Memory`. The list keeps its helpers
 /// in their order. The distances are those by cost.
@@ -116,6 +121,7 @@ pub fn ask_all<P: Proposer>(
     ensures few_rounds { OnOk result (All (λ helper. P.asked helper ≤ 4) helpers.new.items) }
     ensures fouls { OnOk result (All (λ helper. (P.tally helper).fouls ≤ 1) helpers.new.items) }
     ensures least { OnOk result (All (λ helper. IsAtMost (plan_cost inst.now best.new) (P.tally helper).least) helpers.new.items) }
+    ensures rounds { OnOk result (AreRounds inst.now (record { best = best.old; helpers = replicate (length helpers.old.items) fresh }) (record { best = best.new; helpers = standings P.asked P.tally helpers.new.items })) }
     ensures short { IsShortPlan inst.now best.new }
     ensures no_dearer { plan_cost inst.now best.new ≤ plan_cost inst.now best.old }
 {

@@ -3,6 +3,7 @@ use Rattle.plan_model.specs.Plans.{plan_cost}
 use Rattle.helper_rounds.specs.Helpers.{IsFit}
 use Rattle.helper_rounds.proofs.Writing.{kept, more, fewer}
 use Rattle.helper_rounds.proofs.Fit.{still_fit}
+use Rattle.helper_rounds.proofs.Turns.{asked_more, none_left, tells_both}
 use Rattle.helper_rounds.proofs.rounds.ask_round.Goals as goal
 
 pub loop-i-preserved : goal.loop-i-preserved
@@ -21,7 +22,12 @@ loop-i-preserved g c =
       waiting = fewer (λ b. let of = g.P.Proposer in IsFit c.args.round (plan_cost p c.loop-i.best) (of.asked b) (of.tally b))
           (λ b. let of = g.P.Proposer in IsFit c.args.round (plan_cost p c.ask.new.best) (of.asked b) (of.tally b))
           _ _ _ (λ b h. still_fit _ _ _ _ _ cheaper h) c.loop-i.invariant.waiting;
+      turns = asked_more (λ b. g.P.Proposer.asked b) (λ b. g.P.Proposer.tally b) p _ _ _ _ _ _ _ within c.index_mut.ensures.value c.loop-i.invariant.turns c.in_ok-taken.ensures.turn;
+      better = tells_both p _ _ _ _ _ c.loop-i.invariant.better c.in_ok-taken.ensures.better;
     }
+
+pub returns-clause-turns : goal.returns-clause-turns
+returns-clause-turns g c = none_left (λ b. g.P.Proposer.asked b) (λ b. g.P.Proposer.tally b) c.args.inst.now _ _ _ _ (search rules) c.loop-i.invariant.turns
 
 pub returns-in_err-taken-clause-same : goal.returns-in_err-taken-clause-same
 returns-in_err-taken-clause-same g c = kept _ _ _ _ _ _ c.index_mut.ensures.value c.ask.ensures.id c.loop-i.invariant.same
