@@ -1,2 +1,4 @@
 pub mod Performed
 pub mod Delivered
+pub mod Promised
+pub mod Accepting

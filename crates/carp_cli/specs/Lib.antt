@@ -7,4 +7,5 @@ pub mod Editing
 pub mod Answers
 pub mod Runs
 pub mod Steps
+pub mod Laws
 pub mod Examples

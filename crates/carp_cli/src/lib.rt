@@ -6,16 +6,20 @@
 //!
 //! A command is read by `command_words`, its files by `command_jobs`, and what it asks for is made by `command_works`. Here `refusals` spells the
 //! answers that have no report, and `delivering` keeps and writes what was made: all that is kept or written goes through one function.
+//!
+//! [`kept_is_accepted`] says how two runs fit: what `solve` keeps, `check` accepts.
 #![tactic(auto)]
 
 mod delivering;
 mod dir_shelf;
 mod examples;
+mod laws;
 mod refusals;
 mod running;
 mod std_sink;
 
 pub use command_files::Status;
 pub use dir_shelf::DirShelf;
+pub use laws::kept_is_accepted;
 pub use running::run;
 pub use std_sink::StdSink;

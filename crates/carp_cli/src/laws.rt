@@ -1,0 +1,31 @@
+// Laws over two runs, as functions whose contract is the law.
+ghost use Rattle.carp_cli.specs.Laws.{
+  SolvedIsAccepted,
+  UpgradedIsAccepted,
+  EditedIsAccepted,
+  MadeIsHeld,
+  MadeIsSolved,
+};
+
+use cert_lines::{texts_are_short, texts_are_unique};
+use dat_text::{written_is_read, written_is_short};
+use town_maker::towns_are_valid;
+
+/// What one command keeps, the next one takes: a law over what two runs leave ([`crate::run`]), with nothing to run.
+///
+/// Where `solve FILE CERT` ended `Proven` or `Gap`, a later `check FILE CERT`, of which no look at the files failed, answers `Accepted`, with the cost and the bound that `solve`
+/// reported, or it could not write, or had no memory. The same holds of what `upgrade` and `edit` keep. What `make` keeps is the text of
+/// its town, within the limit of an instance file, so that `solve` solves it.
+pub fn kept_is_accepted()
+    ensures solved { SolvedIsAccepted }
+    ensures upgraded { UpgradedIsAccepted }
+    ensures edited { EditedIsAccepted }
+    ensures made { MadeIsHeld }
+    ensures made_solved { MadeIsSolved }
+{
+    texts_are_unique();
+    texts_are_short();
+    written_is_read();
+    written_is_short();
+    towns_are_valid();
+}
