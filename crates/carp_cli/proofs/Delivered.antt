@@ -34,7 +34,7 @@ pub whole_leaves : {held told : Bool} {command : Option Command} {before now : O
 whole_leaves {held} {told} {command} {before} {now} status work prepared kept wrote = record {
   whole = λ written remembered. record {
     work = work;
-    answer = record { right = prepared.right; refusal = prepared.refusal };
+    answer = record { right = prepared.right; founded = prepared.founded; refusal = prepared.refusal };
     kept = kept;
     wrote = wrote;
   };
@@ -46,8 +46,8 @@ whole_leaves {held} {told} {command} {before} {now} status work prepared kept wr
   write = λ is. absurd (prepared.written is);
   too_long = prepared.too_long;
   no_command = λ none. inl (prepared.no_command none);
-  refused = λ tells c wanted is bad no. inl (prepared.refused tells c wanted is bad no);
-  done = λ tells c is good no. inl (prepared.done tells c is good no);
+  refused = λ known c wanted is bad no. inl (prepared.refused known c wanted is bad no);
+  done = λ known c is good no. inl (prepared.done known c is good no);
 }
 
 pub part_leaves : {held told : Bool} {command : Option Command} {before now : Outside} (status : Status) (work : Work)
@@ -58,7 +58,7 @@ part_leaves {held} {told} {command} {before} {now} status work prepared left = r
   cut = λ is. record {
     status = status;
     work = work;
-    answer = record { right = prepared.right; refusal = prepared.refusal };
+    answer = record { right = prepared.right; founded = prepared.founded; refusal = prepared.refusal };
     left = left;
   };
   untouched = λ is. cc;
@@ -71,8 +71,8 @@ part_leaves {held} {told} {command} {before} {now} status work prepared left = r
   write = λ is. elim left [ inl front ↦ inl front.0 | inr whole ↦ inr whole.0 ];
   too_long = λ limit is. cc;
   no_command = λ none. inr (inl refl);
-  refused = λ tells c wanted is bad no. inr (inl refl);
-  done = λ tells c is good no. inr (inl refl);
+  refused = λ known c wanted is bad no. inr (inl refl);
+  done = λ known c is good no. inr (inl refl);
 }
 
 pub nothing_leaves : {held told : Bool} {command : Option Command} {before now : Outside} → (IsTrue held → SameContents before.contents now.contents) → (IsTrue told → now.written ≡ before.written)
@@ -87,8 +87,8 @@ nothing_leaves kept wrote = record {
   write = λ is. cc;
   too_long = λ limit is. cc;
   no_command = λ none. inr (inr refl);
-  refused = λ tells c wanted is bad no. inr (inr refl);
-  done = λ tells c is good no. inr (inr refl);
+  refused = λ known c wanted is bad no. inr (inr refl);
+  done = λ known c is good no. inr (inr refl);
 }
 
 -- what was prepared is delivered, whole or in part

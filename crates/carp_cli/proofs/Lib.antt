@@ -1,3 +1,4 @@
+pub mod Refusing
 pub mod Performed
 pub mod Delivered
 pub mod Promised

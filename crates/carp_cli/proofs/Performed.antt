@@ -1,16 +1,16 @@
 -- What becomes of a command, from what becomes of its files and its job.
-use Rattle.std.proofs.Common.{◌≡◌, ◌≢◌, ℕ, ◌%◌, ◌^◌, ◌+◌, List, [], ◌∷◌, map, refl, sym, ap, ◌∙◌, subst, inl, inr, IsTrue, Bool, true, false, true≢false, Option, None, Some, codes}
+use Rattle.std.proofs.Common.{◌≡◌, ◌≢◌, ℕ, List, [], ◌∷◌, map, refl, sym, ap, ◌∙◌, subst, inl, inr, IsTrue, Bool, Option, None, Some, codes}
 use Rattle.std.specs.List.{AllByRecursion}
-use Rattle.std.specs.Prelude.{◌⊎◌, Result, Ok, Err, IfOk, IsSomeAnd, OnOk}
+use Rattle.std.specs.Prelude.{Result, Ok, Err, IsSomeAnd}
 use Rattle.carp_base.specs.declared.fail.Fail.{Fail}
 use Rattle.carp_base.specs.declared.fail.Fail.TheVariants.{Refused}
-use Rattle.carp_base.specs.declared.fail.Memory.{Memory as Want}
 use Rattle.cert_lines.specs.Texts as certificates
 use Rattle.command_words.specs.Commands.{Command, Solve, Check, Sheet, Make, Drill, Upgrade, Postman, Fleet, Edit, Source, asks_helpers, keeps, reads, seed_of}
-use Rattle.command_files.specs.Reads.{IsTried, IsRefusal}
+use Rattle.command_files.specs.Files.{HeldIn, OfSomeBytes}
+use Rattle.command_files.specs.Reads.{IsTried}
 use Rattle.command_files.specs.declared.status.Status.{Status}
-use Rattle.command_files.specs.declared.status.Status.TheVariants.{Proven, Gap, Accepted, Done, BadUsage, ReadFault}
-use Rattle.command_jobs.specs.Inputs.{IsRefused, CanBeDone, IsUnread}
+use Rattle.command_files.specs.declared.status.Status.TheVariants.{BadUsage}
+use Rattle.command_jobs.specs.Inputs.{IsRefusalOf, IsRefused, CanBeDone, IsUnread}
 use Rattle.command_jobs.specs.Jobs.{IsFor, IsJobOf, IsSoundJob, WasRead}
 use Rattle.command_jobs.specs.declared.job.Job.{Job}
 use Rattle.command_jobs.specs.declared.job.Job.TheVariants as jobs
@@ -22,16 +22,17 @@ use Rattle.cert_format.specs.Certs.{certificate_in}
 use Rattle.cert_format.specs.Good.{IsProof}
 use Rattle.carp_base.specs.Problem.{Problem, IsValid}
 use Rattle.cert_transfer.specs.Transfer.{IsCarriedOver}
-use Rattle.edit_files.specs.Edited.{IsEdited, IsEditedFrom}
+use Rattle.edit_files.specs.Edited.{IsEditedFrom}
 use Rattle.edit_files.specs.declared.edited.Edited.{Edited}
 use Rattle.carp_cli.specs.Editing.{AreEdited}
-use Rattle.command_works.specs.Texts.{answer_text, made_text}
+use Rattle.command_works.specs.Texts.{answer_text}
 use Rattle.command_works.specs.Works.{Kept, Work}
 use Rattle.carp_cli.specs.Outside.{Finding}
-use Rattle.carp_cli.specs.Answers.{IsDone, IsDoneStatus, refusal_work}
+use Rattle.carp_cli.specs.Answers.{IsDone, IsDoneStatus, IsKnown, refusal_work}
 use Rattle.carp_cli.specs.Refusals.{HasReport}
 use Rattle.carp_cli.specs.Runs.{IsHelped}
 use Rattle.carp_cli.specs.Steps.{IsPrepared}
+use Rattle.carp_cli.proofs.Refusing.{IsRefusal, is_refusal, read_or_told, reads_nothing_refuses_nothing, refusals_report_nothing, refuses_only_read}
 
 -- what is so of what is there
 of_some : {X : Type 0} {P Q : X → Type 0} (o : Option X) → IsSomeAnd o P → ((x : X) → P x → Q x) → IsSomeAnd o Q
@@ -43,97 +44,116 @@ by_second None none f = absurd none
 by_second (Some x) holds f = f x holds
 
 -- a command is done
-record IsPerformed (held : Bool) (c : Command) (found : Finding) (status : Status) (work : Work) : Type 0 where
+record IsPerformed (Reads : Source → (List ℕ → Type 0) → Type 0) (c : Command) (offered : List (Option ℕ)) (status : Status) (work : Work) : Type 0 where
   pub status_is : IsDoneStatus c status
   pub names : map (λ k. k.name) work.kept ≡ keeps c
-  pub done : IsTrue held → IsDone c found status work
+  pub done : IsDone Reads c offered status work
 
-module _ (held : Bool) (found : Finding) (status : Status) (work : Work) where
-  solved : (file cert : List ℕ) (turns seed : ℕ) (job : Job) → IsFor (Solve file cert turns seed) job → (IsTrue held → WasRead (Solve file cert turns seed) found.contents job)
-      → IsMade job found.offered status work → IsPerformed held (Solve file cert turns seed) found status work
+-- what the texts of three files say, as three facts
+record AreApart (Reads : Source → (List ℕ → Type 0) → Type 0) : Type 0 where
+  pub facts : (file cert edits : List ℕ) (x : Edited) → IsEditedFrom file cert edits Reads x → AreEdited Reads file cert edits x.before (certificate_in x.cert) x.edits.items
+
+held_apart : (contents : List ℕ → Option (List ℕ)) → AreApart (HeldIn contents)
+held_apart contents = record {
+  facts = λ file cert edits x from. record {
+    read = of_some (contents file) from (λ a held. (held.0, by_second (contents cert) held.1 (λ b more. by_second (contents edits) more.1 (λ c last. last.1.read))));
+    certified = by_second (contents file) from (λ a held. of_some (contents cert) held.1 (λ b more. (more.0, by_second (contents edits) more.1 (λ c last. last.1.certified))));
+    edits_read = by_second (contents file) from (λ a held. by_second (contents cert) held.1 (λ b more. of_some (contents edits) more.1 (λ c last. (last.0, last.1.edits_read))));
+    good = by_second (contents file) from (λ a held. by_second (contents cert) held.1 (λ b more. by_second (contents edits) more.1 (λ c last. last.1.is.good)));
+  };
+}
+
+some_apart : AreApart OfSomeBytes
+some_apart = record { facts = λ file cert edits x from. facts file cert edits x from } where
+  facts : (file cert edits : List ℕ) (x : Edited) → IsEditedFrom file cert edits OfSomeBytes x → AreEdited OfSomeBytes file cert edits x.before (certificate_in x.cert) x.edits.items
+  facts file cert edits x (a, (b, (c, is))) = record { read = (a, is.read); certified = (b, is.certified); edits_read = (c, is.edits_read); good = is.is.good }
+
+module _ (Reads : Source → (List ℕ → Type 0) → Type 0) (offered : List (Option ℕ)) (status : Status) (work : Work) where
+  solved : (file cert : List ℕ) (turns seed : ℕ) (job : Job) → IsFor (Solve file cert turns seed) job → WasRead Reads (Solve file cert turns seed) job
+      → IsMade job offered status work → IsPerformed Reads (Solve file cert turns seed) offered status work
   solved file cert turns seed (jobs.Solve inst name asked drawn) is read made =
-      let by : IsSolvedBy inst cert turns found.offered status work =
-      subst (λ (t : ℕ). IsSolvedBy inst cert t found.offered status work) is.1 (subst (λ (n : List ℕ). IsSolvedBy inst n asked found.offered status work) is.0 made.1) in
+      let by : IsSolvedBy inst cert turns offered status work =
+      subst (λ (t : ℕ). IsSolvedBy inst cert t offered status work) is.1 (subst (λ (n : List ℕ). IsSolvedBy inst n asked offered status work) is.0 made.1) in
       record {
         status_is = made.0;
         names = ap (map (λ k. k.name)) by.keeps;
-        done = λ told. record { instance = inst; read = read told; solution = by };
+        done = record { instance = inst; read = read; solution = by };
       }
   solved file cert turns seed _ fails read made = absurd fails
 
-  accepted : (file cert : List ℕ) (job : Job) → IsFor (Check file cert) job → (IsTrue held → WasRead (Check file cert) found.contents job)
-      → IsMade job found.offered status work → IsPerformed held (Check file cert) found status work
+  accepted : (file cert : List ℕ) (job : Job) → IsFor (Check file cert) job → WasRead Reads (Check file cert) job
+      → IsMade job offered status work → IsPerformed Reads (Check file cert) offered status work
   accepted file cert (jobs.Check cost bound) is read made = record {
     status_is = made.0;
     names = ap (λ (w : Work). map (λ k. k.name) w.kept) made.1;
-    done = λ told. let r = read told in record {
-      instance = r.instance;
-      certificate = r.certificate;
-      certified = r.certified;
+    done = record {
+      instance = read.instance;
+      certificate = read.certificate;
+      certified = read.certified;
       keeps = ap (λ (w : Work). w.kept) made.1;
-      writes = ap (λ (w : Work). w.text) made.1 ∙ rw (r.cost_is, r.bound_is) refl;
+      writes = ap (λ (w : Work). w.text) made.1 ∙ rw (read.cost_is, read.bound_is) refl;
     };
   }
   accepted file cert _ fails read made = absurd fails
 
-  spelled_out : (file cert : List ℕ) (job : Job) → IsFor (Sheet file cert) job → (IsTrue held → WasRead (Sheet file cert) found.contents job)
-      → IsMade job found.offered status work → IsPerformed held (Sheet file cert) found status work
+  spelled_out : (file cert : List ℕ) (job : Job) → IsFor (Sheet file cert) job → WasRead Reads (Sheet file cert) job
+      → IsMade job offered status work → IsPerformed Reads (Sheet file cert) offered status work
   spelled_out file cert (jobs.Sheet inst plan) is read made = record {
     status_is = made.0;
     names = ap (λ (w : Work). map (λ k. k.name) w.kept) made.1;
-    done = λ told. let r = read told in record {
+    done = record {
       instance = inst;
-      certificate = r.certificate;
-      certified = r.certified;
+      certificate = read.certificate;
+      certified = read.certified;
       keeps = ap (λ (w : Work). w.kept) made.1;
-      writes = ap (λ (w : Work). w.text) made.1 ∙ rw r.plan_is refl;
+      writes = ap (λ (w : Work). w.text) made.1 ∙ rw read.plan_is refl;
     };
   }
   spelled_out file cert _ fails read made = absurd fails
 
-  town_kept : (file : List ℕ) (seed : ℕ) (job : Job) → IsFor (Make file seed) job → (IsTrue held → WasRead (Make file seed) found.contents job)
-      → IsMade job found.offered status work → IsPerformed held (Make file seed) found status work
+  town_kept : (file : List ℕ) (seed : ℕ) (job : Job) → IsFor (Make file seed) job → WasRead Reads (Make file seed) job
+      → IsMade job offered status work → IsPerformed Reads (Make file seed) offered status work
   town_kept file seed (jobs.Make name drawn) is read made = record {
     status_is = made.0;
     names = ap (λ (w : Work). map (λ k. k.name) w.kept) made.1 ∙ ap (λ (n : List ℕ). n ∷ []) is.0;
-    done = λ told. made.1 ∙ rw (is.0, is.1) refl;
+    done = made.1 ∙ rw (is.0, is.1) refl;
   }
   town_kept file seed _ fails read made = absurd fails
 
-  drilled : (turns seed : ℕ) (job : Job) → IsFor (Drill turns seed) job → (IsTrue held → WasRead (Drill turns seed) found.contents job)
-      → IsMade job found.offered status work → IsPerformed held (Drill turns seed) found status work
+  drilled : (turns seed : ℕ) (job : Job) → IsFor (Drill turns seed) job → WasRead Reads (Drill turns seed) job
+      → IsMade job offered status work → IsPerformed Reads (Drill turns seed) offered status work
   drilled turns seed (jobs.Drill asked drawn) is read made =
-      let by : IsDrilled seed turns found.offered work =
-      subst (λ (t : ℕ). IsDrilled seed t found.offered work) is.0 (subst (λ (s : ℕ). IsDrilled s asked found.offered work) is.1 made.1) in
-      record { status_is = made.0; names = ap (map (λ k. k.name)) by.keeps; done = λ told. by }
+      let by : IsDrilled seed turns offered work =
+      subst (λ (t : ℕ). IsDrilled seed t offered work) is.0 (subst (λ (s : ℕ). IsDrilled s asked offered work) is.1 made.1) in
+      record { status_is = made.0; names = ap (map (λ k. k.name)) by.keeps; done = by }
   drilled turns seed _ fails read made = absurd fails
 
-  upgraded : (file cert renewed : List ℕ) (job : Job) → IsFor (Upgrade file cert renewed) job → (IsTrue held → WasRead (Upgrade file cert renewed) found.contents job)
-      → IsMade job found.offered status work → IsPerformed held (Upgrade file cert renewed) found status work
+  upgraded : (file cert renewed : List ℕ) (job : Job) → IsFor (Upgrade file cert renewed) job → WasRead Reads (Upgrade file cert renewed) job
+      → IsMade job offered status work → IsPerformed Reads (Upgrade file cert renewed) offered status work
   upgraded file cert renewed (jobs.Upgrade c name) is read made = record {
     status_is = made.0;
     names = ap (map (λ k. k.name)) made.1.keeps ∙ ap (λ (n : List ℕ). n ∷ []) is;
-    done = λ told. let r = read told in record {
-      instance = r.instance;
-      certificate = r.certificate;
-      certified = r.certified;
-      still_good = r.still_good;
+    done = record {
+      instance = read.instance;
+      certificate = read.certificate;
+      certified = read.certified;
+      still_good = read.still_good;
       kept_text = made.1.kept_text;
-      kept_is = subst (certificates.IsTextOf made.1.kept_text) r.renewed_is made.1.kept_is;
+      kept_is = subst (certificates.IsTextOf made.1.kept_text) read.renewed_is made.1.kept_is;
       keeps = made.1.keeps ∙ ap (λ (n : List ℕ). record { name = n; bytes = made.1.kept_text } ∷ []) is;
-      writes = made.1.writes ∙ ap (λ c. answer_text (codes "upgraded\n") c.cost c.bound) r.renewed_is;
+      writes = made.1.writes ∙ ap (λ c. answer_text (codes "upgraded\n") c.cost c.bound) read.renewed_is;
     };
   }
   upgraded file cert renewed _ fails read made = absurd fails
 
-  round_found : (file : List ℕ) (job : Job) → IsFor (Postman file) job → IsSoundJob job → (IsTrue held → WasRead (Postman file) found.contents job)
-      → IsMade job found.offered status work → IsPerformed held (Postman file) found status work
+  round_found : (file : List ℕ) (job : Job) → IsFor (Postman file) job → IsSoundJob job → WasRead Reads (Postman file) job
+      → IsMade job offered status work → IsPerformed Reads (Postman file) offered status work
   round_found file (jobs.Postman laid) is sound read made = record {
     status_is = made.0;
     names = ap (λ (w : Work). map (λ k. k.name) w.kept) made.1;
-    done = λ told. record {
+    done = record {
       instance = laid.inst;
-      read = read told;
+      read = read;
       walk = laid.round.walk;
       shores = laid.round.shores.items;
       cost = laid.round.cost;
@@ -144,36 +164,26 @@ module _ (held : Bool) (found : Finding) (status : Status) (work : Work) where
   }
   round_found file _ fails sound read made = absurd fails
 
-  fleet_counted : (file : List ℕ) (turns : ℕ) (job : Job) → IsFor (Fleet file turns) job → (IsTrue held → WasRead (Fleet file turns) found.contents job)
-      → IsMade job found.offered status work → IsPerformed held (Fleet file turns) found status work
+  fleet_counted : (file : List ℕ) (turns : ℕ) (job : Job) → IsFor (Fleet file turns) job → WasRead Reads (Fleet file turns) job
+      → IsMade job offered status work → IsPerformed Reads (Fleet file turns) offered status work
   fleet_counted file turns (jobs.Fleet inst asked) is read made =
       let by : IsFleetFound inst turns status work = subst (λ (t : ℕ). IsFleetFound inst t status work) is made.1 in
-      record { status_is = made.0; names = ap (map (λ k. k.name)) by.keeps; done = λ told. record { instance = inst; read = read told; fleet = by } }
+      record { status_is = made.0; names = ap (map (λ k. k.name)) by.keeps; done = record { instance = inst; read = read; fleet = by } }
   fleet_counted file turns _ fails read made = absurd fails
 
-  -- what three files hold, as three facts
-  held_apart : (file cert edits : List ℕ) (contents : List ℕ → Option (List ℕ)) (x : Edited) → IsEdited x → IsEditedFrom file cert edits contents x →
-      AreEdited file cert edits contents x.before (certificate_in x.cert) x.edits.items
-  held_apart file cert edits contents x is from = record {
-    read = of_some (contents file) from (λ a held. (held.0, by_second (contents cert) held.1 (λ b more. by_second (contents edits) more.1 (λ c last. last.1.read))));
-    certified = by_second (contents file) from (λ a held. of_some (contents cert) held.1 (λ b more. (more.0, by_second (contents edits) more.1 (λ c last. last.1.certified))));
-    edits_read = by_second (contents file) from (λ a held. by_second (contents cert) held.1 (λ b more. of_some (contents edits) more.1 (λ c last. (last.0, last.1.edits_read))));
-    good = is.good;
-  }
-
-  carried_along : (file cert edits new_file new_cert : List ℕ) (job : Job) → IsFor (Edit file cert edits new_file new_cert) job → IsSoundJob job
-      → (IsTrue held → WasRead (Edit file cert edits new_file new_cert) found.contents job) → IsMade job found.offered status work
-      → IsPerformed held (Edit file cert edits new_file new_cert) found status work
-  carried_along file cert edits new_file new_cert (jobs.Edit read first second) is sound was made =
+  carried_along : AreApart Reads → (file cert edits new_file new_cert : List ℕ) (job : Job) → IsFor (Edit file cert edits new_file new_cert) job → IsSoundJob job
+      → WasRead Reads (Edit file cert edits new_file new_cert) job → IsMade job offered status work
+      → IsPerformed Reads (Edit file cert edits new_file new_cert) offered status work
+  carried_along apart file cert edits new_file new_cert (jobs.Edit read first second) is sound was made =
       let by = made.1 in
       record {
         status_is = made.0;
         names = ap (map (λ k. k.name)) by.keeps ∙ rw (is.0, is.1) refl;
-        done = λ told. record {
+        done = record {
           instance = read.before;
           certificate = certificate_in read.cert;
           changes = read.edits.items;
-          files = held_apart file cert edits found.contents read sound (was told);
+          files = apart.facts file cert edits read was;
           valid = subst (λ (p : Problem). IsValid p) sound.after by.valid;
           carried = by.certificate;
           over = subst (λ (p : Problem). IsCarriedOver p (certificate_in read.cert) by.certificate) sound.after by.over;
@@ -184,19 +194,19 @@ module _ (held : Bool) (found : Finding) (status : Status) (work : Work) where
           writes = by.writes ∙ rw sound.after refl;
         };
       }
-  carried_along file cert edits new_file new_cert _ fails sound was made = absurd fails
+  carried_along apart file cert edits new_file new_cert _ fails sound was made = absurd fails
 
-  performed : (c : Command) (job : Job) → IsFor c job → IsSoundJob job → (IsTrue held → WasRead c found.contents job)
-      → IsMade job found.offered status work → IsPerformed held c found status work
-  performed (Solve file cert turns seed) job is sound = solved file cert turns seed job is
-  performed (Check file cert) job is sound = accepted file cert job is
-  performed (Sheet file cert) job is sound = spelled_out file cert job is
-  performed (Make file seed) job is sound = town_kept file seed job is
-  performed (Drill turns seed) job is sound = drilled turns seed job is
-  performed (Upgrade file cert renewed) job is sound = upgraded file cert renewed job is
-  performed (Postman file) job is sound = round_found file job is sound
-  performed (Fleet file turns) job is sound = fleet_counted file turns job is
-  performed (Edit file cert edits edited carried) job is sound = carried_along file cert edits edited carried job is sound
+  performed : AreApart Reads → (c : Command) (job : Job) → IsFor c job → IsSoundJob job → WasRead Reads c job
+      → IsMade job offered status work → IsPerformed Reads c offered status work
+  performed apart (Solve file cert turns seed) job is sound = solved file cert turns seed job is
+  performed apart (Check file cert) job is sound = accepted file cert job is
+  performed apart (Sheet file cert) job is sound = spelled_out file cert job is
+  performed apart (Make file seed) job is sound = town_kept file seed job is
+  performed apart (Drill turns seed) job is sound = drilled turns seed job is
+  performed apart (Upgrade file cert renewed) job is sound = upgraded file cert renewed job is
+  performed apart (Postman file) job is sound = round_found file job is sound
+  performed apart (Fleet file turns) job is sound = fleet_counted file turns job is
+  performed apart (Edit file cert edits edited carried) job is sound = carried_along apart file cert edits edited carried job is sound
 
 -- a job asks the helpers where its command does, and with its seed
 abbrev AsksAlike : Command → Job → Type 0
@@ -253,41 +263,39 @@ done_reports (Fleet file turns) status (inl is) = subst HasReport (sym is) tt
 done_reports (Fleet file turns) status (inr is) = subst HasReport (sym is) tt
 done_reports (Edit file cert edits edited carried) status is = subst HasReport (sym is) tt
 
--- a refusal has no report
-refusals_report_nothing : (status : Status) → IsRefusal status → HasReport status → ⊥
-refusals_report_nothing status refusal reports = by status refusal reports where
-  by : (status : Status) → IsRefusal status → HasReport status → ⊥
-  by Proven refusal reports = refusal
-  by Gap refusal reports = refusal
-  by Accepted refusal reports = refusal
-  by Done refusal reports = refusal
-  by _ refusal reports = reports
-
 names_apart : (other : List ℕ) (kept : List Kept) (names : List (List ℕ)) → map (λ k. k.name) kept ≡ names → AllByRecursion (λ name. other ≢ name) names → AllByRecursion (λ k. other ≢ k.name) kept
 names_apart other kept names is apart = by kept (subst (AllByRecursion (λ name. other ≢ name)) (sym is) apart) where
   by : (kept : List Kept) → AllByRecursion (λ name. other ≢ name) (map (λ k. k.name) kept) → AllByRecursion (λ k. other ≢ k.name) kept
   by [] apart = tt
   by (k ∷ ks) apart = (apart.0, by ks apart.1)
 
+-- what becomes of the files of a command, and of what is made of them
+abbrev IsTriedFor : (held : Bool) → Command → Finding → (given_before given_now : ℕ) → Result Job (Fail Status) → Type 0
+IsTriedFor held c found gb gn result =
+    IsTried {X = Job} held (reads c) found.looks_before found.looks_now gb gn (IsRefusalOf c) (IsUnread c found.contents found.looks_before found.looks_now)
+    (IsRefused c found.contents) (CanBeDone c found.contents) result
+
 -- a job of a command was done
 pub job_prepared : {held : Bool} {c : Command} {found : Finding} {gb gn : ℕ} (job : Job) (status : Status) (work : Work) → IsJobOf held c found.contents job
-    → IsTried {X = Job} held (reads c) found.looks_before found.looks_now gb gn (IsRefused c found.contents) (CanBeDone c found.contents) (Ok job)
-    → IsMade job found.offered status work → IsPrepared held (Some c) found gb gn status work
+    → IsTriedFor held c found gb gn (Ok job) → IsMade job found.offered status work → IsPrepared held (Some c) found gb gn status work
 job_prepared {held} {c} {found} job status work is tried made =
-    let performs = performed held found status work c job is.is_for is.sound is.was_read made in
-    let reports : HasReport status = done_reports c status performs.status_is in record {
-      right = λ told. inr (inr (performs.status_is, performs.done told));
+    let rests = performed OfSomeBytes found.offered status work some_apart c job is.is_for is.sound is.founded made in
+    let reports : HasReport status = done_reports c status rests.status_is in record {
+      right = λ known. inr (inr (rests.status_is, (performed (HeldIn found.contents) found.offered status work (held_apart found.contents) c job is.is_for is.sound (read_or_told found.contents c job is.was_read is.founded known) made).done));
+      founded = inr (rests.status_is, rests.done);
       refusal = λ no. absurd (no reports);
       written = λ is. subst HasReport is reports;
       remembered = λ is. subst HasReport is reports;
-      names = λ other apart. names_apart other work.kept (keeps c) performs.names apart;
+      names = λ other apart. names_apart other work.kept (keeps c) rests.names apart;
       usage = λ is. absurd (subst HasReport is reports);
       read = λ is. absurd (subst HasReport is reports);
       too_long = λ limit is. absurd (subst HasReport is reports);
       no_command = λ none. cc;
-      refused = λ told other wanted is bad no.
-          elim (tried.bad told wanted (subst (λ x. IsRefused x found.contents wanted) (sym (one is)) bad) no) [ inl e ↦ cc | inr e ↦ cc ];
-      done = λ told other is good no. subst (λ x. IsDoneStatus x status) (one is) performs.status_is;
+      refused = λ known other wanted is bad no.
+          refuses_only_read found.contents wanted c known (subst (λ x. IsRefused x found.contents wanted) (sym (one is)) bad) (λ told.
+          elim (tried.bad told wanted (subst (λ x. IsRefused x found.contents wanted) (sym (one is)) bad) (λ unread. no (subst (λ x. IsUnread x found.contents found.looks_before found.looks_now) (one is) unread)))
+          [ inl e ↦ cc | inr e ↦ cc ]);
+      done = λ known other is good no. subst (λ x. IsDoneStatus x status) (one is) rests.status_is;
     } where
       one : {a b : Command} → Some a ≡ Some b → a ≡ b
       one e = cc
@@ -297,22 +305,26 @@ failed s = Err (Refused s)
 
 -- a command was refused
 pub refusal_prepared : {held : Bool} {c : Command} {found : Finding} {gb gn : ℕ} (status answered : Status) (work : Work)
-    → IsTried {X = Job} held (reads c) found.looks_before found.looks_now gb gn (IsRefused c found.contents) (CanBeDone c found.contents) (Err (Refused status))
-    → (IsTrue held → status ≡ ReadFault → IsUnread c found.contents found.looks_before found.looks_now) → answered ≡ status → work ≡ refusal_work status → IsPrepared held (Some c) found gb gn answered work
-refusal_prepared {held} {c} {found} {gb} {gn} status answered work tried unread same_status same_work =
+    → IsTriedFor held c found gb gn (Err (Refused status)) → answered ≡ status → work ≡ refusal_work status → IsPrepared held (Some c) found gb gn answered work
+refusal_prepared {held} {c} {found} {gb} {gn} status answered work tried same_status same_work =
     subst (λ s. IsPrepared held (Some c) found gb gn s work) (sym same_status) (subst (λ w. IsPrepared held (Some c) found gb gn status w) (sym same_work) prepared) where
       refusal : IsRefusal status
-      refusal = tried.refusal status refl
+      refusal = is_refusal c status (tried.refusal status refl)
 
       one : {a b : Command} → Some a ≡ Some b → a ≡ b
       one e = cc
 
+      told : IsKnown held (Some c) → IsTrue held
+      told (inl tells) = tells
+      told (inr none) = absurd (reads_nothing_refuses_nothing c status none (tried.refusal status refl))
+
       prepared : IsPrepared held (Some c) found gb gn status (refusal_work status)
       prepared = record {
-        right = λ told. elim (tried.refused told status refl) [
-          | inl fault ↦ inl (fault, unread told fault, refl)
+        right = λ known. elim (tried.refused (told known) status refl) [
+          | inl fault ↦ inl (fault, tried.order (told known) (ap failed fault), refl)
           | inr bad ↦ inr (inl (bad, refl))
         ];
+        founded = inl (tried.refusal status refl, refl);
         refusal = λ no. refl;
         written = λ is. subst IsRefusal is refusal;
         remembered = λ is. subst IsRefusal is refusal;
@@ -321,25 +333,23 @@ refusal_prepared {held} {c} {found} {gb} {gn} status answered work tried unread 
         read = λ is. tried.read (ap failed is);
         too_long = λ limit is. tried.too_long limit (ap failed is);
         no_command = λ none. cc;
-        refused = λ told other wanted is bad no.
-            elim (tried.bad told wanted (subst (λ x. IsRefused x found.contents wanted) (sym (one is)) bad) no) [ inl e ↦ cc | inr e ↦ cc ];
-        done = λ told other is good no.
-            elim (tried.good told (subst (λ x. CanBeDone x found.contents) (sym (one is)) good) no) [ inl none ↦ cc | inr e ↦ cc ];
+        refused = λ known other wanted is bad no.
+            elim (tried.bad (told known) wanted (subst (λ x. IsRefused x found.contents wanted) (sym (one is)) bad) (λ unread. no (subst (λ x. IsUnread x found.contents found.looks_before found.looks_now) (one is) unread)))
+            [ inl e ↦ cc | inr e ↦ cc ];
+        done = λ known other is good no.
+            elim (tried.good (told known) (subst (λ x. CanBeDone x found.contents) (sym (one is)) good) (λ unread. no (subst (λ x. IsUnread x found.contents found.looks_before found.looks_now) (one is) unread)))
+            [ inl none ↦ cc | inr e ↦ cc ];
       }
 
 -- the refusal that was answered, as its status
-pub by_status : {held : Bool} {sources : List Source} {lb ln : List ℕ → ℕ} {gb gn : ℕ} {Bad : Status → Type 0} {Good : Type 0} (fail : Fail Status) (status : Status) → fail ≡ Refused status
-    → IsTried {X = Job} held sources lb ln gb gn Bad Good (Err fail) → IsTried {X = Job} held sources lb ln gb gn Bad Good (Err (Refused status))
-by_status {held} {sources} {lb} {ln} {gb} {gn} {Bad} {Good} fail status is tried = subst (λ (f : Fail Status). IsTried {X = Job} held sources lb ln gb gn Bad Good (Err f)) is tried
-
--- what is so of a file that could not be read
-pub by_fault : {P : Type 0} (fail : Fail Status) (status : Status) → fail ≡ Refused status → (◌≡◌ {A = Result Job (Fail Status)} (Err fail) (Err (Refused ReadFault)) → P) → status ≡ ReadFault → P
-by_fault fail status is unread fault = unread (ap (λ (f : Fail Status). Err f) (is ∙ ap (λ (s : Status). Refused s) fault))
+pub by_status : {held : Bool} {sources : List Source} {lb ln : List ℕ → ℕ} {gb gn : ℕ} {Refuses : Status → Type 0} {Unread : Type 0} {Bad : Status → Type 0} {Good : Type 0} (fail : Fail Status) (status : Status) → fail ≡ Refused status
+    → IsTried {X = Job} held sources lb ln gb gn Refuses Unread Bad Good (Err fail) → IsTried {X = Job} held sources lb ln gb gn Refuses Unread Bad Good (Err (Refused status))
+by_status {held} {sources} {lb} {ln} {gb} {gn} {Refuses} {Unread} {Bad} {Good} fail status is tried = subst (λ (f : Fail Status). IsTried {X = Job} held sources lb ln gb gn Refuses Unread Bad Good (Err f)) is tried
 
 -- helpers are not asked by a command that is refused
-pub refused_asks_none : {P : Type 0} (c : Command) (status answered : Status) → IsRefusal status → answered ≡ status → IsHelped (Some c) answered → P
+pub refused_asks_none : {P : Type 0} (c : Command) (status answered : Status) → IsRefusalOf c status → answered ≡ status → IsHelped (Some c) answered → P
 refused_asks_none c status answered refusal same helped =
-    absurd (refusals_report_nothing status refusal (done_reports c status (subst (IsDoneStatus c) same helped.1)))
+    absurd (refusals_report_nothing status (is_refusal c status refusal) (done_reports c status (subst (IsDoneStatus c) same helped.1)))
 
 -- words that are no command
 pub usage_prepared : {held : Bool} {found : Finding} {gb gn : ℕ} (command : Option Command) (status : Status) (work : Work) → command ≡ None → status ≡ BadUsage → work ≡ refusal_work BadUsage
@@ -348,7 +358,8 @@ usage_prepared {held} {found} {gb} {gn} command status work none is works =
     subst (λ c. IsPrepared held c found gb gn status work) (sym none) (subst (λ s. IsPrepared held None found gb gn s work) (sym is) (subst (λ w. IsPrepared held None found gb gn BadUsage w) (sym works) prepared)) where
       prepared : IsPrepared held None found gb gn BadUsage (refusal_work BadUsage)
       prepared = record {
-        right = λ told. (refl, refl);
+        right = λ known. (refl, refl);
+        founded = (refl, refl);
         refusal = λ no. refl;
         written = λ is. cc;
         remembered = λ is. cc;
@@ -357,6 +368,6 @@ usage_prepared {held} {found} {gb} {gn} command status work none is works =
         read = λ is. cc;
         too_long = λ limit is. cc;
         no_command = λ none. refl;
-        refused = λ told c wanted is bad no. cc;
-        done = λ told c is good no. cc;
+        refused = λ known c wanted is bad no. cc;
+        done = λ known c is good no. cc;
       }

@@ -1,8 +1,9 @@
 -- What a command answers, from what it finds.
-use Rattle.std.specs.Prelude.{◌≡◌, ℕ, List, [], ◌∷◌, Option, None, Some, ◌⊎◌}
+use Rattle.std.specs.Prelude.{◌≡◌, ℕ, Bool, IsTrue, List, [], ◌∷◌, Option, None, Some, ◌⊎◌}
 use Rattle.dat_text.specs.DatText.{dat_of}
 use Rattle.town_maker.specs.Towns.{town_of}
-use Rattle.command_words.specs.Commands.{Command, Solve, Check, Sheet, Make, Drill, Upgrade, Postman, Fleet, Edit}
+use Rattle.command_words.specs.Commands.{Command, Source, Solve, Check, Sheet, Make, Drill, Upgrade, Postman, Fleet, Edit, sources_of}
+use Rattle.command_files.specs.Files.{HeldIn}
 use Rattle.command_jobs.specs.Inputs.{IsRefused, IsUnread}
 use Rattle.command_works.specs.Drills.{IsDrilled}
 use Rattle.command_works.specs.Texts.{made_text}
@@ -32,27 +33,31 @@ IsDoneStatus (Edit file cert edits edited carried) status = status ≡ Done
 abbrev pub IsTownKept : (file : List ℕ) (seed : ℕ) → Work → Type 0
 IsTownKept file seed work = work ≡ record { kept = record { name = file; bytes = dat_of (town_of seed) } ∷ []; text = made_text (town_of seed) }
 
--- a command is done with this answer and this work
-abbrev pub IsDone : Command → Finding → Status → Work → Type 0
-IsDone (Solve file cert turns seed) found status work = IsSolved file cert turns found status work
-IsDone (Check file cert) found status work = IsChecked file cert found.contents work
-IsDone (Sheet file cert) found status work = IsSpelledOut file cert found.contents work
-IsDone (Make file seed) found status work = IsTownKept file seed work
-IsDone (Drill turns seed) found status work = IsDrilled seed turns found.offered work
-IsDone (Upgrade file cert renewed) found status work = IsUpgraded file cert renewed found.contents work
-IsDone (Postman file) found status work = IsRoundFound file found.contents work
-IsDone (Fleet file turns) found status work = IsFleetCounted file turns found.contents status work
-IsDone (Edit file cert edits edited carried) found status work = IsCarriedAlong file cert edits edited carried found.contents work
+-- a command is done with this answer and this work, where its files are read in this way and helpers offered such costs
+abbrev pub IsDone : (Source → (List ℕ → Type 0) → Type 0) → Command → List (Option ℕ) → Status → Work → Type 0
+IsDone Reads (Solve file cert turns seed) offered status work = IsSolved Reads file cert turns offered status work
+IsDone Reads (Check file cert) offered status work = IsChecked Reads file cert work
+IsDone Reads (Sheet file cert) offered status work = IsSpelledOut Reads file cert work
+IsDone Reads (Make file seed) offered status work = IsTownKept file seed work
+IsDone Reads (Drill turns seed) offered status work = IsDrilled seed turns offered work
+IsDone Reads (Upgrade file cert renewed) offered status work = IsUpgraded Reads file cert renewed work
+IsDone Reads (Postman file) offered status work = IsRoundFound Reads file work
+IsDone Reads (Fleet file turns) offered status work = IsFleetCounted Reads file turns status work
+IsDone Reads (Edit file cert edits edited carried) offered status work = IsCarriedAlong Reads file cert edits edited carried work
 
 -- a refusal keeps nothing, and writes its text
 abbrev pub refusal_work : Status → Work
 refusal_work status = record { kept = []; text = refusal_text status }
 
+-- what a command reads is told, or it reads nothing
+abbrev pub IsKnown : Bool → Option Command → Type 0
+IsKnown held command = IsTrue held ⊎ (sources_of command ≡ [])
+
 -- a command answers so: a file could not be read and those before it are good, a file is refused, or the command is done
 abbrev pub IsRight : Command → Finding → Status → Work → Type 0
 IsRight c found status work =
     ((status ≡ ReadFault) × IsUnread c found.contents found.looks_before found.looks_now × (work ≡ refusal_work status))
-    ⊎ ((IsRefused c found.contents status × (work ≡ refusal_work status)) ⊎ (IsDoneStatus c status × IsDone c found status work))
+    ⊎ ((IsRefused c found.contents status × (work ≡ refusal_work status)) ⊎ (IsDoneStatus c status × IsDone (HeldIn found.contents) c found.offered status work))
 
 -- and words that are no command are refused
 abbrev pub IsRightOf : Option Command → Finding → Status → Work → Type 0

@@ -2,7 +2,7 @@
 use Rattle.std.specs.Prelude.{ℕ, [], None, List, codes}
 use Rattle.carp_base.specs.Problem.{Problem}
 use Rattle.cert_lines.specs.Certificates.{Certificate}
-use Rattle.command_words.specs.Commands.{Command, Solve, Check}
+use Rattle.command_words.specs.Commands.{Command, Solve, Check, Make, Postman, Edit}
 use Rattle.carp_cli.specs.Outside.{Outside}
 
 -- an instance with nothing to serve
@@ -18,6 +18,15 @@ solving = Solve (codes "f") (codes "c") 64 1
 
 abbrev pub checking : Command
 checking = Check (codes "f") (codes "c")
+
+abbrev pub making : Command
+making = Make (codes "f") 1
+
+abbrev pub touring : Command
+touring = Postman (codes "f")
+
+abbrev pub editing : Command
+editing = Edit (codes "f") (codes "c") (codes "e") (codes "g") (codes "d")
 
 -- this is written and so many keeps failed; no name holds anything, and no other call failed
 abbrev pub outside : List ℕ → ℕ → Outside

@@ -5,6 +5,7 @@ pub mod Checking
 pub mod Neighbours
 pub mod Editing
 pub mod Answers
+pub mod Founded
 pub mod Runs
 pub mod Steps
 pub mod Laws

@@ -1,21 +1,20 @@
--- What `postman` and `fleet` do.
-use Rattle.std.specs.Prelude.{◌≡◌, ℕ, List, [], Option}
+-- What `postman` and `fleet` do, for each way of reading files.
+use Rattle.std.specs.Prelude.{◌≡◌, ℕ, List, []}
 use Rattle.carp_base.specs.Problem.{Problem}
 use Rattle.plan_model.specs.declared.step.Step.{Step}
 use Rattle.cut_pool.specs.declared.shore.Weighted.{Weighted}
 use Rattle.dat_text.specs.Text.{IsTextOf}
 use Rattle.postman.specs.Rounds.{IsShownRound}
-use Rattle.command_words.specs.Commands.{instance_at}
-use Rattle.command_files.specs.Files.{Holds}
+use Rattle.command_words.specs.Commands.{Source, instance_at}
 use Rattle.command_files.specs.declared.status.Status.{Status}
 use Rattle.command_works.specs.Fleets.{IsFleetFound}
 use Rattle.command_works.specs.Rounds.{round_text}
 use Rattle.command_works.specs.Works.{Work}
 
 -- the file is the text of an instance, and a least closed walk over its required edges is to be written: no other costs less
-pub record IsRoundFound (file : List ℕ) (contents : List ℕ → Option (List ℕ)) (work : Work) : Type 0 where
+pub record IsRoundFound (Reads : Source → (List ℕ → Type 0) → Type 0) (file : List ℕ) (work : Work) : Type 0 where
   pub instance : Problem
-  pub read : Holds (instance_at file) contents (λ bytes. IsTextOf bytes instance)
+  pub read : Reads (instance_at file) (λ bytes. IsTextOf bytes instance)
   pub walk : List Step
   pub shores : List Weighted
   pub cost : ℕ
@@ -24,7 +23,7 @@ pub record IsRoundFound (file : List ℕ) (contents : List ℕ → Option (List 
   pub writes : work.text ≡ round_text instance walk cost
 
 -- the file is the text of an instance, whose vehicles are counted
-pub record IsFleetCounted (file : List ℕ) (asked : ℕ) (contents : List ℕ → Option (List ℕ)) (status : Status) (work : Work) : Type 0 where
+pub record IsFleetCounted (Reads : Source → (List ℕ → Type 0) → Type 0) (file : List ℕ) (asked : ℕ) (status : Status) (work : Work) : Type 0 where
   pub instance : Problem
-  pub read : Holds (instance_at file) contents (λ bytes. IsTextOf bytes instance)
+  pub read : Reads (instance_at file) (λ bytes. IsTextOf bytes instance)
   pub fleet : IsFleetFound instance asked status work

@@ -5,17 +5,19 @@ use Rattle.carp_outside.specs.Causes.{Rose, RoseBy}
 use Rattle.carp_outside.specs.Told.{SameContents, WroteFront}
 use Rattle.command_words.specs.Commands.{Command, asks_helpers, sources_of, kept_by}
 use Rattle.command_files.specs.Files.{RoseAtSome, HasLimit}
-use Rattle.command_jobs.specs.Inputs.{IsRefused, CanBeDone}
+use Rattle.command_jobs.specs.Inputs.{IsRefused, CanBeDone, IsUnread}
 use Rattle.command_works.specs.Works.{Work}
 use Rattle.carp_cli.specs.Outside.{Outside, found, AreKept, AreKeptInPart}
-use Rattle.carp_cli.specs.Answers.{IsDoneStatus, IsRightOf, refusal_work}
+use Rattle.carp_cli.specs.Answers.{IsDoneStatus, IsKnown, IsRightOf, refusal_work}
+use Rattle.carp_cli.specs.Founded.{IsFoundedOf}
 use Rattle.carp_cli.specs.Refusals.{HasReport}
 use Rattle.command_files.specs.declared.status.Status.{Status}
 use Rattle.command_files.specs.declared.status.Status.TheVariants.{BadUsage, ReadFault, WriteFault, Memory, TooLong}
 
--- an answer with its work; where contents are told, it is right for what was found
+-- an answer with its work: it is founded, whatever is told; and if what the command reads is told, it is right for what was found
 pub record IsAnswer (held : Bool) (command : Option Command) (before now : Outside) (status : Status) (work : Work) : Type 0 where
-  pub right : IsTrue held → IsRightOf command (found before now) status work
+  pub right : IsKnown held command → IsRightOf command (found before now) status work
+  pub founded : IsFoundedOf command now.offered status work
   pub refusal : ¬ (HasReport status) → work ≡ refusal_work status
 
 -- an answer was given whole: what it keeps is kept, and its text is written
@@ -60,9 +62,9 @@ pub record Leaves (held told : Bool) (command : Option Command) (before now : Ou
   pub read : status ≡ ReadFault → RoseAtSome (sources_of command) before.failed_looks now.failed_looks
   pub write : status ≡ WriteFault → Rose before.failed_keeps now.failed_keeps ⊎ Rose before.failed_puts now.failed_puts
   pub too_long : (limit : ℕ) → status ≡ TooLong limit → HasLimit limit (sources_of command) × RoseBy (limit + 1) before.given now.given
-  -- and where no look failed at a file that the command reads, what the names hold decides
+  -- and where no look failed at a file that the command had to look at, what the names hold decides
   pub no_command : command ≡ None → (status ≡ BadUsage) ⊎ IsNoAnswer status
-  pub refused : IsTrue held → (c : Command) (wanted : Status) → command ≡ Some c → IsRefused c before.contents wanted
-      → ¬ (RoseAtSome (sources_of command) before.failed_looks now.failed_looks) → (status ≡ wanted) ⊎ IsNoAnswer status
-  pub done : IsTrue held → (c : Command) → command ≡ Some c → CanBeDone c before.contents
-      → ¬ (RoseAtSome (sources_of command) before.failed_looks now.failed_looks) → IsDoneStatus c status ⊎ IsNoAnswer status
+  pub refused : IsKnown held command → (c : Command) (wanted : Status) → command ≡ Some c → IsRefused c before.contents wanted
+      → ¬ (IsUnread c before.contents before.failed_looks now.failed_looks) → (status ≡ wanted) ⊎ IsNoAnswer status
+  pub done : IsKnown held command → (c : Command) → command ≡ Some c → CanBeDone c before.contents
+      → ¬ (IsUnread c before.contents before.failed_looks now.failed_looks) → IsDoneStatus c status ⊎ IsNoAnswer status

@@ -1,20 +1,22 @@
 -- What is to be answered, before anything is kept or written. No public contract speaks of this.
-use Rattle.std.specs.Prelude.{◌≡◌, ◌≢◌, ℕ, ◌+◌, List, Bool, IsTrue, Option, None, Some}
+use Rattle.std.specs.Prelude.{◌≡◌, ◌≢◌, ℕ, ◌+◌, List, Bool, Option, None, Some}
 use Rattle.std.specs.List.{AllByRecursion}
 use Rattle.carp_outside.specs.Causes.{RoseBy}
 use Rattle.command_words.specs.Commands.{Command, sources_of, kept_by}
 use Rattle.command_files.specs.Files.{RoseAtSome, HasLimit}
-use Rattle.command_jobs.specs.Inputs.{IsRefused, CanBeDone}
+use Rattle.command_jobs.specs.Inputs.{IsRefused, CanBeDone, IsUnread}
 use Rattle.command_works.specs.Works.{Work}
 use Rattle.carp_cli.specs.Outside.{Finding}
-use Rattle.carp_cli.specs.Answers.{IsDoneStatus, IsRightOf, refusal_work}
+use Rattle.carp_cli.specs.Answers.{IsDoneStatus, IsKnown, IsRightOf, refusal_work}
+use Rattle.carp_cli.specs.Founded.{IsFoundedOf}
 use Rattle.carp_cli.specs.Refusals.{HasReport}
 use Rattle.command_files.specs.declared.status.Status.{Status}
 use Rattle.command_files.specs.declared.status.Status.TheVariants.{BadUsage, ReadFault, WriteFault, Memory, TooLong}
 
 -- what is to be answered, and what for
 pub record IsPrepared (held : Bool) (command : Option Command) (found : Finding) (given_before given_now : ℕ) (status : Status) (work : Work) : Type 0 where
-  pub right : IsTrue held → IsRightOf command found status work
+  pub right : IsKnown held command → IsRightOf command found status work
+  pub founded : IsFoundedOf command found.offered status work
   pub refusal : ¬ (HasReport status) → work ≡ refusal_work status
   pub written : status ≢ WriteFault
   pub remembered : status ≢ Memory
@@ -23,7 +25,7 @@ pub record IsPrepared (held : Bool) (command : Option Command) (found : Finding)
   pub read : status ≡ ReadFault → RoseAtSome (sources_of command) found.looks_before found.looks_now
   pub too_long : (limit : ℕ) → status ≡ TooLong limit → HasLimit limit (sources_of command) × RoseBy (limit + 1) given_before given_now
   pub no_command : command ≡ None → status ≡ BadUsage
-  pub refused : IsTrue held → (c : Command) (wanted : Status) → command ≡ Some c → IsRefused c found.contents wanted
-      → ¬ (RoseAtSome (sources_of command) found.looks_before found.looks_now) → status ≡ wanted
-  pub done : IsTrue held → (c : Command) → command ≡ Some c → CanBeDone c found.contents
-      → ¬ (RoseAtSome (sources_of command) found.looks_before found.looks_now) → IsDoneStatus c status
+  pub refused : IsKnown held command → (c : Command) (wanted : Status) → command ≡ Some c → IsRefused c found.contents wanted
+      → ¬ (IsUnread c found.contents found.looks_before found.looks_now) → status ≡ wanted
+  pub done : IsKnown held command → (c : Command) → command ≡ Some c → CanBeDone c found.contents
+      → ¬ (IsUnread c found.contents found.looks_before found.looks_now) → IsDoneStatus c status

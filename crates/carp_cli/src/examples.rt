@@ -1,16 +1,19 @@
 // Small data at which the facts of a run hold, and small data at which they do not.
-ghost use Rattle.std.specs.Prelude.{ℕ, ◌≢◌, [], ◌∷◌, None, Some, true, codes};
+ghost use Rattle.std.specs.Prelude.{ℕ, ◌≡◌, ◌≢◌, [], ◌∷◌, None, Some, false, true, codes};
 ghost use Rattle.carp_engine.specs.Solutions.{IsSound};
-ghost use Rattle.command_files.specs.Files.{RoseAtSome, HasLimit};
-ghost use Rattle.command_files.specs.Reads.{IsOfBytes, IsRefusal};
-ghost use Rattle.command_words.specs.Commands.{Drill, reads};
+ghost use Rattle.command_files.specs.Files.{HeldIn, HasLimit, OfSomeBytes, RoseAtSome};
+ghost use Rattle.command_files.specs.Reads.{IsOfBytes, IsOfCertificate, IsOfFile, IsOfInstance, IsOfNone, IsOfRound};
+ghost use Rattle.command_jobs.specs.Inputs.{IsRefusalOf};
+ghost use Rattle.command_words.specs.Commands.{Drill, instance_at, reads};
 ghost use Rattle.command_words.specs.Laws.{HasBudget};
 ghost use Rattle.carp_cli.specs.Outside.{AreKept, AreKeptInPart};
-ghost use Rattle.carp_cli.specs.Answers.{IsDoneStatus};
+ghost use Rattle.carp_cli.specs.Answers.{IsDoneStatus, IsKnown, refusal_work};
+ghost use Rattle.carp_cli.specs.Founded.{IsFounded, IsFoundedOf};
 ghost use Rattle.command_works.specs.Solving.{IsEnding};
+ghost use Rattle.command_works.specs.Works.{Work};
 ghost use Rattle.carp_cli.specs.Refusals.{HasReport};
 ghost use Rattle.carp_cli.specs.Runs.{IsHelped, Leaves};
-ghost use Rattle.carp_cli.specs.Examples.{idle, stating, solving, checking, outside};
+ghost use Rattle.carp_cli.specs.Examples.{idle, stating, solving, checking, making, touring, editing, outside};
 
 use crate::Status;
 
@@ -22,7 +25,6 @@ fn facts_of_a_run_hold()
     ensures limit { HasLimit 268435456 (reads checking) }
     ensures accepted { IsDoneStatus checking Status.Accepted }
     ensures budget { HasBudget solving }
-    ensures refusal { IsRefusal Status.ReadFault }
     ensures of_bytes { IsOfBytes (Status.NotJoined 1) }
     ensures helped { IsHelped (Some solving) Status.Gap }
     ensures report { HasReport Status.Gap }
@@ -40,11 +42,41 @@ fn facts_of_a_run_fail()
     ensures limit { HasLimit 268435456 (reads solving) → ⊥ }
     ensures accepted { IsDoneStatus checking Status.Proven → ⊥ }
     ensures budget { HasBudget (Drill 0 1) → ⊥ }
-    ensures refusal { IsRefusal Status.Gap → ⊥ }
     ensures of_bytes { IsOfBytes Status.ReadFault → ⊥ }
     ensures helped { IsHelped (Some checking) Status.Accepted → ⊥ }
     ensures report { HasReport Status.BadUsage → ⊥ }
     ensures usage { Leaves true true (Some solving) (outside [] 0) (outside [] 0) Status.BadUsage → ⊥ }
     ensures write { Leaves true true (Some solving) (outside [] 0) (outside [] 0) Status.WriteFault → ⊥ }
     ensures memory { Leaves true true (Some solving) (outside [] 0) (outside (7 ∷ []) 0) Status.Memory → ⊥ }
+{}
+
+fn facts_of_answers_hold()
+    ensures of_file { IsOfFile (Status.TooLong 1) }
+    ensures of_round { IsOfRound (Status.NotJoined 1) }
+    ensures unread { IsRefusalOf checking Status.ReadFault }
+    ensures apart { IsRefusalOf touring (Status.NotJoined 1) }
+    ensures too_long { IsRefusalOf editing (Status.TooLong 1048576) }
+    ensures held { HeldIn (λ _. Some []) (instance_at []) (λ bytes. bytes ≡ []) }
+    ensures some_bytes { OfSomeBytes (instance_at []) (λ bytes. bytes ≡ []) }
+    ensures told { IsKnown true (Some checking) }
+    ensures reads_nothing { IsKnown false (Some making) }
+    ensures founded { IsFounded checking [] Status.ReadFault (refusal_work Status.ReadFault) }
+    ensures usage { IsFoundedOf None [] Status.BadUsage (refusal_work Status.BadUsage) }
+{}
+
+fn facts_of_answers_fail()
+    ensures of_file { IsOfFile (Status.NotJoined 1) → ⊥ }
+    ensures of_instance { IsOfInstance (Status.NotJoined 1) → ⊥ }
+    ensures of_certificate { IsOfCertificate (Status.NotJoined 1) → ⊥ }
+    ensures of_round { IsOfRound Status.ReadFault → ⊥ }
+    ensures of_none { IsOfNone (Status.NotJoined 1) → ⊥ }
+    ensures never_refused { IsRefusalOf making Status.ReadFault → ⊥ }
+    ensures apart { IsRefusalOf checking (Status.NotJoined 1) → ⊥ }
+    ensures no_edit { IsRefusalOf editing (Status.NotJoined 1) → ⊥ }
+    ensures held { HeldIn (λ _. None) (instance_at []) (λ bytes. bytes ≡ []) → ⊥ }
+    ensures some_bytes { OfSomeBytes (instance_at []) (λ bytes. ⊥) → ⊥ }
+    ensures told { IsKnown false (Some checking) → ⊥ }
+    ensures never_unread { (work : Work) → IsFounded making [] Status.ReadFault work → ⊥ }
+    ensures never_accepted { (work : Work) → IsFounded solving [] Status.Accepted work → ⊥ }
+    ensures usage { (work : Work) → IsFoundedOf None [] Status.Done work → ⊥ }
 {}

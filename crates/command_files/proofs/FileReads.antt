@@ -1,16 +1,15 @@
 -- What the reading of one file gives.
-use Rattle.std.proofs.Common.{◌≡◌, ℕ, ◌+◌, ◌<◌, ◌≤◌, List, [], ◌∷◌, length, refl, sym, ap, ◌∙◌, subst, inl, inr, rules, arith, IsTrue, Bool, Option, None, Some}
-use Rattle.std.specs.Prelude.{◌⊎◌, Result, Ok, Err, IsOk, IfOk, IsErrOf, IsSomeAnd, IfSome}
+use Rattle.std.proofs.Common.{◌≡◌, ℕ, List, ap, ◌∙◌, subst, inl, inr, arith, IsTrue, Bool, Option, None, Some}
+use Rattle.std.specs.Prelude.{◌⊎◌, Result, Ok, Err, IsOk, IfOk, IsErrOf, IsSomeAnd}
 use Rattle.std.specs.declared.alloc.Global.{Global}
 use Rattle.std.specs.declared.vec.Vec.{Vec}
 use Rattle.carp_base.specs.declared.fail.Fail.{Fail}
 use Rattle.carp_base.specs.declared.fail.Fail.TheVariants.{Refused, Memory as NoMemory}
-use Rattle.carp_outside.specs.Causes.{Rose, RoseBy}
 use Rattle.command_words.specs.Commands.{Source}
-use Rattle.command_files.specs.Files.{RoseAtSome, Holds, IsTooLong, IsBadFile}
-use Rattle.command_files.specs.Reads.{AreBytes, NoneIsBad, EachIsGood, IsFileRead, IsOfBytes, IsParsed, IsRefusal, IsTried}
+use Rattle.command_files.specs.Files.{Holds, IsTooLong, OfSomeBytes}
+use Rattle.command_files.specs.Reads.{AreBytes, NoneIsBad, EachIsGood, IsFileRead, IsOfBytes, IsOfNone, IsParsed}
 use Rattle.command_files.specs.declared.status.Status.{Status}
-use Rattle.command_files.specs.declared.status.Status.TheVariants.{Proven, Gap, Accepted, Done, Rejected, BadUsage, BadInstance, BadCertificate, ReadFault, WriteFault, Memory, TooLong, NotJoined, BadEdit}
+use Rattle.command_files.specs.declared.status.Status.TheVariants.{ReadFault, TooLong}
 
 -- what is so of what is there
 pub of_some : {X : Type 0} {P Q : X → Type 0} (o : Option X) → IsSomeAnd o P → ((x : X) → P x → Q x) → IsSomeAnd o Q
@@ -47,34 +46,19 @@ not_too_long : (source : Source) (contents : List ℕ → Option (List ℕ)) (P 
 not_too_long source contents P R holds long =
     of_both (contents source.name) holds long (λ bytes held longer. absurd (omega (arith, held.0, longer)))
 
-refuses : (status : Status) → IsOfBytes status → IsRefusal status
-refuses (BadInstance fault) is = tt
-refuses (BadCertificate fault) is = tt
-refuses (Rejected reason) is = tt
-refuses (NotJoined edge) is = tt
-refuses (BadEdit fault) is = tt
-refuses ReadFault is = tt
-refuses (TooLong limit) is = tt
-refuses Proven is = is
-refuses Gap is = is
-refuses Accepted is = is
-refuses Done is = is
-refuses BadUsage is = is
-refuses WriteFault is = is
-refuses Memory is = is
-
 -- what is made of the bytes that a file holds
 pub file_parsed : {X : Type 0} {held : Bool} {source : Source} {contents : List ℕ → Option (List ℕ)} {lb ln : List ℕ → ℕ} {gb gn : ℕ}
-    {Is : List ℕ → X → Type 0} {Bad : List ℕ → Status → Type 0} {Good : List ℕ → Type 0} (r : Result X (Fail Status)) →
-    (IsTrue held → Holds source contents (λ bytes. IsParsed bytes Is Bad Good r)) → IfOk r (λ x. (bytes : List ℕ) × Is bytes x) →
-    ((status : Status) → IsErrOf r (Refused status) → IsOfBytes status) →
-    IsFileRead held source contents lb ln gb gn Is Bad Good r
-file_parsed {X} {held} {source} {contents} {lb} {ln} {gb} {gn} {Is} {Bad} {Good} r parsed some refusal = record {
+    {Of : Status → Type 0} {Is : List ℕ → X → Type 0} {Bad : List ℕ → Status → Type 0} {Good : List ℕ → Type 0} (r : Result X (Fail Status)) →
+    (IsTrue held → Holds source contents (λ bytes. IsParsed bytes Is Bad Good r)) → IfOk r (λ x. OfSomeBytes source (λ bytes. Is bytes x)) →
+    ((status : Status) → IsErrOf r (Refused status) → IsOfBytes status) → ((status : Status) → IsErrOf r (Refused status) → Of status) →
+    IsFileRead held source contents lb ln gb gn Of Is Bad Good r
+file_parsed {X} {held} {source} {contents} {lb} {ln} {gb} {gn} {Of} {Is} {Bad} {Good} r parsed some refusal kind = record {
   made = λ told. made_of r (parsed told);
   some = some;
   tried = record {
-    refusal = λ status e. refuses status (refusal status e);
+    refusal = λ status e. inr (kind status e);
     read = λ e. absurd (refusal ReadFault e);
+    order = λ told e. absurd (refusal ReadFault e);
     too_long = λ limit e. absurd (refusal (TooLong limit) e);
     refused = λ told status e. inr (inr (of_some (contents source.name) (parsed told) (λ bytes is. (is.0, is.1.refused status e))));
     bad = λ told status bad no. elim bad [
@@ -90,27 +74,29 @@ file_parsed {X} {held} {source} {contents} {lb} {ln} {gb} {gn} {Is} {Bad} {Good}
 
 -- all bytes of a file, and what is made of them
 pub read_then : {X : Type 0} {held : Bool} {source : Source} {contents : List ℕ → Option (List ℕ)} {lb ln : List ℕ → ℕ} {gb gn : ℕ}
-    {Is : List ℕ → X → Type 0} {Bad : List ℕ → Status → Type 0} {Good : List ℕ → Type 0} (v : Vec ℕ Global) (bytes : List ℕ) (r : Result X (Fail Status)) → bytes ≡ v.items →
-    IsFileRead held source contents lb ln gb gn AreBytes NoneIsBad EachIsGood (made (Vec ℕ Global) v) → IsParsed bytes Is Bad Good r →
-    IsFileRead held source contents lb ln gb gn Is Bad Good r
-read_then {X = X} {source = source} {contents = contents} {Is = Is} {Bad = Bad} {Good = Good} v bytes r are whole parsed =
+    {Of : Status → Type 0} {Is : List ℕ → X → Type 0} {Bad : List ℕ → Status → Type 0} {Good : List ℕ → Type 0} → ((bytes : List ℕ) (status : Status) → Bad bytes status → Of status) →
+    (v : Vec ℕ Global) (bytes : List ℕ) (r : Result X (Fail Status)) → bytes ≡ v.items →
+    IsFileRead held source contents lb ln gb gn IsOfNone AreBytes NoneIsBad EachIsGood (made (Vec ℕ Global) v) → IsParsed bytes Is Bad Good r →
+    IsFileRead held source contents lb ln gb gn Of Is Bad Good r
+read_then {X = X} {source = source} {contents = contents} {Is = Is} {Bad = Bad} {Good = Good} kind v bytes r are whole parsed =
     file_parsed r (λ told. of_some (contents source.name) (whole.made told) (λ own held. (held.0, subst (λ b. IsParsed b Is Bad Good r) (are ∙ held.1) parsed)))
-    (some_of r parsed.made) parsed.refusal where
-      some_of : (r : Result X (Fail Status)) → IfOk r (Is bytes) → IfOk r (λ x. (bytes : List ℕ) × Is bytes x)
+    (some_of r parsed.made) parsed.refusal (λ status e. kind bytes status (parsed.refused status e)) where
+      some_of : (r : Result X (Fail Status)) → IfOk r (Is bytes) → IfOk r (λ x. OfSomeBytes source (λ bytes. Is bytes x))
       some_of (Ok x) is = (bytes, is)
       some_of (Err e) is = tt
 
 -- the bytes of a file are not to be had
 pub read_stops : {X : Type 0} {held : Bool} {source : Source} {contents : List ℕ → Option (List ℕ)} {lb ln : List ℕ → ℕ} {gb gn : ℕ}
-    {Is : List ℕ → X → Type 0} {Bad : List ℕ → Status → Type 0} {Good : List ℕ → Type 0} (f : Fail Status) →
-    IsFileRead held source contents lb ln gb gn AreBytes NoneIsBad EachIsGood (failed (Vec ℕ Global) f) →
-    IsFileRead held source contents lb ln gb gn Is Bad Good (failed X f)
+    {Of : Status → Type 0} {Is : List ℕ → X → Type 0} {Bad : List ℕ → Status → Type 0} {Good : List ℕ → Type 0} (f : Fail Status) →
+    IsFileRead held source contents lb ln gb gn IsOfNone AreBytes NoneIsBad EachIsGood (failed (Vec ℕ Global) f) →
+    IsFileRead held source contents lb ln gb gn Of Is Bad Good (failed X f)
 read_stops {X} {source = source} {contents = contents} {Bad = Bad} f whole = record {
   made = λ told. tt;
   some = tt;
   tried = record {
-    refusal = λ status e. whole.tried.refusal status (again e);
+    refusal = λ status e. of_file (whole.tried.refusal status (again e));
     read = λ e. whole.tried.read (again e);
+    order = λ told e. whole.tried.order told (again e);
     too_long = λ limit e. whole.tried.too_long limit (again e);
     refused = λ told status e. elim (whole.tried.refused told status (again e)) [
       | inl fault ↦ inl fault
@@ -124,6 +110,10 @@ read_stops {X} {source = source} {contents = contents} {Bad = Bad} f whole = rec
     good = λ told good no. out (whole.tried.good told (of_some (contents source.name) good (λ bytes held. (held.0, tt))) no);
   };
 } where
+  of_file : {F P : Type 0} → F ⊎ ⊥ → F ⊎ P
+  of_file (inl is) = inl is
+  of_file (inr none) = absurd none
+
   moved : (status : Status) → IsErrOf (failed (Vec ℕ Global) f) (Refused status) ⊎ IsErrOf (failed (Vec ℕ Global) f) NoMemory → IsErrOf (failed X f) (Refused status) ⊎ IsErrOf (failed X f) NoMemory
   moved status (inl e) = inl (again e)
   moved status (inr e) = inr (again e)

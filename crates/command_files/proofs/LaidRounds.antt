@@ -1,7 +1,7 @@
 -- What is made of the bytes of an instance over which a round is laid.
-use Rattle.std.proofs.Common.{◌≡◌, ℕ, ◌<◌, ◌≤◌, List, refl, sym, ap, ◌∙◌, subst, inl, inr, arith}
+use Rattle.std.proofs.Common.{◌≡◌, ℕ, List, refl, sym, ap, ◌∙◌, subst, inl, inr, arith}
 use Rattle.std.proofs.lemmas.Bool.{cases_lt}
-use Rattle.std.specs.Prelude.{◌⊎◌, Result, Ok, Err}
+use Rattle.std.specs.Prelude.{Err}
 use Rattle.carp_base.specs.Problem.{Problem}
 use Rattle.carp_base.specs.declared.fail.Fail.{Fail}
 use Rattle.carp_base.specs.declared.fail.Fail.TheVariants.{Refused}
@@ -11,8 +11,8 @@ use Rattle.postman.specs.Refusals.{RefusesApart}
 use Rattle.postman.specs.declared.fault.PostmanFault.{PostmanFault}
 use Rattle.postman.specs.declared.fault.PostmanFault.TheVariants as faults
 use Rattle.postman.specs.Rounds.{AreJoined, IsFirstApart, IsShownRound}
-use Rattle.command_files.specs.Files.{IsApartText, IsBadInstance, IsBadRound, IsInstance, IsJoinedText}
-use Rattle.command_files.specs.Reads.{IsNamed, IsOfBytes, IsParsed, IsRoundOf}
+use Rattle.command_files.specs.Files.{IsBadInstance, IsBadRound, IsInstance, IsJoinedText}
+use Rattle.command_files.specs.Reads.{IsNamed, IsOfBytes, IsOfRound, IsParsed, IsRoundOf}
 use Rattle.command_files.specs.declared.rounds.Laid.{Laid}
 use Rattle.command_files.specs.declared.status.Status.{Status}
 use Rattle.command_files.specs.declared.status.Status.TheVariants.{NotJoined}
@@ -27,6 +27,11 @@ one_apart p d e first other = elim (cases_lt d e) [
     | inr not_more ↦ omega (arith, not_less, not_more)
   ]
 ]
+
+-- by which answers bytes are refused over which a round is laid
+pub of_round : (bytes : List ℕ) (status : Status) → IsBadRound bytes status → IsOfRound status
+of_round bytes status (inl bad) = subst IsOfRound (sym bad.named) tt
+of_round bytes status (inr apart) = subst IsOfRound (sym apart.named) tt
 
 module _ (one : InstanceIsUnique) (apart : TextHasNoFault) (bytes : List ℕ) where
   pub laid : (x : Laid) → IsTextOf bytes x.inst → AreJoined x.inst → IsShownRound x.inst x.round.walk x.round.shores.items x.round.cost

@@ -19,6 +19,14 @@ use Rattle.command_files.specs.declared.status.Status.TheVariants.{BadInstance, 
 abbrev pub Holds : Source → (List ℕ → Option (List ℕ)) → (List ℕ → Type 0) → Type 0
 Holds source contents Is = IsSomeAnd (contents source.name) (λ bytes. (length bytes ≤ source.limit) × Is bytes)
 
+-- the same, as one way of reading texts: the bytes of each file are those that its name holds
+abbrev pub HeldIn : (List ℕ → Option (List ℕ)) → Source → (List ℕ → Type 0) → Type 0
+HeldIn contents source Is = Holds source contents Is
+
+-- the other way: this is so of some bytes, and whether the name held them is not told
+abbrev pub OfSomeBytes : Source → (List ℕ → Type 0) → Type 0
+OfSomeBytes source Is = (bytes : List ℕ) × Is bytes
+
 -- the file is held, and too long
 abbrev pub IsTooLong : Source → (List ℕ → Option (List ℕ)) → Type 0
 IsTooLong source contents = IsSomeAnd (contents source.name) (λ bytes. source.limit < length bytes)

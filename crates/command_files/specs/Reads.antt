@@ -22,11 +22,17 @@ use Rattle.postman.specs.declared.fault.PostmanFault.TheVariants as faults
 use Rattle.command_words.specs.Commands.{Source}
 use Rattle.command_files.specs.declared.reading.Stated.{Stated}
 use Rattle.command_files.specs.declared.rounds.Laid.{Laid}
-use Rattle.command_files.specs.Files.{Holds, IsBadFile, HasLimit, RoseAtSome}
+use Rattle.command_files.specs.Files.{HeldIn, Holds, IsBadFile, HasLimit, OfSomeBytes, RoseAtSome}
 use Rattle.command_files.specs.declared.status.Status.{Status}
 use Rattle.command_files.specs.declared.status.Status.TheVariants.{BadInstance, BadCertificate, BadEdit, NotJoined, Rejected, ReadFault, TooLong}
 
--- an answer by which a file is refused, and one by which its bytes are
+-- an answer by which a file is refused before its bytes are looked at
+abbrev pub IsOfFile : Status → Type 0
+IsOfFile ReadFault = Unit {0}
+IsOfFile (TooLong limit) = Unit {0}
+IsOfFile status = ⊥
+
+-- an answer by which bytes are refused
 abbrev pub IsOfBytes : Status → Type 0
 IsOfBytes (BadInstance fault) = Unit {0}
 IsOfBytes (BadCertificate fault) = Unit {0}
@@ -35,10 +41,26 @@ IsOfBytes (NotJoined edge) = Unit {0}
 IsOfBytes (BadEdit fault) = Unit {0}
 IsOfBytes status = ⊥
 
-abbrev pub IsRefusal : Status → Type 0
-IsRefusal ReadFault = Unit {0}
-IsRefusal (TooLong limit) = Unit {0}
-IsRefusal status = IsOfBytes status
+-- an answer by which the bytes of an instance are refused
+abbrev pub IsOfInstance : Status → Type 0
+IsOfInstance (BadInstance fault) = Unit {0}
+IsOfInstance status = ⊥
+
+-- an answer by which the bytes of a certificate are refused
+abbrev pub IsOfCertificate : Status → Type 0
+IsOfCertificate (BadCertificate fault) = Unit {0}
+IsOfCertificate (Rejected reason) = Unit {0}
+IsOfCertificate status = ⊥
+
+-- an answer by which the bytes of an instance are refused over which a round is laid
+abbrev pub IsOfRound : Status → Type 0
+IsOfRound (BadInstance fault) = Unit {0}
+IsOfRound (NotJoined edge) = Unit {0}
+IsOfRound status = ⊥
+
+-- bytes that are only read are refused by no answer
+abbrev pub IsOfNone : Status → Type 0
+IsOfNone status = ⊥
 
 -- what is made of bytes. `Is` says what it is, `Bad` how bytes are refused, and `Good` when they are not
 pub record IsParsed {X : Type 0} (bytes : List ℕ) (Is : List ℕ → X → Type 0) (Bad : List ℕ → Status → Type 0) (Good : List ℕ → Type 0) (result : Result X (Fail Status)) : Type 0 where
@@ -48,22 +70,25 @@ pub record IsParsed {X : Type 0} (bytes : List ℕ) (Is : List ℕ → X → Typ
   pub bad : (status : Status) → Bad bytes status → IsErrOf result (Refused status) ⊎ IsErrOf result NoMemory
   pub good : Good bytes → IsOk result ⊎ IsErrOf result NoMemory
 
--- What becomes of reading these files: each refusal has its cause, and where no look failed, what is bad is refused and what is good is not.
+-- What becomes of reading these files: each refusal is one of those that belong here (`Refuses`) and has its cause. Where contents are told, a file
+-- could not be read only where one of those was not to be had that had to be looked at (`Unread`); and else what is bad is refused and what is good is not.
 pub record IsTried {X : Type 0} (held : Bool) (sources : List Source) (looks_before looks_now : List ℕ → ℕ) (given_before given_now : ℕ)
-    (Bad : Status → Type 0) (Good : Type 0) (result : Result X (Fail Status)) : Type 0 where
-  pub refusal : (status : Status) → IsErrOf result (Refused status) → IsRefusal status
+    (Refuses : Status → Type 0) (Unread : Type 0) (Bad : Status → Type 0) (Good : Type 0) (result : Result X (Fail Status)) : Type 0 where
+  pub refusal : (status : Status) → IsErrOf result (Refused status) → Refuses status
   pub read : IsErrOf result (Refused ReadFault) → RoseAtSome sources looks_before looks_now
+  pub order : IsTrue held → IsErrOf result (Refused ReadFault) → Unread
   pub too_long : (limit : ℕ) → IsErrOf result (Refused (TooLong limit)) → HasLimit limit sources × RoseBy (limit + 1) given_before given_now
   pub refused : IsTrue held → (status : Status) → IsErrOf result (Refused status) → (status ≡ ReadFault) ⊎ Bad status
-  pub bad : IsTrue held → (status : Status) → Bad status → ¬ (RoseAtSome sources looks_before looks_now) → IsErrOf result (Refused status) ⊎ IsErrOf result NoMemory
-  pub good : IsTrue held → Good → ¬ (RoseAtSome sources looks_before looks_now) → IsOk result ⊎ IsErrOf result NoMemory
+  pub bad : IsTrue held → (status : Status) → Bad status → ¬ (Unread) → IsErrOf result (Refused status) ⊎ IsErrOf result NoMemory
+  pub good : IsTrue held → Good → ¬ (Unread) → IsOk result ⊎ IsErrOf result NoMemory
 
--- what the reading of a file gives
+-- what the reading of a file gives. `Of` says by which answers its bytes can be refused
 pub record IsFileRead {X : Type 0} (held : Bool) (source : Source) (contents : List ℕ → Option (List ℕ)) (looks_before looks_now : List ℕ → ℕ) (given_before given_now : ℕ)
-    (Is : List ℕ → X → Type 0) (Bad : List ℕ → Status → Type 0) (Good : List ℕ → Type 0) (result : Result X (Fail Status)) : Type 0 where
-  pub made : IsTrue held → IfOk result (λ x. Holds source contents (λ bytes. Is bytes x))
-  pub some : IfOk result (λ x. (bytes : List ℕ) × Is bytes x)
-  pub tried : IsTried held (source ∷ []) looks_before looks_now given_before given_now (IsBadFile Bad source contents) (Holds source contents Good) result
+    (Of : Status → Type 0) (Is : List ℕ → X → Type 0) (Bad : List ℕ → Status → Type 0) (Good : List ℕ → Type 0) (result : Result X (Fail Status)) : Type 0 where
+  pub made : IsTrue held → IfOk result (λ x. HeldIn contents source (λ bytes. Is bytes x))
+  pub some : IfOk result (λ x. OfSomeBytes source (λ bytes. Is bytes x))
+  pub tried : IsTried held (source ∷ []) looks_before looks_now given_before given_now (λ status. IsOfFile status ⊎ Of status) (Rose (looks_before source.name) (looks_now source.name))
+      (IsBadFile Bad source contents) (Holds source contents Good) result
 
 -- the bytes themselves, which nothing refuses
 abbrev pub AreBytes : List ℕ → Vec ℕ Global → Type 0

@@ -1,6 +1,6 @@
 -- What becomes of the two files of a command.
-use Rattle.std.proofs.Common.{◌≡◌, ℕ, ◌+◌, ◌≤◌, List, [], ◌∷◌, refl, sym, ap, ◌∙◌, subst, inl, inr, arith, IsTrue, Bool, Option}
-use Rattle.std.specs.Prelude.{◌⊎◌, Result, Ok, Err, IsOk, IfOk, IsErrOf}
+use Rattle.std.proofs.Common.{◌≡◌, ℕ, ◌+◌, ◌≤◌, List, [], ◌∷◌, refl, sym, subst, inl, inr, arith, IsTrue, Bool, Option}
+use Rattle.std.specs.Prelude.{◌⊎◌, Result, IsOk, IfOk, IsErrOf}
 use Rattle.carp_base.specs.Problem.{Problem}
 use Rattle.carp_base.specs.declared.fail.Fail.{Fail}
 use Rattle.carp_base.specs.declared.fail.Fail.TheVariants.{Refused, Memory as NoMemory}
@@ -8,11 +8,11 @@ use Rattle.carp_outside.specs.Causes.{Rose, RoseBy}
 use Rattle.dat_text.specs.Text.{IsTextOf}
 use Rattle.dat_text.specs.Laws.{InstanceIsUnique}
 use Rattle.command_words.specs.Commands.{Source, instance_at, certificate_at}
-use Rattle.command_files.specs.Files.{Holds, IsInstance, IsBadInstance, IsGoodText, IsBadCertificate, IsBadFile}
-use Rattle.command_files.specs.Reads.{IsTried, IsFileRead}
+use Rattle.command_files.specs.Files.{HeldIn, Holds, IsInstance, IsBadInstance, IsGoodText, IsBadCertificate, IsBadFile}
+use Rattle.command_files.specs.Reads.{IsFileRead, IsOfCertificate, IsOfFile, IsOfInstance, IsTried}
 use Rattle.command_files.specs.declared.status.Status.{Status}
 use Rattle.command_files.specs.declared.status.Status.TheVariants.{ReadFault}
-use Rattle.command_jobs.specs.Inputs.{IsBadPair, IsGoodPair, IsUnreadPair}
+use Rattle.command_jobs.specs.Inputs.{IsBadPair, IsGoodPair, IsOfPair, IsUnreadPair}
 use Rattle.command_jobs.proofs.Results.{again, failed, made, of_both, of_some}
 
 -- counts that rose later rose
@@ -24,14 +24,15 @@ rose_until n before mid now later rose = omega (arith, later, rose)
 
 -- the reading of a file by equal contents
 pub by_contents : {X : Type 0} {held : Bool} {source : Source} {c d : List ℕ → Option (List ℕ)} {lb ln : List ℕ → ℕ} {gb gn : ℕ}
-    {Is : List ℕ → X → Type 0} {Bad : List ℕ → Status → Type 0} {Good : List ℕ → Type 0} {r : Result X (Fail Status)} → (IsTrue held → c ≡ d) →
-    IsFileRead held source c lb ln gb gn Is Bad Good r → IsFileRead held source d lb ln gb gn Is Bad Good r
+    {Of : Status → Type 0} {Is : List ℕ → X → Type 0} {Bad : List ℕ → Status → Type 0} {Good : List ℕ → Type 0} {r : Result X (Fail Status)} → (IsTrue held → c ≡ d) →
+    IsFileRead held source c lb ln gb gn Of Is Bad Good r → IsFileRead held source d lb ln gb gn Of Is Bad Good r
 by_contents {source = source} {c = c} {d = d} {Is = Is} {Bad = Bad} {Good = Good} {r = r} same file = record {
-  made = λ told. subst (λ e. IfOk r (λ x. Holds source e (λ bytes. Is bytes x))) (same told) (file.made told);
+  made = λ told. subst (λ e. IfOk r (λ x. HeldIn e source (λ bytes. Is bytes x))) (same told) (file.made told);
   some = file.some;
   tried = record {
     refusal = file.tried.refusal;
     read = file.tried.read;
+    order = file.tried.order;
     too_long = file.tried.too_long;
     refused = λ told status e. subst (λ x. (status ≡ ReadFault) ⊎ IsBadFile Bad source x status) (same told) (file.tried.refused told status e);
     bad = λ told status bad no. file.tried.bad told status (subst (λ x. IsBadFile Bad source x status) (sym (same told)) bad) no;
@@ -40,11 +41,12 @@ by_contents {source = source} {c = c} {d = d} {Is = Is} {Bad = Bad} {Good = Good
 }
 
 -- a refusal of a file is one of the command
-pub tried_again : {X Y : Type 0} {held : Bool} {sources : List Source} {lb ln : List ℕ → ℕ} {gb gn : ℕ} {Bad : Status → Type 0} {Good : Type 0} (f : Fail Status)
-    → IsTried held sources lb ln gb gn Bad Good (failed X f) → IsTried held sources lb ln gb gn Bad Good (failed Y f)
+pub tried_again : {X Y : Type 0} {held : Bool} {sources : List Source} {lb ln : List ℕ → ℕ} {gb gn : ℕ} {Refuses : Status → Type 0} {Unread : Type 0} {Bad : Status → Type 0} {Good : Type 0} (f : Fail Status)
+    → IsTried held sources lb ln gb gn Refuses Unread Bad Good (failed X f) → IsTried held sources lb ln gb gn Refuses Unread Bad Good (failed Y f)
 tried_again {X} {Y} f tried = record {
   refusal = λ status e. tried.refusal status (again e);
   read = λ e. tried.read (again e);
+  order = λ told e. tried.order told (again e);
   too_long = λ limit e. tried.too_long limit (again e);
   refused = λ told status e. tried.refused told status (again e);
   bad = λ told status bad no. elim (tried.bad told status bad no) [ inl e ↦ inl (again e) | inr e ↦ inr (again e) ];
@@ -52,43 +54,43 @@ tried_again {X} {Y} f tried = record {
 }
 
 -- what was read is made into an answer
-pub tried_made : {X Y : Type 0} {held : Bool} {sources : List Source} {lb ln : List ℕ → ℕ} {gb gn : ℕ} {Bad : Status → Type 0} {Good : Type 0} (x : X) (y : Y)
-    → IsTried held sources lb ln gb gn Bad Good (made X x) → IsTried held sources lb ln gb gn Bad Good (made Y y)
+pub tried_made : {X Y : Type 0} {held : Bool} {sources : List Source} {lb ln : List ℕ → ℕ} {gb gn : ℕ} {Refuses : Status → Type 0} {Unread : Type 0} {Bad : Status → Type 0} {Good : Type 0} (x : X) (y : Y)
+    → IsTried held sources lb ln gb gn Refuses Unread Bad Good (made X x) → IsTried held sources lb ln gb gn Refuses Unread Bad Good (made Y y)
 tried_made x y tried = record {
   refusal = λ status e. cc;
   read = λ e. cc;
+  order = λ told e. cc;
   too_long = λ limit e. cc;
   refused = λ told status e. cc;
   bad = λ told status bad no. elim (tried.bad told status bad no) [ inl e ↦ cc | inr e ↦ cc ];
   good = λ told good no. inl refl;
 }
 
-pub tried_out : {Y : Type 0} {held : Bool} {sources : List Source} {lb ln : List ℕ → ℕ} {gb gn : ℕ} {Bad : Status → Type 0} {Good : Type 0}
-    → IsTried {X = Y} held sources lb ln gb gn Bad Good (Err NoMemory)
-tried_out = record {
-  refusal = λ status e. cc;
-  read = λ e. cc;
-  too_long = λ limit e. cc;
-  refused = λ told status e. cc;
-  bad = λ told status bad no. inr refl;
-  good = λ told good no. inr refl;
-}
+-- an instance is held, whichever it is
+held_instance : (file : List ℕ) (contents : List ℕ → Option (List ℕ)) (p : Problem) → Holds (instance_at file) contents (λ bytes. IsTextOf bytes p) → Holds (instance_at file) contents IsInstance
+held_instance file contents p read = of_some (contents file) read (λ bytes held. (held.0, record { instance = p; text = held.1 }))
 
 -- the first of two files stops the command
 pub first_stops : {Y : Type 0} {held : Bool} {file cert : List ℕ} {contents : List ℕ → Option (List ℕ)} {lb ln : List ℕ → ℕ} {gb gn : ℕ} (f : Fail Status)
-    → IsFileRead {X = Problem} held (instance_at file) contents lb ln gb gn IsTextOf IsBadInstance IsInstance (failed Problem f)
-    → IsTried held (instance_at file ∷ certificate_at cert ∷ []) lb ln gb gn (IsBadPair file cert contents) (IsGoodPair file cert contents) (failed Y f)
+    → IsFileRead {X = Problem} held (instance_at file) contents lb ln gb gn IsOfInstance IsTextOf IsBadInstance IsInstance (failed Problem f)
+    → IsTried held (instance_at file ∷ certificate_at cert ∷ []) lb ln gb gn (λ status. IsOfFile status ⊎ IsOfPair status) (IsUnreadPair file cert contents lb ln)
+    (IsBadPair file cert contents) (IsGoodPair file cert contents) (failed Y f)
 first_stops {Y} {file = file} {cert = cert} {contents = contents} {lb = lb} {ln = ln} {gb = gb} {gn = gn} f first = record {
-  refusal = λ status e. first.tried.refusal status (again e);
+  refusal = λ status e. of_pair (first.tried.refusal status (again e));
   read = λ e. at_first (first.tried.read (again e));
+  order = λ told e. inl (first.tried.order told (again e));
   too_long = λ limit e. limited (first.tried.too_long limit (again e));
   refused = λ told status e. elim (first.tried.refused told status (again e)) [ inl fault ↦ inl fault | inr bad ↦ inr (inl bad) ];
   bad = λ told status bad no. elim bad [
-    | inl b ↦ moved (first.tried.bad told status b (λ rose. no (at_first rose)))
-    | inr b ↦ out (first.tried.good told (held_instance b.instance b.read) (λ rose. no (at_first rose)))
+    | inl b ↦ moved (first.tried.bad told status b (λ rose. no (inl rose)))
+    | inr b ↦ out (first.tried.good told (held_instance file contents b.instance b.read) (λ rose. no (inl rose)))
   ];
-  good = λ told good no. out (first.tried.good told (held_instance good.instance good.read) (λ rose. no (at_first rose)));
+  good = λ told good no. out (first.tried.good told (held_instance file contents good.instance good.read) (λ rose. no (inl rose)));
 } where
+  of_pair : {F P Q : Type 0} → F ⊎ P → F ⊎ (P ⊎ Q)
+  of_pair (inl is) = inl is
+  of_pair (inr is) = inr (inl is)
+
   at_first : Rose (lb file) (ln file) ⊎ ⊥ → Rose (lb file) (ln file) ⊎ (Rose (lb cert) (ln cert) ⊎ ⊥)
   at_first (inl rose) = inl rose
   at_first (inr none) = absurd none
@@ -96,9 +98,6 @@ first_stops {Y} {file = file} {cert = cert} {contents = contents} {lb = lb} {ln 
   limited : {limit : ℕ} → ((limit ≡ 4194304) ⊎ ⊥) × RoseBy (limit + 1) gb gn → ((limit ≡ 4194304) ⊎ ((limit ≡ 268435456) ⊎ ⊥)) × RoseBy (limit + 1) gb gn
   limited (inl is, rose) = (inl is, rose)
   limited (inr none, rose) = absurd none
-
-  held_instance : (p : Problem) → Holds (instance_at file) contents (λ bytes. IsTextOf bytes p) → Holds (instance_at file) contents IsInstance
-  held_instance p read = of_some (contents file) read (λ bytes held. (held.0, record { instance = p; text = held.1 }))
 
   moved : {status : Status} → IsErrOf (failed Problem f) (Refused status) ⊎ IsErrOf (failed Problem f) NoMemory → IsErrOf (failed Y f) (Refused status) ⊎ IsErrOf (failed Y f) NoMemory
   moved (inl e) = inl (again e)
@@ -111,27 +110,32 @@ first_stops {Y} {file = file} {cert = cert} {contents = contents} {lb = lb} {ln 
 -- the first of two files is read, and the second decides
 pub second_decides : {X : Type 0} {held : Bool} {file cert : List ℕ} {contents : List ℕ → Option (List ℕ)} {lb lm ln : List ℕ → ℕ} {gb gm gn : ℕ}
     {Is : List ℕ → X → Type 0} → InstanceIsUnique → (p : Problem) (r : Result X (Fail Status))
-    → IsFileRead held (instance_at file) contents lb lm gb gm IsTextOf IsBadInstance IsInstance (made Problem p)
-    → IsFileRead held (certificate_at cert) contents lm ln gm gn Is (IsBadCertificate p) (IsGoodText p) r
+    → IsFileRead held (instance_at file) contents lb lm gb gm IsOfInstance IsTextOf IsBadInstance IsInstance (made Problem p)
+    → IsFileRead held (certificate_at cert) contents lm ln gm gn IsOfCertificate Is (IsBadCertificate p) (IsGoodText p) r
     → ((name : List ℕ) → lb name ≤ lm name) → ((name : List ℕ) → lm name ≤ ln name) → gb ≤ gm
-    → IsTried held (instance_at file ∷ certificate_at cert ∷ []) lb ln gb gn (IsBadPair file cert contents) (IsGoodPair file cert contents) r
+    → IsTried held (instance_at file ∷ certificate_at cert ∷ []) lb ln gb gn (λ status. IsOfFile status ⊎ IsOfPair status) (IsUnreadPair file cert contents lb ln)
+    (IsBadPair file cert contents) (IsGoodPair file cert contents) r
 second_decides {X} {held} {file} {cert} {contents} {lb} {lm} {ln} {gb} {gm} {gn} unique p r first second risen rises given = record {
-  refusal = second.tried.refusal;
+  refusal = λ status e. of_pair (second.tried.refusal status e);
   read = λ e. inr (at_second (second.tried.read e));
+  order = λ told e. unread_second told (second.tried.order told e);
   too_long = λ limit e. limited (second.tried.too_long limit e);
   refused = λ told status e. elim (second.tried.refused told status e) [
     | inl fault ↦ inl fault
     | inr bad ↦ inr (inr (record { instance = p; read = first.made told; bad = bad }))
   ];
   bad = λ told status bad no. elim bad [
-    | inl b ↦ elim (first.tried.bad told status b (λ rose. no (at_first rose))) [ inl e ↦ cc | inr e ↦ cc ]
-    | inr b ↦ second.tried.bad told status (subst (λ (q : Problem). IsBadFile (IsBadCertificate q) (certificate_at cert) contents status) (one told b.instance b.read) b.bad) (λ rose. no (inr (at_second rose)))
+    | inl b ↦ elim (first.tried.bad told status b (λ rose. no (inl (rose_until 1 (lb file) (lm file) (ln file) (rises file) rose)))) [ inl e ↦ cc | inr e ↦ cc ]
+    | inr b ↦ second.tried.bad told status (subst (λ (q : Problem). IsBadFile (IsBadCertificate q) (certificate_at cert) contents status) (one told b.instance b.read) b.bad) (λ rose. no (unread_second told rose))
   ];
-  good = λ told good no. second.tried.good told (subst (λ (q : Problem). Holds (certificate_at cert) contents (IsGoodText q)) (one told good.instance good.read) good.good) (λ rose. no (inr (at_second rose)));
+  good = λ told good no. second.tried.good told (subst (λ (q : Problem). Holds (certificate_at cert) contents (IsGoodText q)) (one told good.instance good.read) good.good) (λ rose. no (unread_second told rose));
 } where
-  at_first : Rose (lb file) (lm file) ⊎ ⊥ → Rose (lb file) (ln file) ⊎ (Rose (lb cert) (ln cert) ⊎ ⊥)
-  at_first (inl rose) = inl (rose_until 1 (lb file) (lm file) (ln file) (rises file) rose)
-  at_first (inr none) = absurd none
+  of_pair : {F P Q : Type 0} → F ⊎ Q → F ⊎ (P ⊎ Q)
+  of_pair (inl is) = inl is
+  of_pair (inr is) = inr (inr is)
+
+  unread_second : IsTrue held → Rose (lm cert) (ln cert) → IsUnreadPair file cert contents lb ln
+  unread_second told rose = inr (held_instance file contents p (first.made told), rose_since 1 (lb cert) (lm cert) (ln cert) (risen cert) rose)
 
   at_second : Rose (lm cert) (ln cert) ⊎ ⊥ → Rose (lb cert) (ln cert) ⊎ ⊥
   at_second (inl rose) = inl (rose_since 1 (lb cert) (lm cert) (ln cert) (risen cert) rose)
@@ -143,24 +147,3 @@ second_decides {X} {held} {file} {cert} {contents} {lb} {lm} {ln} {gb} {gm} {gn}
 
   one : IsTrue held → (q : Problem) → Holds (instance_at file) contents (λ bytes. IsTextOf bytes q) → q ≡ p
   one told q read = of_both (contents file) read (first.made told) (λ bytes other own. unique bytes q p other.1 own.1)
-
--- a file that could not be read
-pub unread_here : {X Y : Type 0} {held : Bool} {source : Source} {contents : List ℕ → Option (List ℕ)} {lb ln : List ℕ → ℕ} {gb gn : ℕ}
-    {Is : List ℕ → X → Type 0} {Bad : List ℕ → Status → Type 0} {Good : List ℕ → Type 0} (f : Fail Status)
-    → IsFileRead held source contents lb ln gb gn Is Bad Good (failed X f) → IsErrOf (failed Y f) (Refused ReadFault) → Rose (lb source.name) (ln source.name)
-unread_here f file e = only (file.tried.read (again e)) where
-  only : {P : Type 0} → P ⊎ ⊥ → P
-  only (inl rose) = rose
-  only (inr none) = absurd none
-
--- the second of two files could not be read, and the first is an instance
-pub second_unread : {X Y : Type 0} {held : Bool} {file cert : List ℕ} {contents later : List ℕ → Option (List ℕ)} {lb lm ln : List ℕ → ℕ} {gb gm gn : ℕ}
-    {Is : List ℕ → X → Type 0} {Bad : List ℕ → Status → Type 0} {Good : List ℕ → Type 0} (p : Problem) (f : Fail Status)
-    → IsFileRead held (instance_at file) contents lb lm gb gm IsTextOf IsBadInstance IsInstance (made Problem p)
-    → IsFileRead held (certificate_at cert) later lm ln gm gn Is Bad Good (failed X f) → ((name : List ℕ) → lb name ≤ lm name)
-    → IsTrue held → IsErrOf (failed Y f) (Refused ReadFault) → IsUnreadPair file cert contents lb ln
-second_unread {file = file} {cert = cert} {contents = contents} {lb = lb} {lm = lm} {ln = ln} p f first second risen told e =
-    inr (
-      of_some (contents file) (first.made told) (λ bytes held. (held.0, record { instance = p; text = held.1 })),
-      rose_since 1 (lb cert) (lm cert) (ln cert) (risen cert) (unread_here f second e),
-    )

@@ -5,8 +5,9 @@ use Rattle.carp_outside.specs.Causes.{Rose}
 use Rattle.dat_text.specs.Text.{IsTextOf}
 use Rattle.command_words.specs.Commands.{Command, Solve, Check, Sheet, Make, Drill, Upgrade, Postman, Fleet, Edit, instance_at, certificate_at}
 use Rattle.command_files.specs.Files.{Holds, IsInstance, IsBadInstance, IsGoodText, IsBadCertificate, IsBadFile, IsBadRound, IsJoinedText}
+use Rattle.command_files.specs.Reads.{IsOfCertificate, IsOfFile, IsOfInstance, IsOfRound}
 use Rattle.command_files.specs.declared.status.Status.{Status}
-use Rattle.edit_files.specs.Edited.{AreBadFiles, AreGoodFiles, AreUnread}
+use Rattle.edit_files.specs.Edited.{AreBadFiles, AreGoodFiles, AreUnread, IsOfTexts}
 
 -- the first file is the text of an instance, and the second is refused so for it
 pub record IsBadSecond (file cert : List ℕ) (contents : List ℕ → Option (List ℕ)) (status : Status) : Type 0 where
@@ -23,6 +24,23 @@ pub record IsGoodPair (file cert : List ℕ) (contents : List ℕ → Option (Li
   pub instance : Problem
   pub read : Holds (instance_at file) contents (λ bytes. IsTextOf bytes instance)
   pub good : Holds (certificate_at cert) contents (IsGoodText instance)
+
+-- an answer by which one of two texts is refused: of an instance, or of a certificate
+abbrev pub IsOfPair : Status → Type 0
+IsOfPair status = IsOfInstance status ⊎ IsOfCertificate status
+
+-- The answers by which a command can be refused: a file that it reads could not be read, is too long, or holds bad bytes of its kind. A command that reads no file is never
+-- refused.
+abbrev pub IsRefusalOf : Command → Status → Type 0
+IsRefusalOf (Solve file cert turns seed) status = IsOfFile status ⊎ IsOfInstance status
+IsRefusalOf (Check file cert) status = IsOfFile status ⊎ IsOfPair status
+IsRefusalOf (Sheet file cert) status = IsOfFile status ⊎ IsOfPair status
+IsRefusalOf (Make file seed) status = ⊥
+IsRefusalOf (Drill turns seed) status = ⊥
+IsRefusalOf (Upgrade file cert renewed) status = IsOfFile status ⊎ IsOfPair status
+IsRefusalOf (Postman file) status = IsOfFile status ⊎ IsOfRound status
+IsRefusalOf (Fleet file turns) status = IsOfFile status ⊎ IsOfInstance status
+IsRefusalOf (Edit file cert edits edited carried) status = IsOfFile status ⊎ IsOfTexts status
 
 -- what names hold has a command refuse so; one that reads no file refuses nothing
 abbrev pub IsRefused : Command → (List ℕ → Option (List ℕ)) → Status → Type 0

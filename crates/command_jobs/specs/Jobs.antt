@@ -1,6 +1,6 @@
 -- The job of a command, and what is read for it.
 use Rattle.std.specs.Prelude.{◌≡◌, ℕ, Bool, List, [], Option, IsTrue}
-use Rattle.carp_base.specs.Problem.{Problem, IsValid}
+use Rattle.carp_base.specs.Problem.{Problem}
 use Rattle.plan_model.specs.Plans.{IsLawful}
 use Rattle.plan_model.specs.declared.step.Step.{Step}
 use Rattle.dat_text.specs.Text.{IsTextOf}
@@ -10,10 +10,10 @@ use Rattle.cert_lines.specs.Texts as certificates
 use Rattle.cert_format.specs.Certs.{certificate_in}
 use Rattle.cert_format.specs.Good.{IsGood, IsProof, with_counts}
 use Rattle.cert_format.specs.declared.cert.Cert.{Cert}
-use Rattle.command_words.specs.Commands.{Command, Solve, Check, Sheet, Make, Drill, Upgrade, Postman, Fleet, Edit, instance_at, certificate_at}
+use Rattle.command_words.specs.Commands.{Command, Source, Solve, Check, Sheet, Make, Drill, Upgrade, Postman, Fleet, Edit, instance_at, certificate_at}
 use Rattle.postman.specs.Rounds.{IsShownRound}
 use Rattle.command_words.specs.Laws.{HasBudget}
-use Rattle.command_files.specs.Files.{Holds}
+use Rattle.command_files.specs.Files.{HeldIn, OfSomeBytes}
 use Rattle.edit_files.specs.Edited.{IsEdited, IsEditedFrom}
 use Rattle.command_jobs.specs.declared.job.Job.{Job}
 use Rattle.command_jobs.specs.declared.job.Job.TheVariants as jobs
@@ -43,68 +43,54 @@ IsSoundJob (jobs.Postman laid) = IsShownRound laid.inst laid.round.walk laid.rou
 IsSoundJob (jobs.Fleet inst turns) = HasBudget (Fleet [] turns)
 IsSoundJob (jobs.Edit read edited carried) = IsEdited read
 
+-- What follows is said for each way of reading files (`Reads`): of the bytes that their names hold, or of some bytes.
+
 -- The two files are the texts of an instance and of a certificate that is good for it: its plan is lawful and costs what is stated, and no
 -- lawful plan costs less than its bound.
-pub record AreCertified (file cert : List ℕ) (contents : List ℕ → Option (List ℕ)) (instance : Problem) (certificate : Certificate) : Type 0 where
-  pub read : Holds (instance_at file) contents (λ bytes. IsTextOf bytes instance)
-  pub certified : Holds (certificate_at cert) contents (λ bytes. certificates.IsTextOf bytes certificate)
+pub record AreCertified (Reads : Source → (List ℕ → Type 0) → Type 0) (file cert : List ℕ) (instance : Problem) (certificate : Certificate) : Type 0 where
+  pub read : Reads (instance_at file) (λ bytes. IsTextOf bytes instance)
+  pub certified : Reads (certificate_at cert) (λ bytes. certificates.IsTextOf bytes certificate)
   pub good : IsGood instance certificate
   pub proof : IsProof instance certificate
 
 -- the certificate that was checked is of this cost and this bound
-pub record WasChecked (file cert : List ℕ) (contents : List ℕ → Option (List ℕ)) (cost bound : ℕ) : Type 0 where
+pub record WasChecked (Reads : Source → (List ℕ → Type 0) → Type 0) (file cert : List ℕ) (cost bound : ℕ) : Type 0 where
   pub instance : Problem
   pub certificate : Certificate
-  pub certified : AreCertified file cert contents instance certificate
+  pub certified : AreCertified Reads file cert instance certificate
   pub cost_is : cost ≡ certificate.cost
   pub bound_is : bound ≡ certificate.bound
-
--- They are the cost and the bound of a certificate that is good for an instance, whatever is told: its plan is lawful and costs that, and no
--- lawful plan costs less than its bound.
-pub record AreProved (cost bound : ℕ) : Type 0 where
-  pub instance : Problem
-  pub valid : IsValid instance
-  pub certificate : Certificate
-  pub good : IsGood instance certificate
-  pub proof : IsProof instance certificate
-  pub cost_is : cost ≡ certificate.cost
-  pub bound_is : bound ≡ certificate.bound
-
--- what a job that solves nothing and keeps nothing says is proved
-abbrev pub IsProvedJob : Job → Type 0
-IsProvedJob (jobs.Check cost bound) = AreProved cost bound
-IsProvedJob _ = Unit {0}
 
 -- this is the instance, and the plan of the certificate
-pub record HasPlan (file cert : List ℕ) (contents : List ℕ → Option (List ℕ)) (instance : Problem) (plan : List (List Step)) : Type 0 where
+pub record HasPlan (Reads : Source → (List ℕ → Type 0) → Type 0) (file cert : List ℕ) (instance : Problem) (plan : List (List Step)) : Type 0 where
   pub certificate : Certificate
-  pub certified : AreCertified file cert contents instance certificate
+  pub certified : AreCertified Reads file cert instance certificate
   pub plan_is : plan ≡ certificate.plan
 
 -- this is the certificate with the numbers of the instance, for which it is good too
-pub record WasRenewed (file cert : List ℕ) (contents : List ℕ → Option (List ℕ)) (renewed : Cert) : Type 0 where
+pub record WasRenewed (Reads : Source → (List ℕ → Type 0) → Type 0) (file cert : List ℕ) (renewed : Cert) : Type 0 where
   pub instance : Problem
   pub certificate : Certificate
-  pub certified : AreCertified file cert contents instance certificate
+  pub certified : AreCertified Reads file cert instance certificate
   pub renewed_is : certificate_in renewed ≡ with_counts instance certificate
   pub still_good : IsGood instance (with_counts instance certificate)
 
--- what was read for the job is what the files of the command hold
-abbrev pub WasRead : Command → (List ℕ → Option (List ℕ)) → Job → Type 0
-WasRead (Solve file cert turns seed) contents (jobs.Solve inst name asked drawn) = Holds (instance_at file) contents (λ bytes. IsTextOf bytes inst)
-WasRead (Check file cert) contents (jobs.Check cost bound) = WasChecked file cert contents cost bound
-WasRead (Sheet file cert) contents (jobs.Sheet inst plan) = HasPlan file cert contents inst plan
-WasRead (Make file seed) contents (jobs.Make name drawn) = Unit {0}
-WasRead (Drill turns seed) contents (jobs.Drill asked drawn) = Unit {0}
-WasRead (Upgrade file cert renewed) contents (jobs.Upgrade c name) = WasRenewed file cert contents c
-WasRead (Postman file) contents (jobs.Postman laid) = Holds (instance_at file) contents (λ bytes. IsTextOf bytes laid.inst)
-WasRead (Fleet file turns) contents (jobs.Fleet inst asked) = Holds (instance_at file) contents (λ bytes. IsTextOf bytes inst)
-WasRead (Edit file cert edits edited carried) contents (jobs.Edit read first second) = IsEditedFrom file cert edits contents read
-WasRead _ contents _ = ⊥
+-- what was read for the job is what the files of the command gave
+abbrev pub WasRead : (Source → (List ℕ → Type 0) → Type 0) → Command → Job → Type 0
+WasRead Reads (Solve file cert turns seed) (jobs.Solve inst name asked drawn) = Reads (instance_at file) (λ bytes. IsTextOf bytes inst)
+WasRead Reads (Check file cert) (jobs.Check cost bound) = WasChecked Reads file cert cost bound
+WasRead Reads (Sheet file cert) (jobs.Sheet inst plan) = HasPlan Reads file cert inst plan
+WasRead Reads (Make file seed) (jobs.Make name drawn) = Unit {0}
+WasRead Reads (Drill turns seed) (jobs.Drill asked drawn) = Unit {0}
+WasRead Reads (Upgrade file cert renewed) (jobs.Upgrade c name) = WasRenewed Reads file cert c
+WasRead Reads (Postman file) (jobs.Postman laid) = Reads (instance_at file) (λ bytes. IsTextOf bytes laid.inst)
+WasRead Reads (Fleet file turns) (jobs.Fleet inst asked) = Reads (instance_at file) (λ bytes. IsTextOf bytes inst)
+WasRead Reads (Edit file cert edits edited carried) (jobs.Edit read first second) = IsEditedFrom file cert edits Reads read
+WasRead Reads _ _ = ⊥
 
--- the job of a command; `held` says whether contents are told
+-- The job of a command: it rests on some bytes, whether or not contents are told, and on those that the names hold where contents are told (`held`).
 pub record IsJobOf (held : Bool) (c : Command) (contents : List ℕ → Option (List ℕ)) (job : Job) : Type 0 where
   pub is_for : IsFor c job
   pub sound : IsSoundJob job
-  pub proved : IsProvedJob job
-  pub was_read : IsTrue held → WasRead c contents job
+  pub founded : WasRead OfSomeBytes c job
+  pub was_read : IsTrue held → WasRead (HeldIn contents) c job

@@ -5,12 +5,12 @@ use Rattle.std.specs.declared.alloc.Global.{Global}
 use Rattle.std.specs.declared.vec.Vec.{Vec}
 use Rattle.carp_base.specs.declared.fail.Fail.{Fail}
 use Rattle.carp_base.specs.declared.fail.Fail.TheVariants.{Refused, Memory as NoMemory}
-use Rattle.carp_outside.specs.Causes.{RoseBy}
+use Rattle.carp_outside.specs.Causes.{Rose, RoseBy}
 use Rattle.command_words.specs.Commands.{Source}
-use Rattle.command_files.specs.Files.{HasLimit, Holds, IsBadFile, RoseAtSome}
-use Rattle.command_files.specs.Reads.{AreBytes, EachIsGood, IsFileRead, IsOfBytes, IsParsed, IsRefusal, IsTried, NoneIsBad}
+use Rattle.command_files.specs.Files.{HasLimit, HeldIn, Holds, IsBadFile, RoseAtSome}
+use Rattle.command_files.specs.Reads.{AreBytes, EachIsGood, IsFileRead, IsOfFile, IsOfNone, IsParsed, IsTried, NoneIsBad}
 use Rattle.command_files.specs.declared.status.Status.{Status}
-use Rattle.command_files.specs.declared.status.Status.TheVariants.{Proven, Gap, Accepted, Done, Rejected, BadUsage, BadInstance, BadCertificate, ReadFault, WriteFault, Memory, TooLong, NotJoined, BadEdit}
+use Rattle.command_files.specs.declared.status.Status.TheVariants.{ReadFault, TooLong}
 
 pub of_some : {X : Type 0} {P Q : X → Type 0} (o : Option X) → IsSomeAnd o P → ((x : X) → P x → Q x) → IsSomeAnd o Q
 of_some None none f = none
@@ -45,28 +45,14 @@ pub out : {X Y : Type 0} {P : Type 0} {f : Fail Status} → IsOk (failed X f) �
 out (inl none) = cc
 out (inr e) = inr (again e)
 
-refuses : (status : Status) → IsOfBytes status → IsRefusal status
-refuses (BadInstance fault) is = tt
-refuses (BadCertificate fault) is = tt
-refuses (Rejected reason) is = tt
-refuses (NotJoined edge) is = tt
-refuses (BadEdit fault) is = tt
-refuses ReadFault is = tt
-refuses (TooLong limit) is = tt
-refuses Proven is = is
-refuses Gap is = is
-refuses Accepted is = is
-refuses Done is = is
-refuses BadUsage is = is
-refuses WriteFault is = is
-refuses Memory is = is
-
 -- what is made of bytes reads no file
-pub tried_none : {X : Type 0} {held : Bool} {bytes : List ℕ} {l : List ℕ → ℕ} {g : ℕ} {Is : List ℕ → X → Type 0} {Bad : List ℕ → Status → Type 0} {Good : List ℕ → Type 0} (r : Result X (Fail Status))
-    → IsParsed bytes Is Bad Good r → IsTried held [] l l g g (Bad bytes) (Good bytes) r
-tried_none r parsed = record {
-  refusal = λ status e. refuses status (parsed.refusal status e);
+pub tried_none : {X : Type 0} {held : Bool} {bytes : List ℕ} {l : List ℕ → ℕ} {g : ℕ} {Refuses : Status → Type 0} {Is : List ℕ → X → Type 0} {Bad : List ℕ → Status → Type 0} {Good : List ℕ → Type 0}
+    → ((status : Status) → Bad bytes status → Refuses status) → (r : Result X (Fail Status))
+    → IsParsed bytes Is Bad Good r → IsTried held [] l l g g Refuses ⊥ (Bad bytes) (Good bytes) r
+tried_none kind r parsed = record {
+  refusal = λ status e. kind status (parsed.refused status e);
   read = λ e. parsed.refusal ReadFault e;
+  order = λ told e. absurd (parsed.refusal ReadFault e);
   too_long = λ limit e. absurd (parsed.refusal (TooLong limit) e);
   refused = λ told status e. inr (parsed.refused status e);
   bad = λ told status bad no. parsed.bad status bad;
@@ -78,18 +64,35 @@ pub parsed_of : {X : Type 0} {b c : List ℕ} {Is : List ℕ → X → Type 0} {
     → b ≡ c → IsParsed b Is Bad Good r → IsParsed c Is Bad Good r
 parsed_of {Is = Is} {Bad = Bad} {Good = Good} {r = r} same parsed = subst (λ (x : List ℕ). IsParsed x Is Bad Good r) same parsed
 
--- by equal contents
-pub same_tried : {X : Type 0} {held : Bool} {sources : List Source} {c d : List ℕ → Option (List ℕ)} {lb ln : List ℕ → ℕ} {gb gn : ℕ}
-    (Bad : (List ℕ → Option (List ℕ)) → Status → Type 0) (Good : (List ℕ → Option (List ℕ)) → Type 0) (r : Result X (Fail Status)) → (IsTrue held → c ≡ d)
-    → IsTried held sources lb ln gb gn (Bad c) (Good c) r → IsTried held sources lb ln gb gn (Bad d) (Good d) r
-same_tried Bad Good r same tried = record {
+-- by equal contents, and where more files may be unread
+pub same_tried : {X : Type 0} {held : Bool} {sources : List Source} {c d : List ℕ → Option (List ℕ)} {lb ln : List ℕ → ℕ} {gb gn : ℕ} {Refuses : Status → Type 0} {U V : Type 0}
+    (Bad : (List ℕ → Option (List ℕ)) → Status → Type 0) (Good : (List ℕ → Option (List ℕ)) → Type 0) (r : Result X (Fail Status)) → (IsTrue held → c ≡ d) → (IsTrue held → U → V)
+    → IsTried held sources lb ln gb gn Refuses U (Bad c) (Good c) r → IsTried held sources lb ln gb gn Refuses V (Bad d) (Good d) r
+same_tried Bad Good r same more tried = record {
   refusal = tried.refusal;
   read = tried.read;
+  order = λ told e. more told (tried.order told e);
   too_long = tried.too_long;
   refused = λ told status e. subst (λ x. (status ≡ ReadFault) ⊎ Bad x status) (same told) (tried.refused told status e);
-  bad = λ told status bad no. tried.bad told status (subst (λ x. Bad x status) (sym (same told)) bad) no;
-  good = λ told good no. tried.good told (subst Good (sym (same told)) good) no;
+  bad = λ told status bad no. tried.bad told status (subst (λ x. Bad x status) (sym (same told)) bad) (λ unread. no (more told unread));
+  good = λ told good no. tried.good told (subst Good (sym (same told)) good) (λ unread. no (more told unread));
 }
+
+-- of one file alone
+pub tried_alone : {X : Type 0} {held : Bool} {sources : List Source} {lb ln : List ℕ → ℕ} {gb gn : ℕ} {Refuses : Status → Type 0} {U H : Type 0} {Bad : Status → Type 0} {Good : Type 0} (r : Result X (Fail Status))
+    → IsTried held sources lb ln gb gn Refuses (U ⊎ (H × ⊥)) Bad Good r → IsTried held sources lb ln gb gn Refuses U Bad Good r
+tried_alone {U = U} {H = H} r tried = record {
+  refusal = tried.refusal;
+  read = tried.read;
+  order = λ told e. only (tried.order told e);
+  too_long = tried.too_long;
+  refused = tried.refused;
+  bad = λ told status bad no. tried.bad told status bad (λ unread. no (only unread));
+  good = λ told good no. tried.good told good (λ unread. no (only unread));
+} where
+  only : U ⊎ (H × ⊥) → U
+  only (inl unread) = unread
+  only (inr none) = absurd none.1
 
 -- counts that rose later, or until earlier, rose
 rose_since : (n before mid now : ℕ) → before ≤ mid → RoseBy n mid now → RoseBy n before now
@@ -107,21 +110,19 @@ at_first : (source : Source) (sources : List Source) (before now : List ℕ → 
 at_first source sources before now (inl rose) = inl rose
 at_first source sources before now (inr none) = absurd none
 
-at_first_until : (source : Source) (sources : List Source) (before mid now : List ℕ → ℕ) → ((name : List ℕ) → mid name ≤ now name) → RoseAtSome (source ∷ []) before mid → RoseAtSome (source ∷ sources) before now
-at_first_until source sources before mid now later (inl rose) = inl (rose_until 1 (before source.name) (mid source.name) (now source.name) (later source.name) rose)
-at_first_until source sources before mid now later (inr none) = absurd none
-
 limited : (limit g h : ℕ) (source : Source) (sources : List Source) → HasLimit limit (source ∷ []) × RoseBy (limit + 1) g h → HasLimit limit (source ∷ sources) × RoseBy (limit + 1) g h
 limited limit g h source sources (inl is, rose) = (inl is, rose)
 limited limit g h source sources (inr none, rose) = absurd none
 
 -- the first of some files is not to be had
-pub first_stops : {X : Type 0} {held : Bool} {source : Source} {sources : List Source} {contents : List ℕ → Option (List ℕ)} {lb ln : List ℕ → ℕ} {gb gn : ℕ}
-    (Bad : List ℕ → Status → Type 0) (Good : List ℕ → Type 0) (f : Fail Status)
-    → IsFileRead held source contents lb ln gb gn AreBytes NoneIsBad EachIsGood (failed (Vec ℕ Global) f)
-    → IsTried held (source ∷ sources) lb ln gb gn (IsBadFile Bad source contents) (Holds source contents Good) (failed X f)
-first_stops {source = source} {sources = sources} {contents = contents} {lb = lb} {ln = ln} {gb = gb} {gn = gn} Bad Good f first = record {
-  refusal = λ status e. first.tried.refusal status (again e);
+pub first_stops : {X : Type 0} {held : Bool} {source : Source} {sources : List Source} {contents : List ℕ → Option (List ℕ)} {lb ln : List ℕ → ℕ} {gb gn : ℕ} {Refuses : Status → Type 0} {Later : Type 0}
+    (Bad : List ℕ → Status → Type 0) (Good : List ℕ → Type 0) → ((status : Status) → IsOfFile status → Refuses status) → (f : Fail Status)
+    → IsFileRead held source contents lb ln gb gn IsOfNone AreBytes NoneIsBad EachIsGood (failed (Vec ℕ Global) f)
+    → IsTried held (source ∷ sources) lb ln gb gn Refuses (Rose (lb source.name) (ln source.name) ⊎ Later)
+    (IsBadFile Bad source contents) (Holds source contents Good) (failed X f)
+first_stops {source = source} {sources = sources} {contents = contents} {lb = lb} {ln = ln} {gb = gb} {gn = gn} {Refuses = Refuses} Bad Good kind f first = record {
+  refusal = λ status e. of_file status (first.tried.refusal status (again e));
+  order = λ told e. inl (first.tried.order told (again e));
   read = λ e. at_first source sources lb ln (first.tried.read (again e));
   too_long = λ limit e. limited limit gb gn source sources (first.tried.too_long limit (again e));
   refused = λ told status e. elim (first.tried.refused told status (again e)) [
@@ -130,21 +131,31 @@ first_stops {source = source} {sources = sources} {contents = contents} {lb = lb
     | inr (inr none) ↦ absurd (of_both (contents source.name) none none (λ bytes held more. held.1))
   ];
   bad = λ told status bad no. elim bad [
-    | inl long ↦ moved (first.tried.bad told status (inl long) (λ rose. no (at_first source sources lb ln rose)))
-    | inr of ↦ out (first.tried.good told (of_some (contents source.name) of (λ bytes held. (held.0, tt))) (λ rose. no (at_first source sources lb ln rose)))
+    | inl long ↦ moved (first.tried.bad told status (inl long) (λ rose. no (inl rose)))
+    | inr of ↦ out (first.tried.good told (of_some (contents source.name) of (λ bytes held. (held.0, tt))) (λ rose. no (inl rose)))
   ];
-  good = λ told good no. out (first.tried.good told (of_some (contents source.name) good (λ bytes held. (held.0, tt))) (λ rose. no (at_first source sources lb ln rose)));
-}
+  good = λ told good no. out (first.tried.good told (of_some (contents source.name) good (λ bytes held. (held.0, tt))) (λ rose. no (inl rose)));
+} where
+  of_file : (status : Status) → IsOfFile status ⊎ ⊥ → Refuses status
+  of_file status (inl is) = kind status is
+  of_file status (inr none) = absurd none
+
+-- a file that was read is held
+held_here : {held : Bool} {source : Source} {contents : List ℕ → Option (List ℕ)} {lb ln : List ℕ → ℕ} {gb gn : ℕ} (v : Vec ℕ Global)
+    → IsFileRead held source contents lb ln gb gn IsOfNone AreBytes NoneIsBad EachIsGood (made (Vec ℕ Global) v) → IsTrue held → Holds source contents EachIsGood
+held_here {source = source} {contents = contents} v file told = of_some (contents source.name) (file.made told) (λ bytes own. (own.0, tt))
 
 -- the first of some files is read, and the others decide
-pub others_decide : {X : Type 0} {held : Bool} {source : Source} {sources : List Source} {contents : List ℕ → Option (List ℕ)} {lb lm ln : List ℕ → ℕ} {gb gm gn : ℕ}
+pub others_decide : {X : Type 0} {held : Bool} {source : Source} {sources : List Source} {contents : List ℕ → Option (List ℕ)} {lb lm ln : List ℕ → ℕ} {gb gm gn : ℕ} {Refuses : Status → Type 0} {Later : Type 0}
     (Bad : List ℕ → Status → Type 0) (Good : List ℕ → Type 0) (v : Vec ℕ Global) (r : Result X (Fail Status))
-    → IsFileRead held source contents lb lm gb gm AreBytes NoneIsBad EachIsGood (made (Vec ℕ Global) v)
-    → IsTried held sources lm ln gm gn (Bad v.items) (Good v.items) r
+    → IsFileRead held source contents lb lm gb gm IsOfNone AreBytes NoneIsBad EachIsGood (made (Vec ℕ Global) v)
+    → IsTried held sources lm ln gm gn Refuses Later (Bad v.items) (Good v.items) r
     → ((name : List ℕ) → lb name ≤ lm name) → ((name : List ℕ) → lm name ≤ ln name) → gb ≤ gm
-    → IsTried held (source ∷ sources) lb ln gb gn (IsBadFile Bad source contents) (Holds source contents Good) r
+    → IsTried held (source ∷ sources) lb ln gb gn Refuses (Rose (lb source.name) (ln source.name) ⊎ (Holds source contents EachIsGood × Later))
+    (IsBadFile Bad source contents) (Holds source contents Good) r
 others_decide {X} {held} {source} {sources} {contents} {lb} {lm} {ln} {gb} {gm} {gn} Bad Good v r first others risen rises given = record {
   refusal = others.refusal;
+  order = λ told e. inr (held_here v first told, others.order told e);
   read = λ e. inr (some_since sources lb lm ln risen (others.read e));
   too_long = λ limit e. let found = others.too_long limit e in (inr found.0, rose_since (limit + 1) gb gm gn given found.1);
   refused = λ told status e. elim (others.refused told status e) [
@@ -152,18 +163,18 @@ others_decide {X} {held} {source} {sources} {contents} {lb} {lm} {ln} {gb} {gm} 
     | inr bad ↦ inr (inr (of_some (contents source.name) (first.made told) (λ bytes own. (own.0, subst (λ b. Bad b status) own.1 bad))))
   ];
   bad = λ told status bad no. elim bad [
-    | inl long ↦ elim (first.tried.bad told status (inl long) (λ rose. no (at_first_until source sources lb lm ln rises rose))) [ inl e ↦ cc | inr e ↦ cc ]
-    | inr of ↦ of_both (contents source.name) (first.made told) of (λ bytes own held. others.bad told status (subst (λ b. Bad b status) (sym own.1) held.1) (λ rose. no (inr (some_since sources lb lm ln risen rose))))
+    | inl long ↦ elim (first.tried.bad told status (inl long) (λ rose. no (inl (rose_until 1 (lb source.name) (lm source.name) (ln source.name) (rises source.name) rose)))) [ inl e ↦ cc | inr e ↦ cc ]
+    | inr of ↦ of_both (contents source.name) (first.made told) of (λ bytes own held. others.bad told status (subst (λ b. Bad b status) (sym own.1) held.1) (λ unread. no (inr (held_here v first told, unread))))
   ];
-  good = λ told good no. of_both (contents source.name) (first.made told) good (λ bytes own held. others.good told (subst Good (sym own.1) held.1) (λ rose. no (inr (some_since sources lb lm ln risen rose))));
+  good = λ told good no. of_both (contents source.name) (first.made told) good (λ bytes own held. others.good told (subst Good (sym own.1) held.1) (λ unread. no (inr (held_here v first told, unread))));
 }
 
 -- what is made of the bytes is made of the file that holds them
 pub made_of : {X : Type 0} {held : Bool} {source : Source} {contents mid : List ℕ → Option (List ℕ)} {lb lm : List ℕ → ℕ} {gb gm : ℕ}
     (P : (List ℕ → Option (List ℕ)) → List ℕ → X → Type 0) (v : Vec ℕ Global) (r : Result X (Fail Status))
-    → IsFileRead held source contents lb lm gb gm AreBytes NoneIsBad EachIsGood (made (Vec ℕ Global) v) → IsTrue held → mid ≡ contents
-    → IfOk r (P mid v.items) → IfOk r (λ x. Holds source contents (λ bytes. P contents bytes x))
+    → IsFileRead held source contents lb lm gb gm IsOfNone AreBytes NoneIsBad EachIsGood (made (Vec ℕ Global) v) → IsTrue held → mid ≡ contents
+    → IfOk r (P mid v.items) → IfOk r (λ x. HeldIn contents source (λ bytes. P contents bytes x))
 made_of {X = X} {source = source} {contents = contents} P v r first told same is = by r (subst (λ held. IfOk r (P held v.items)) same is) where
-  by : (r : Result X (Fail Status)) → IfOk r (P contents v.items) → IfOk r (λ x. Holds source contents (λ bytes. P contents bytes x))
+  by : (r : Result X (Fail Status)) → IfOk r (P contents v.items) → IfOk r (λ x. HeldIn contents source (λ bytes. P contents bytes x))
   by (Ok x) is = of_some (contents source.name) (first.made told) (λ bytes own. (own.0, subst (λ b. P contents b x) own.1 is))
   by (Err e) is = tt

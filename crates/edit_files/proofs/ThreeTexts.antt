@@ -20,15 +20,29 @@ use Rattle.instance_edits.specs.declared.edit.Edit.{Edit}
 use Rattle.instance_edits.specs.declared.edit.EditFault.{EditFault}
 use Rattle.instance_edits.specs.declared.edit.EditFault.TheVariants as faults
 use Rattle.command_files.specs.Files.{IsBadCertificate, IsBadInstance, IsGoodText, IsInstance}
-use Rattle.command_files.specs.Reads.{IsGoodCert, IsOfBytes, IsParsed}
+use Rattle.command_files.specs.Reads.{IsGoodCert, IsOfBytes, IsOfCertificate, IsOfInstance, IsParsed}
 use Rattle.command_files.specs.declared.status.Status.{Status}
 use Rattle.command_files.specs.declared.status.Status.TheVariants.{BadEdit}
-use Rattle.edit_files.specs.Edited.{AreBadTexts, AreGoodTexts, IsBadEdits, IsEditedBy, IsGoodEdits}
+use Rattle.edit_files.specs.Edited.{AreBadTexts, AreGoodTexts, IsBadEdits, IsEditedBy, IsGoodEdits, IsOfEdits, IsOfTexts}
 use Rattle.edit_files.specs.Stages.{IsChangedBy, IsReadCert, IsReadInstance}
 use Rattle.edit_files.specs.declared.edited.Edited.{Edited}
 use Rattle.edit_files.specs.declared.texts.Changed.{Changed}
 use Rattle.edit_files.proofs.FirstFaults.{one_first}
 use Rattle.edit_files.proofs.Several.{again, failed, made, moved, out}
+
+-- by which answers texts are refused
+of_edits : (p : Problem) (bytes : List ℕ) (status : Status) → IsBadEdits p bytes status → IsOfEdits status
+of_edits p bytes status (inl line) = subst IsOfEdits (sym line.named) tt
+of_edits p bytes status (inr refused) = subst IsOfEdits (sym refused.named) tt
+
+of_certificate : (p : Problem) (bytes : List ℕ) (status : Status) → IsBadCertificate p bytes status → IsOfCertificate status
+of_certificate p bytes status (inl bad) = subst IsOfCertificate (sym bad.named) tt
+of_certificate p bytes status (inr rejected) = subst IsOfCertificate (sym rejected.named) tt
+
+pub of_texts : (file cert edits : List ℕ) (status : Status) → AreBadTexts file cert edits status → IsOfTexts status
+of_texts file cert edits status (inl first) = inl (subst IsOfInstance (sym first.named) tt)
+of_texts file cert edits status (inr (inl second)) = inr (inl (of_certificate second.instance cert status second.bad))
+of_texts file cert edits status (inr (inr third)) = inr (inr (of_edits third.instance edits status third.bad))
 
 -- a valid instance has no first fault
 no_first : (p : Problem) (edits : List Edit) (fault : InstanceFault) → ValidWhereNoFault → IsValid (edited p edits) → ¬ (IsFirstFault (edited p edits) fault)

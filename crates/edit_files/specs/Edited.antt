@@ -15,8 +15,9 @@ use Rattle.instance_edits.specs.declared.edit.EditFault.TheVariants.{Refused}
 use Rattle.instance_edits.specs.Edits.{AreKnown, edited}
 use Rattle.instance_edits.specs.Texts.{IsEditsText, IsFirstBad}
 use Rattle.command_words.specs.Commands.{instance_at, certificate_at, edits_at}
+use Rattle.command_words.specs.Commands.{Source}
 use Rattle.command_files.specs.Files.{Holds, IsBadInstance, IsGoodText, IsBadCertificate, IsBadFile}
-use Rattle.command_files.specs.Reads.{EachIsGood}
+use Rattle.command_files.specs.Reads.{EachIsGood, IsOfCertificate, IsOfInstance}
 use Rattle.command_files.specs.declared.status.Status.{Status}
 use Rattle.command_files.specs.declared.status.Status.TheVariants.{BadEdit}
 use Rattle.edit_files.specs.declared.edited.Edited.{Edited}
@@ -68,6 +69,15 @@ pub record AreGoodTexts (file cert edits : List ℕ) : Type 0 where
   pub good : IsGoodText instance cert
   pub edits_good : IsGoodEdits instance edits
 
+-- an answer by which edits are refused
+abbrev pub IsOfEdits : Status → Type 0
+IsOfEdits (BadEdit fault) = Unit {0}
+IsOfEdits status = ⊥
+
+-- an answer by which one of three texts is refused: of an instance, of a certificate, or of edits
+abbrev pub IsOfTexts : Status → Type 0
+IsOfTexts status = IsOfInstance status ⊎ (IsOfCertificate status ⊎ IsOfEdits status)
+
 -- each of three files in turn is refused as too long; all three are read before what they hold is looked at
 abbrev pub AreBadFiles : (file cert edits : List ℕ) → (List ℕ → Option (List ℕ)) → Status → Type 0
 AreBadFiles file cert edits contents status =
@@ -99,7 +109,7 @@ pub record IsEditedBy (file cert edits : List ℕ) (x : Edited) : Type 0 where
   pub is : IsEdited x
   pub valid : IsValid x.after
 
--- and these are the texts that three files hold
-abbrev pub IsEditedFrom : (file cert edits : List ℕ) → (List ℕ → Option (List ℕ)) → Edited → Type 0
-IsEditedFrom file cert edits contents x =
-    Holds (instance_at file) contents (λ a. Holds (certificate_at cert) contents (λ b. Holds (edits_at edits) contents (λ c. IsEditedBy a b c x)))
+-- and these are the texts of three files, which are read in this way
+abbrev pub IsEditedFrom : (file cert edits : List ℕ) → (Source → (List ℕ → Type 0) → Type 0) → Edited → Type 0
+IsEditedFrom file cert edits Reads x =
+    Reads (instance_at file) (λ a. Reads (certificate_at cert) (λ b. Reads (edits_at edits) (λ c. IsEditedBy a b c x)))

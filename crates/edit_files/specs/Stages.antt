@@ -5,7 +5,7 @@ use Rattle.dat_text.specs.Text.{IsTextOf}
 use Rattle.cert_format.specs.declared.cert.Cert.{Cert}
 use Rattle.instance_edits.specs.Edits.{edited}
 use Rattle.instance_edits.specs.Texts.{IsEditsText}
-use Rattle.command_words.specs.Commands.{certificate_at, edits_at}
+use Rattle.command_words.specs.Commands.{Source, certificate_at, edits_at}
 use Rattle.command_files.specs.Files.{Holds, IsBadCertificate, IsBadFile, IsBadInstance, IsGoodText, IsInstance}
 use Rattle.command_files.specs.Reads.{IsGoodCert, IsParsed}
 use Rattle.command_files.specs.declared.status.Status.{Status}
@@ -27,8 +27,8 @@ pub record IsChangedBy (p : Problem) (bytes : List ℕ) (changed : Changed) : Ty
   pub after : changed.after ≡ edited p changed.edits.items
 
 -- with two texts at hand: what the third file makes of them, how it is refused, and when it is not
-abbrev pub AreOfThird : (file cert edits : List ℕ) → (List ℕ → Option (List ℕ)) → Edited → Type 0
-AreOfThird file cert edits contents x = Holds (edits_at edits) contents (λ c. IsEditedBy file cert c x)
+abbrev pub AreOfThird : (file cert edits : List ℕ) → (Source → (List ℕ → Type 0) → Type 0) → Edited → Type 0
+AreOfThird file cert edits Reads x = Reads (edits_at edits) (λ c. IsEditedBy file cert c x)
 
 abbrev pub IsBadThird : (file cert edits : List ℕ) → (List ℕ → Option (List ℕ)) → Status → Type 0
 IsBadThird file cert edits contents = IsBadFile (AreBadTexts file cert) (edits_at edits) contents
@@ -37,8 +37,8 @@ abbrev pub IsGoodThird : (file cert edits : List ℕ) → (List ℕ → Option (
 IsGoodThird file cert edits contents = Holds (edits_at edits) contents (AreGoodTexts file cert)
 
 -- with one text at hand: the same of the second file and the third
-abbrev pub AreOfTwo : (file cert edits : List ℕ) → (List ℕ → Option (List ℕ)) → Edited → Type 0
-AreOfTwo file cert edits contents x = Holds (certificate_at cert) contents (λ b. AreOfThird file b edits contents x)
+abbrev pub AreOfTwo : (file cert edits : List ℕ) → (Source → (List ℕ → Type 0) → Type 0) → Edited → Type 0
+AreOfTwo file cert edits Reads x = Reads (certificate_at cert) (λ b. AreOfThird file b edits Reads x)
 
 abbrev pub AreBadTwo : (file cert edits : List ℕ) → (List ℕ → Option (List ℕ)) → Status → Type 0
 AreBadTwo file cert edits contents = IsBadFile (λ b. IsBadThird file b edits contents) (certificate_at cert) contents

@@ -1,12 +1,11 @@
 // Reads the three files of an edit.
-ghost use Rattle.std.specs.Prelude.{◌≡◌, ℕ, ◌≤◌, ◌<◌, ◌^◌, List, length, IfOk, IsErrOf, IsTrue, ◌∷◌, []};
-ghost use Rattle.carp_base.specs.declared.fail.Fail.TheVariants.{Refused};
+ghost use Rattle.std.specs.Prelude.{◌≡◌, ℕ, ◌≤◌, ◌<◌, ◌^◌, ◌⊎◌, List, length, IfOk, IsTrue, ◌∷◌, []};
 ghost use Rattle.carp_outside.specs.Causes.{Rose};
 ghost use Rattle.carp_outside.specs.Told.{SameContents};
 ghost use Rattle.command_words.specs.Commands.{instance_at, certificate_at, edits_at};
-ghost use Rattle.command_files.specs.Reads.{IsTried};
-ghost use Rattle.command_files.specs.declared.status.Status.TheVariants as statuses;
-ghost use Rattle.edit_files.specs.Edited.{AreBadFiles, AreGoodFiles, AreUnread, AreUnreadTwo, IsEdited, IsEditedFrom};
+ghost use Rattle.command_files.specs.Files.{HeldIn, OfSomeBytes};
+ghost use Rattle.command_files.specs.Reads.{IsOfFile, IsTried};
+ghost use Rattle.edit_files.specs.Edited.{AreBadFiles, AreGoodFiles, AreUnread, AreUnreadTwo, IsEdited, IsEditedFrom, IsOfTexts};
 ghost use Rattle.edit_files.specs.Stages.{AreOfThird, AreOfTwo, IsBadThird, IsGoodThird, AreBadTwo, AreGoodTwo};
 
 use crate::edited::Edited;
@@ -33,10 +32,10 @@ pub fn read_edited<H: Shelf>(
     cert: &str,
     edits: &str,
 ) -> Result<Edited, Fail<Status>>
-    ensures made { IsTrue H.tells → IfOk result (IsEditedFrom file.now cert.now edits.now (H.contents shelf.old)) }
+    ensures made { IsTrue H.tells → IfOk result (IsEditedFrom file.now cert.now edits.now (HeldIn (H.contents shelf.old))) }
+    ensures some { IfOk result (IsEditedFrom file.now cert.now edits.now OfSomeBytes) }
     ensures sound { IfOk result IsEdited }
-    ensures tried { IsTried H.tells (instance_at file.now ∷ certificate_at cert.now ∷ edits_at edits.now ∷ []) (H.failed_looks shelf.old) (H.failed_looks shelf.new) (H.given shelf.old) (H.given shelf.new) (AreBadFiles file.now cert.now edits.now (H.contents shelf.old)) (AreGoodFiles file.now cert.now edits.now (H.contents shelf.old)) result }
-    ensures order { IsTrue H.tells → IsErrOf result (Refused statuses.ReadFault) → AreUnread file.now cert.now edits.now (H.contents shelf.old) (H.failed_looks shelf.old) (H.failed_looks shelf.new) }
+    ensures tried { IsTried H.tells (instance_at file.now ∷ certificate_at cert.now ∷ edits_at edits.now ∷ []) (H.failed_looks shelf.old) (H.failed_looks shelf.new) (H.given shelf.old) (H.given shelf.new) (λ status. IsOfFile status ⊎ IsOfTexts status) (AreUnread file.now cert.now edits.now (H.contents shelf.old) (H.failed_looks shelf.old) (H.failed_looks shelf.new)) (AreBadFiles file.now cert.now edits.now (H.contents shelf.old)) (AreGoodFiles file.now cert.now edits.now (H.contents shelf.old)) result }
     ensures contents { IsTrue H.tells → SameContents (H.contents shelf.old) (H.contents shelf.new) }
     ensures keeps { H.failed_keeps shelf.new ≡ H.failed_keeps shelf.old }
 {
@@ -55,10 +54,10 @@ fn read_two<H: Shelf>(
     edits: &str,
 ) -> Result<Edited, Fail<Status>>
     requires { length text.items < 2 ^ 32 }
-    ensures made { IsTrue H.tells → IfOk result (AreOfTwo text.items cert.now edits.now (H.contents shelf.old)) }
+    ensures made { IsTrue H.tells → IfOk result (AreOfTwo text.items cert.now edits.now (HeldIn (H.contents shelf.old))) }
+    ensures some { IfOk result (AreOfTwo text.items cert.now edits.now OfSomeBytes) }
     ensures sound { IfOk result IsEdited }
-    ensures tried { IsTried H.tells (certificate_at cert.now ∷ edits_at edits.now ∷ []) (H.failed_looks shelf.old) (H.failed_looks shelf.new) (H.given shelf.old) (H.given shelf.new) (AreBadTwo text.items cert.now edits.now (H.contents shelf.old)) (AreGoodTwo text.items cert.now edits.now (H.contents shelf.old)) result }
-    ensures order { IsTrue H.tells → IsErrOf result (Refused statuses.ReadFault) → AreUnreadTwo cert.now edits.now (H.contents shelf.old) (H.failed_looks shelf.old) (H.failed_looks shelf.new) }
+    ensures tried { IsTried H.tells (certificate_at cert.now ∷ edits_at edits.now ∷ []) (H.failed_looks shelf.old) (H.failed_looks shelf.new) (H.given shelf.old) (H.given shelf.new) (λ status. IsOfFile status ⊎ IsOfTexts status) (AreUnreadTwo cert.now edits.now (H.contents shelf.old) (H.failed_looks shelf.old) (H.failed_looks shelf.new)) (AreBadTwo text.items cert.now edits.now (H.contents shelf.old)) (AreGoodTwo text.items cert.now edits.now (H.contents shelf.old)) result }
     ensures contents { IsTrue H.tells → SameContents (H.contents shelf.old) (H.contents shelf.new) }
     ensures keeps { H.failed_keeps shelf.new ≡ H.failed_keeps shelf.old }
     ensures looks { (other : List ℕ) → H.failed_looks shelf.old other ≤ H.failed_looks shelf.new other }
@@ -78,10 +77,10 @@ fn read_third<H: Shelf>(
     edits: &str,
 ) -> Result<Edited, Fail<Status>>
     requires { length text.items < 2 ^ 32 }
-    ensures made { IsTrue H.tells → IfOk result (AreOfThird text.items cert.items edits.now (H.contents shelf.old)) }
+    ensures made { IsTrue H.tells → IfOk result (AreOfThird text.items cert.items edits.now (HeldIn (H.contents shelf.old))) }
+    ensures some { IfOk result (AreOfThird text.items cert.items edits.now OfSomeBytes) }
     ensures sound { IfOk result IsEdited }
-    ensures tried { IsTried H.tells (edits_at edits.now ∷ []) (H.failed_looks shelf.old) (H.failed_looks shelf.new) (H.given shelf.old) (H.given shelf.new) (IsBadThird text.items cert.items edits.now (H.contents shelf.old)) (IsGoodThird text.items cert.items edits.now (H.contents shelf.old)) result }
-    ensures order { IsErrOf result (Refused statuses.ReadFault) → Rose (H.failed_looks shelf.old edits.now) (H.failed_looks shelf.new edits.now) }
+    ensures tried { IsTried H.tells (edits_at edits.now ∷ []) (H.failed_looks shelf.old) (H.failed_looks shelf.new) (H.given shelf.old) (H.given shelf.new) (λ status. IsOfFile status ⊎ IsOfTexts status) (Rose (H.failed_looks shelf.old edits.now) (H.failed_looks shelf.new edits.now)) (IsBadThird text.items cert.items edits.now (H.contents shelf.old)) (IsGoodThird text.items cert.items edits.now (H.contents shelf.old)) result }
     ensures contents { IsTrue H.tells → SameContents (H.contents shelf.old) (H.contents shelf.new) }
     ensures keeps { H.failed_keeps shelf.new ≡ H.failed_keeps shelf.old }
     ensures looks { (other : List ℕ) → H.failed_looks shelf.old other ≤ H.failed_looks shelf.new other }

@@ -1,8 +1,8 @@
-use Rattle.std.proofs.Common.{◌≡◌, ◌∙◌, ℕ, ◌+◌, ◌%◌, ◌^◌, List, map, All, refl, subst, sym}
+use Rattle.std.proofs.Common.{◌≡◌, ◌∙◌, ℕ, ◌+◌, ◌%◌, ◌^◌, map, refl, subst}
 use Rattle.std.specs.Prelude.{EachIndex, slice_index, IfOk, OnOk, Result, Ok, Err}
 use Rattle.command_words.specs.Forms.{command_in}
 use Rattle.command_works.specs.Works.{work_in}
-use Rattle.carp_cli.proofs.Performed.{asks_alike, by_fault, by_status, job_prepared, refusal_prepared, refused_asks_none}
+use Rattle.carp_cli.proofs.Performed.{asks_alike, by_status, job_prepared, refusal_prepared, refused_asks_none}
 use Rattle.carp_cli.proofs.running.perform.Goals as goal
 
 of_ok : {X E : Type 0} {P Q : X → Type 0} (r : Result X E) → IfOk r P → ((x : X) → P x → Q x) → IfOk r Q
@@ -35,8 +35,7 @@ returns-in-Ok-clause-fouls g c =
 
 pub returns-in-Err-Refused-clause-prepared : goal.returns-in-Err-Refused-clause-prepared
 returns-in-Err-Refused-clause-prepared g c =
-    of_ok c.refuse.result c.refuse.ensures (λ d is. refusal_prepared c.in-Err-Refused.status d.status (work_in d) (by_status c.in-Err-Refused.field-0 c.in-Err-Refused.status c.in-Err-Refused.field-0-is c.in-Err-Refused.ensures.tried)
-    (λ told. by_fault c.in-Err-Refused.field-0 c.in-Err-Refused.status c.in-Err-Refused.field-0-is (c.in-Err-Refused.ensures.order told)) is.0 is.1)
+    of_ok c.refuse.result c.refuse.ensures (λ d is. refusal_prepared c.in-Err-Refused.status d.status (work_in d) (by_status c.in-Err-Refused.field-0 c.in-Err-Refused.status c.in-Err-Refused.field-0-is c.in-Err-Refused.ensures.tried) is.0 is.1)
 
 pub returns-in-Err-Refused-clause-seeds : goal.returns-in-Err-Refused-clause-seeds
 returns-in-Err-Refused-clause-seeds g c =

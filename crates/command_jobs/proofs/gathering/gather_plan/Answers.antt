@@ -1,17 +1,17 @@
-use Rattle.std.proofs.Common.{inl}
 use Rattle.std.proofs.Math.Path.{fun_ext}
-use Rattle.command_jobs.proofs.Gathered.{has_plan, lawful_plan}
-use Rattle.command_jobs.proofs.Pairs.{by_contents, first_stops, second_decides, second_unread, tried_again, tried_made, unread_here}
+use Rattle.command_jobs.proofs.Gathered.{has_plan, lawful_plan, some_plan}
+use Rattle.command_jobs.proofs.Pairs.{by_contents, first_stops, second_decides, tried_again, tried_made}
 use Rattle.command_jobs.proofs.gathering.gather_plan.Goals as goal
 
 pub returns-in-Ok-check_file-clause-job : goal.returns-in-Ok-check_file-clause-job
 returns-in-Ok-check_file-clause-job g c =
     let second = by_contents (λ told. fun_ext (c.in-Ok.ensures.contents told)) c.in-Ok-check_file.ensures.read in
+    let valid = c.in-Ok.ensures.read.some.1.valid in
     record {
       is_for = tt;
       sound = lawful_plan c.in-Ok-check_file.stated c.in-Ok-check_file.ensures.read.some;
-      proved = tt;
-      was_read = λ told. has_plan c.in-Ok.inst c.in-Ok.ensures.read.some.1.valid c.good_is_proof.ensures (c.in-Ok.ensures.read.made told) c.in-Ok-check_file.stated (second.made told);
+      founded = some_plan c.in-Ok.inst valid c.good_is_proof.ensures c.in-Ok.ensures.read.some c.in-Ok-check_file.stated c.in-Ok-check_file.ensures.read.some;
+      was_read = λ told. has_plan c.in-Ok.inst valid c.good_is_proof.ensures (g.H.Shelf.contents c.args.shelf.now) (c.in-Ok.ensures.read.made told) c.in-Ok-check_file.stated (second.made told);
     }
 
 pub returns-in-Ok-check_file-clause-tried : goal.returns-in-Ok-check_file-clause-tried
@@ -27,9 +27,3 @@ returns-in-Ok-clause-tried g c =
 
 pub returns-clause-tried : goal.returns-clause-tried
 returns-clause-tried g c = first_stops c.in-Err.fail c.in-Err.ensures.read
-
-pub returns-in-Ok-clause-order : goal.returns-in-Ok-clause-order
-returns-in-Ok-clause-order g c = λ told e. second_unread c.in-Ok.inst c.in-Err-check_file.fail c.in-Ok.ensures.read c.in-Err-check_file.ensures.read c.in-Ok.ensures.looks told e
-
-pub returns-clause-order : goal.returns-clause-order
-returns-clause-order g c = λ told e. inl (unread_here c.in-Err.fail c.in-Err.ensures.read e)

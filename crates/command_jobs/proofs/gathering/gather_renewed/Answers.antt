@@ -1,7 +1,7 @@
-use Rattle.std.proofs.Common.{inl, refl}
+use Rattle.std.proofs.Common.{refl}
 use Rattle.std.proofs.Math.Path.{fun_ext}
-use Rattle.command_jobs.proofs.Gathered.{spelled_again, was_renewed}
-use Rattle.command_jobs.proofs.Pairs.{by_contents, first_stops, second_decides, second_unread, tried_again, tried_made, unread_here}
+use Rattle.command_jobs.proofs.Gathered.{some_renewed, spelled_again, was_renewed}
+use Rattle.command_jobs.proofs.Pairs.{by_contents, first_stops, second_decides, tried_again, tried_made}
 use Rattle.command_jobs.proofs.gathering.gather_renewed.Goals as goal
 
 pub returns-in-Ok-read_good-clause-job : goal.returns-in-Ok-read_good-clause-job
@@ -11,9 +11,9 @@ returns-in-Ok-read_good-clause-job g c =
     record {
       is_for = refl;
       sound = spelled_again valid c.counts_keep_good.ensures c.in-Ok-read_good.good c.with_counts-cert.result c.with_counts-cert.ensures c.in-Ok-read_good.ensures.read.some;
-      proved = tt;
+      founded = some_renewed c.in-Ok.inst valid c.good_is_proof.ensures c.in-Ok.ensures.read.some c.counts_keep_good.ensures c.in-Ok-read_good.good c.with_counts-cert.result c.with_counts-cert.ensures c.in-Ok-read_good.ensures.read.some;
       was_read = λ told.
-          was_renewed c.in-Ok.inst valid c.good_is_proof.ensures (c.in-Ok.ensures.read.made told) c.counts_keep_good.ensures c.in-Ok-read_good.good c.with_counts-cert.result c.with_counts-cert.ensures (second.made told);
+          was_renewed c.in-Ok.inst valid c.good_is_proof.ensures (g.H.Shelf.contents c.args.shelf.now) (c.in-Ok.ensures.read.made told) c.counts_keep_good.ensures c.in-Ok-read_good.good c.with_counts-cert.result c.with_counts-cert.ensures (second.made told);
     }
 
 pub returns-in-Ok-read_good-clause-tried : goal.returns-in-Ok-read_good-clause-tried
@@ -29,9 +29,3 @@ returns-in-Ok-clause-tried g c =
 
 pub returns-clause-tried : goal.returns-clause-tried
 returns-clause-tried g c = first_stops c.in-Err.fail c.in-Err.ensures.read
-
-pub returns-in-Ok-clause-order : goal.returns-in-Ok-clause-order
-returns-in-Ok-clause-order g c = λ told e. second_unread c.in-Ok.inst c.in-Err-read_good.fail c.in-Ok.ensures.read c.in-Err-read_good.ensures.read c.in-Ok.ensures.looks told e
-
-pub returns-clause-order : goal.returns-clause-order
-returns-clause-order g c = λ told e. inl (unread_here c.in-Err.fail c.in-Err.ensures.read e)
