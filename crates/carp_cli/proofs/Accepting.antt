@@ -2,7 +2,6 @@
 use Rattle.std.proofs.Common.{◌≡◌, ◌≢◌, ℕ, ◌-◌, ◌≤◌, ◌++◌, List, [], ◌∷◌, length, inl, inr, refl, sym, ap, ◌∙◌, subst, Option, Some, codes}
 use Rattle.std.specs.Prelude.{◌⊎◌, IsSomeAnd}
 use Rattle.carp_base.specs.Problem.{Problem, IsValid}
-use Rattle.carp_outside.specs.Causes.{Rose}
 use Rattle.dat_text.specs.DatText.{dat_of}
 use Rattle.dat_text.specs.Laws.{WrittenIsRead, WrittenIsShort}
 use Rattle.dat_text.specs.Text.{IsTextOf}
@@ -13,11 +12,11 @@ use Rattle.cert_format.specs.Good.{IsGood, with_counts}
 use Rattle.instance_edits.specs.Edits.{edited}
 use Rattle.town_maker.specs.Laws.{TownsAreValid}
 use Rattle.town_maker.specs.Towns.{town_of}
-use Rattle.command_words.specs.Commands.{Command, Solve, Check, Make, Upgrade, Edit, instance_at, certificate_at, reads}
-use Rattle.command_files.specs.Files.{Holds, IsInstance, IsGoodText, RoseAtSome}
+use Rattle.command_words.specs.Commands.{Command, Solve, Check, Make, Upgrade, Edit, instance_at, certificate_at}
+use Rattle.command_files.specs.Files.{Holds, IsInstance, IsGoodText}
 use Rattle.command_files.specs.declared.status.Status.{Status}
 use Rattle.command_files.specs.declared.status.Status.TheVariants.{Proven, Gap, Accepted}
-use Rattle.command_jobs.specs.Inputs.{CanBeDone, IsUnread, IsUnreadPair}
+use Rattle.command_jobs.specs.Inputs.{CanBeDone, IsUnread}
 use Rattle.command_works.specs.Texts.{answer_text}
 use Rattle.command_works.specs.Works.{Kept, Work}
 use Rattle.carp_cli.specs.Outside.{Outside, AreKept}
@@ -45,21 +44,10 @@ is_instance file contents p held = held_too (contents file) held (λ bytes is. (
 
 -- What `check` makes of a good pair.
 
--- where a look failed, a file could not be read
-unread_one : (file : List ℕ) (before now : List ℕ → ℕ) → RoseAtSome (instance_at file ∷ []) before now → Rose (before file) (now file)
-unread_one file before now (inl rose) = rose
-unread_one file before now (inr none) = absurd none
-
-unread_two : (file cert : List ℕ) (contents : List ℕ → Option (List ℕ)) (before now : List ℕ → ℕ) → Holds (instance_at file) contents IsInstance → RoseAtSome (reads (Check file cert)) before now →
-    IsUnreadPair file cert contents before now
-unread_two file cert contents before now held (inl rose) = inl rose
-unread_two file cert contents before now held (inr (inl rose)) = inr (held, rose)
-unread_two file cert contents before now held (inr (inr none)) = absurd none
-
--- what can be done is done, where no look failed
-done_or_no_answer : (c : Command) (before now : Outside) (status : Status) → (RoseAtSome (reads c) before.failed_looks now.failed_looks → IsUnread c before.contents before.failed_looks now.failed_looks) →
-    RunLeaves c before now status → CanBeDone c before.contents → ¬ (IsUnread c before.contents before.failed_looks now.failed_looks) → IsDoneStatus c status ⊎ IsNoAnswer status
-done_or_no_answer c before now status unread run can looked = run.done refl c refl can (λ rose. looked (unread rose))
+-- what can be done is done, if no look failed that had to be made
+done_or_no_answer : (c : Command) (before now : Outside) (status : Status) → RunLeaves c before now status → CanBeDone c before.contents →
+    ¬ (IsUnread c before.contents before.failed_looks now.failed_looks) → IsDoneStatus c status ⊎ IsNoAnswer status
+done_or_no_answer c before now status run can looked = run.done (inl refl) c refl can looked
 
 accepted_text : TextIsUnique → (file cert : List ℕ) (c : Certificate) (text : List ℕ) (after later : Outside) (answer : Status) → after.contents cert ≡ Some text → certificates.IsTextOf text c →
     RunLeaves (Check file cert) after later answer → answer ≡ Accepted → later.written ≡ after.written ++ answer_text (codes "accepted\n") c.cost c.bound
@@ -82,9 +70,7 @@ accepted unique short file cert p c text now after later answer held there is go
     subst (λ (o : Option (List ℕ)). IsSomeAnd o (λ bytes. (length bytes ≤ 268435456) × IsGoodText p bytes)) (sym there_still)
     (short text c is, record { certificate = c; text = is; good = good }) in
     record {
-      answered = done_or_no_answer (Check file cert) after later answer
-          (unread_two file cert after.contents after.failed_looks later.failed_looks (is_instance file after.contents p read))
-          checked.run (record { instance = p; read = read; good = second }) checked.looked;
+      answered = done_or_no_answer (Check file cert) after later answer checked.run (record { instance = p; read = read; good = second }) checked.looked;
       wrote = accepted_text unique file cert c text after later answer there_still is checked.run;
     }
 
@@ -156,4 +142,4 @@ made_held read brief towns file seed before now status left done =
 pub made_solved : WrittenIsRead → WrittenIsShort → TownsAreValid → MadeIsSolved
 made_solved read brief towns file cert seed turns drawn before now after later status answer left done same run looked =
     let held = same_text file now.contents after.contents (town_of seed) same (made_held read brief towns file seed before now status left done) in
-    done_or_no_answer (Solve file cert turns drawn) after later answer (unread_one file after.failed_looks later.failed_looks) run (is_instance file after.contents (town_of seed) held) looked
+    done_or_no_answer (Solve file cert turns drawn) after later answer run (is_instance file after.contents (town_of seed) held) looked

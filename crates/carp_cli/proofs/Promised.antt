@@ -4,7 +4,7 @@ use Rattle.std.specs.Prelude.{IsSomeAnd}
 use Rattle.carp_base.specs.Problem.{Problem}
 use Rattle.carp_outside.specs.Told.{HoldsExactly}
 use Rattle.command_words.specs.Commands.{Command, Source, instance_at, certificate_at, edits_at}
-use Rattle.command_files.specs.Files.{IsBadFile, IsBadInstance, IsBadCertificate}
+use Rattle.command_files.specs.Files.{HeldIn, IsBadFile, IsBadInstance, IsBadCertificate}
 use Rattle.command_files.specs.declared.status.Status.{Status}
 use Rattle.command_jobs.specs.Inputs.{IsBadPair, IsRefused}
 use Rattle.command_works.specs.Works.{Work}
@@ -64,11 +64,11 @@ three_unreported file cert edits contents status report bad =
 
 pub record IsPromised (c : Command) (before now : Outside) (status : Status) : Type 0 where
   pub work : Work
-  pub done : IsDone c (found before now) status work
+  pub done : IsDone (HeldIn before.contents) c now.offered status work
   pub kept : AreKept work.kept before.contents now.contents
   pub wrote : now.written ≡ before.written ++ work.text
 
-done_of : (c : Command) (all : Finding) (status : Status) (work : Work) → HasReport status → (IsRefused c all.contents status → ⊥) → IsRight c all status work → IsDone c all status work
+done_of : (c : Command) (all : Finding) (status : Status) (work : Work) → HasReport status → (IsRefused c all.contents status → ⊥) → IsRight c all status work → IsDone (HeldIn all.contents) c all.offered status work
 done_of c all status work report unrefused (inl unread) = absurd (subst HasReport unread.0 report)
 done_of c all status work report unrefused (inr (inl bad)) = absurd (unrefused bad.0)
 done_of c all status work report unrefused (inr (inr done)) = done.1
@@ -79,7 +79,7 @@ promised c before now status report unrefused left =
     let whole = left.whole (λ e. subst HasReport e report) (λ e. subst HasReport e report) in
     record {
       work = whole.work;
-      done = done_of c (found before now) status whole.work report unrefused (whole.answer.right refl);
+      done = done_of c (found before now) status whole.work report unrefused (whole.answer.right (inl refl));
       kept = whole.kept refl;
       wrote = whole.wrote refl;
     }
