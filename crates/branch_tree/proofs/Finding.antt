@@ -41,7 +41,7 @@ module _ (law : SoundIsTree) (costs : ShortPlansCostLittle) (p : Problem) (s : S
     (at_most : bound ≤ s.cost) (each : All (λ (entry : GrowingNode). bound ≤ entry.shows) s.nodes)
     (greatest : (other : ℕ) → other ≤ s.cost → All (λ (entry : GrowingNode). other ≤ entry.shows) s.nodes → other ≤ bound) where
   small : s.cost < 10 ^ 18
-  small = omega (arith, held.cost_is, costs p s.plan held.valid held.short.lawful held.short.few_steps)
+  small = omega (arith, held.cost_is, costs p s.plan held.valid held.allowed.lawful held.allowed.few_steps)
 
   is_tree : IsSoundTree (support_in p s) held.tree s.nodes
   is_tree = law (support_in p s) (just_above s.least) held.tree s.nodes held.sound
@@ -52,7 +52,7 @@ module _ (law : SoundIsTree) (costs : ShortPlansCostLittle) (p : Problem) (s : S
   pub is_found : IsFound p (record { plan = s.plan; pool = s.pool; sets = s.sets; nodes = found; bound = bound }) s.done
   is_found = record {
     valid = held.valid;
-    short = held.short;
+    allowed = held.allowed;
     belong = held.belong;
     sets = held.sets;
     few_sets = held.few_sets;
@@ -74,5 +74,5 @@ module _ (law : SoundIsTree) (costs : ShortPlansCostLittle) (p : Problem) (s : S
   -- it is no less than the bound of the beginning
   pub no_less : s.least ≤ bound
   no_less =
-      greatest s.least (omega (arith, held.cost_is, held.below s.plan held.short.lawful))
+      greatest s.least (omega (arith, held.cost_is, held.below s.plan held.allowed.lawful))
       (λ k d less. bound_within s.least (get_or s.nodes k d).shows (each_enough (support_in p s) (just_above s.least) (stands [] held.tree) s.nodes held.sound k d less))

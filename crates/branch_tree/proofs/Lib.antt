@@ -11,3 +11,4 @@ mod Turns
 mod Regrown
 mod Root
 mod Finding
+mod Shortness

@@ -79,7 +79,7 @@ module _ (known : Known) (p : Problem) (s : State) (held : IsHeld p s) where
     sets = All-weaker (IsHeldSet p s.pool) (IsHeldSet p (s.pool ++ more)) (held_set_grows p s.pool more) s.sets held.sets;
     few_sets = held.few_sets;
     belong = belong;
-    short = held.short;
+    allowed = held.allowed;
     cost_is = held.cost_is;
     done_is = held.done_is;
     few_nodes = held.few_nodes;

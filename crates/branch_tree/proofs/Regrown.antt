@@ -21,7 +21,7 @@ use Rattle.grown_trees.specs.Places.{IsFineNode}
 use Rattle.grown_trees.specs.Stands.{IsLeanStand, IsShownStand, NodeFits, NodeShows, Stand, stands}
 use Rattle.grown_trees.specs.declared.growing.GrowingNode.{GrowingNode}
 use Rattle.short_plans.specs.Laws.{ShortPlansCostLittle}
-use Rattle.short_plans.specs.Shorts.{IsShortPlan}
+use Rattle.short_plans.specs.Shorts.{IsAllowedPlan}
 use Rattle.branch_tree.specs.Resumes.{MayResume, support_on}
 use Rattle.branch_tree.specs.Searches.{IsHeld, IsHeldSet}
 use Rattle.branch_tree.specs.Values.{just_above}
@@ -227,10 +227,10 @@ module _ (p : Problem) (pool : List (List ℕ)) (sets : List Prices) (least : �
   pub resumed_turns : SoundIsTree → (cost : ℕ) → cost < 10 ^ 18 → HasTurns (support_on p pool sets) [] cost may.tree (turns_in cost entries)
   resumed_turns law = (law (support_on p pool sets) (just_above least) may.tree entries resumed_sound).turns
 
-module _ (costs : ShortPlansCostLittle) (p : Problem) (valid : IsValid p) (plan : List (List Step)) (short : IsShortPlan p plan) (pool : List (List ℕ)) (sets : List Prices) (least : ℕ)
+module _ (costs : ShortPlansCostLittle) (p : Problem) (valid : IsValid p) (plan : List (List Step)) (allowed : IsAllowedPlan p plan) (pool : List (List ℕ)) (sets : List Prices) (least : ℕ)
     (entries : List GrowingNode) (may : MayResume p pool sets least entries) where
   small : plan_cost p plan < 10 ^ 18
-  small = omega (arith, costs p plan valid short.lawful short.few_steps)
+  small = omega (arith, costs p plan valid allowed.lawful allowed.few_steps)
 
   pub few_nodes : (cost : ℕ) → cost ≡ plan_cost p plan → length entries ≤ 2 * turns_in cost entries + 1
   few_nodes cost cost_is = few_noted (support_on p pool sets) cost (omega (arith, cost_is, small)) may.tree entries may.noted
@@ -244,11 +244,11 @@ module _ (costs : ShortPlansCostLittle) (p : Problem) (valid : IsValid p) (plan 
     valid = valid;
     below = may.below;
     tree = may.tree;
-    sound = resumed_sound p pool sets least entries may (omega (arith, small, may.below plan short.lawful));
+    sound = resumed_sound p pool sets least entries may (omega (arith, small, may.below plan allowed.lawful));
     sets = may.held;
     few_sets = may.few_sets;
     belong = may.belong;
-    short = short;
+    allowed = allowed;
     cost_is = cost_is;
     done_is = done_is;
     few_nodes = omega (arith, done_is, few_nodes cost cost_is);

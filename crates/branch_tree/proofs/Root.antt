@@ -19,7 +19,7 @@ use Rattle.grown_trees.specs.Stands.{stands}
 use Rattle.grown_trees.specs.declared.growing.GrowingNode.{GrowingNode}
 use Rattle.branch_tree.specs.Beginnings.{IsFloor, IsRoot, fraction_of}
 use Rattle.short_plans.specs.Laws.{ShortPlansCostLittle}
-use Rattle.short_plans.specs.Shorts.{IsShortPlan}
+use Rattle.short_plans.specs.Shorts.{IsAllowedPlan}
 use Rattle.branch_tree.specs.Searches.{IsHeld, IsHeldSet, State, support_in}
 use Rattle.grown_trees.specs.Values.{IsMostShown, IsShown}
 use Rattle.branch_tree.specs.declared.beginning.Floor.{Floor}
@@ -30,7 +30,7 @@ pub no_depot : (p : Problem) (pool : List (List ℕ)) → All (Belongs p) pool �
 no_depot p [] all = tt
 no_depot p (shore ∷ pool) all = ((all 0 shore (omega arith)).no_depot, no_depot p pool (λ k d less. all (suc k) d (omega (arith, less))))
 
-module _ (costs : ShortPlansCostLittle) (p : Problem) (floor : Floor) (is : IsFloor p floor) (plan : List (List Step)) (short : IsShortPlan p plan) (shows : ℕ)
+module _ (costs : ShortPlansCostLittle) (p : Problem) (floor : Floor) (is : IsFloor p floor) (plan : List (List Step)) (allowed : IsAllowedPlan p plan) (shows : ℕ)
     (shown : IsMostShown floor.set.unit (plain_value p floor.pool floor.set) shows) where
   abbrev leaf : GrowingNode
   leaf = record { node = Price 1; shows = shows }
@@ -43,8 +43,8 @@ module _ (costs : ShortPlansCostLittle) (p : Problem) (floor : Floor) (is : IsFl
   in_range = elim (cases_lt shows (10 ^ 18)) [
     | inl less ↦ less
     | inr most ↦
-        let little = shown_within floor.set.unit 999999999999999999 (plan_cost p plan) (plain_value p floor.pool floor.set) ((shown.shown 999999999999999999 (omega arith)).1 (omega (arith, most))) (is.floors.below plan short.lawful) in
-        absurd (omega (arith, little, costs p plan is.valid short.lawful short.few_steps))
+        let little = shown_within floor.set.unit 999999999999999999 (plan_cost p plan) (plain_value p floor.pool floor.set) ((shown.shown 999999999999999999 (omega arith)).1 (omega (arith, most))) (is.floors.below plan allowed.lawful) in
+        absurd (omega (arith, little, costs p plan is.valid allowed.lawful allowed.few_steps))
   ]
 
   is_shown : IsShown floor.set.unit (plain_value p floor.pool floor.set) shows
@@ -86,26 +86,26 @@ module _ (costs : ShortPlansCostLittle) (p : Problem) (floor : Floor) (is : IsFl
     sets = All-cons (IsHeldSet p floor.pool) floor.set [] (record { one_each = (is.fits []).one_each; not_negative = (is.fits []).fits.not_negative; shores = is.shores; no_groups = is.no_groups }) (All-nil (IsHeldSet p floor.pool));
     few_sets = omega arith;
     belong = is.belong;
-    short = short;
+    allowed = allowed;
     cost_is = refl;
     done_is = refl;
     few_nodes = omega arith;
   }
 
 -- the parts of a search that has just begun
-pub begun_held : ShortPlansCostLittle → (p : Problem) (floor : Floor) → IsFloor p floor → (plan : List (List Step)) → IsShortPlan p plan → (turns : ℕ) (tree : Growth) (root : IsRoot p turns floor tree) →
+pub begun_held : ShortPlansCostLittle → (p : Problem) (floor : Floor) → IsFloor p floor → (plan : List (List Step)) → IsAllowedPlan p plan → (turns : ℕ) (tree : Growth) (root : IsRoot p turns floor tree) →
     (sets : List Prices) → sets ≡ floor.set ∷ [] → (cost : ℕ) → cost ≡ plan_cost p plan → (done : ℕ) → done ≡ turns_in cost tree.nodes → (least : ℕ) → least ≡ root.shows →
     IsHeld p (record { pool = floor.pool; sets = sets; nodes = tree.nodes; plan = plan; cost = cost; done = done; least = least })
-begun_held costs p floor is plan short turns tree root sets sets_are cost cost_is done done_is least least_is =
+begun_held costs p floor is plan allowed turns tree root sets sets_are cost cost_is done done_is least least_is =
     let nodes : tree.nodes ≡ record { node = Price 1; shows = root.shows } ∷ [] = ap (λ (t : Growth). t.nodes) root.leaf in
-    let s : State = at_root costs p floor is plan short root.shows root.shown in
+    let s : State = at_root costs p floor is plan allowed root.shows root.shown in
     let same : s ≡ record { pool = floor.pool; sets = sets; nodes = tree.nodes; plan = plan; cost = cost; done = done; least = least } =
     λ i. record { pool = floor.pool; sets = sym sets_are i; nodes = sym nodes i; plan = plan; cost = sym cost_is i; done = sym (done_is ∙ ap (λ (n : ℕ). turns_in n tree.nodes) cost_is ∙ ap (turns_in (plan_cost p plan)) nodes) i; least = sym least_is i } in
-    subst (IsHeld p) same (root_held costs p floor is plan short root.shows root.shown)
+    subst (IsHeld p) same (root_held costs p floor is plan allowed root.shows root.shown)
 
 -- the bound that the leaf shows is at least each floor
-pub begun_floored : ShortPlansCostLittle → (p : Problem) (floor : Floor) → IsFloor p floor → (plan : List (List Step)) → IsShortPlan p plan → (turns : ℕ) (tree : Growth) (root : IsRoot p turns floor tree) →
+pub begun_floored : ShortPlansCostLittle → (p : Problem) (floor : Floor) → IsFloor p floor → (plan : List (List Step)) → IsAllowedPlan p plan → (turns : ℕ) (tree : Growth) (root : IsRoot p turns floor tree) →
     (least : ℕ) → least ≡ root.shows → IsFloored p least
-begun_floored costs p floor is plan short turns tree root least least_is =
+begun_floored costs p floor is plan allowed turns tree root least least_is =
     subst (IsFloored p) (sym least_is)
-    (record { base = fraction_of p floor; floors = is.floors; above = covered costs p floor is plan short root.shows root.shown })
+    (record { base = fraction_of p floor; floors = is.floors; above = covered costs p floor is plan allowed root.shows root.shown })

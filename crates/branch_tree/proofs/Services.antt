@@ -1,40 +1,18 @@
 -- A value that reaches the Shell floor reaches the service costs.
-use Rattle.std.proofs.Common.{◌≡◌, ℕ, ◌+◌, ◌*◌, ◌≤◌, ◌<◌, Bool, false, ltb, pos, ◌≤ℤ◌, List, subst, arith, inl, inr, ◌⊎◌, ◌↔◌, IsTrue}
+use Rattle.std.proofs.Common.{ℕ, ◌+◌, ◌*◌, ◌≤◌, pos, ◌≤ℤ◌, List, arith}
 use Rattle.std.proofs.Math.Nat.{mul-le-mul_left}
-use Rattle.std.proofs.lemmas.Bool.{lt-ltb, ltb-true, false≢true}
 use Rattle.std.proofs.lemmas.Int.{ints}
 use Rattle.carp_base.specs.Problem.{Problem, IsValid, required_cost}
-use Rattle.deadhead_paths.specs.Laws.{LeastPriceOrNone}
-use Rattle.deadhead_paths.specs.Prices.{NoneLead, costs_of, price_of}
 use Rattle.branch_rules.specs.Prices.{Prices}
-use Rattle.capacity_cuts.specs.Levels.{AreLevelSets, IsBeyond, IsDistance, needs_below}
+use Rattle.capacity_cuts.specs.Levels.{needs_below}
 use Rattle.floor_prices.specs.Floors.{ReachesShell, plain_value}
+use Rattle.floor_prices.specs.Laws.{LevelSetsAreThere}
 
--- The level sets of an instance.
-
-same_distance : (p : Problem) (v n m : ℕ) → IsDistance p v n → IsDistance p v m → n ≡ m
-same_distance p v n m one other = omega (arith, one.least m other.steps other.reached, other.least n one.steps one.reached)
-
-is_beyond : (p : Problem) (t v : ℕ) → NoneLead p p.depot v ⊎ ((n : ℕ) × IsDistance p v n) → Bool
-is_beyond p t v (inl none) = false
-is_beyond p t v (inr found) = ltb t found.0
-
-level_set : (p : Problem) (far : (v : ℕ) → NoneLead p p.depot v ⊎ ((n : ℕ) × IsDistance p v n)) → AreLevelSets p (λ t v. is_beyond p t v (far v))
-unfolding is_beyond
-level_set p far t v vertex = by (far v) where
-  by : (found : NoneLead p p.depot v ⊎ ((n : ℕ) × IsDistance p v n)) → IsTrue (is_beyond p t v found) ↔ IsBeyond p t v
-  by (inl none) = ((λ no. absurd (false≢true no)), (λ beyond. absurd (none beyond.is.steps beyond.is.reached.leads)))
-  by (inr found) = (
-    (λ yes. record { distance = found.0; is = found.1; above = ltb-true t found.0 yes }),
-    (λ beyond. lt-ltb t found.0 (subst (λ n. t < n) (same_distance p v beyond.distance found.0 beyond.is found.1) beyond.above)),
-  )
-
--- a set that reaches Shell reaches the service costs
-pub services_reached : LeastPriceOrNone → (p : Problem) → IsValid p → (pool : List (List ℕ)) (set : Prices) → ReachesShell p pool set → pos (set.unit * required_cost p) ≤ℤ plain_value p pool set
-services_reached least p valid pool set reaches = by 1000000000 (omega arith) where
+pub services_reached : LevelSetsAreThere → (p : Problem) → IsValid p → (pool : List (List ℕ)) (set : Prices) → ReachesShell p pool set → pos (set.unit * required_cost p) ≤ℤ plain_value p pool set
+services_reached there p valid pool set reaches = by 1000000000 (omega arith) where
   by : (k : ℕ) → 1000000000 ≤ k → pos (set.unit * required_cost p) ≤ℤ plain_value p pool set
   by k far =
-      let level : ℕ → ℕ → Bool = λ t v. is_beyond p t v (least p valid (price_of (costs_of p)) p.depot v) in
-      let reached = reaches level k (level_set p (λ v. least p valid (price_of (costs_of p)) p.depot v)) far in
-      let less : set.unit * required_cost p ≤ set.unit * (required_cost p + needs_below p level k) = mul-le-mul_left set.unit (omega arith) in
+      let levels = there p valid in
+      let reached = reaches levels.0 k levels.1 far in
+      let less : set.unit * required_cost p ≤ set.unit * (required_cost p + needs_below p levels.0 k) = mul-le-mul_left set.unit (omega arith) in
       omega (arith, ints, reached, less)

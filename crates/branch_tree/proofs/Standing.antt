@@ -46,7 +46,7 @@ module _ (known : Known) (p : Problem) (s : State) (held : IsHeld p s) where
   -- what is above all bounds is no less than the base
   enough_above : (most : ℕ) → s.cost ≤ most → base.value ≤ℤ pos (base.unit * most)
   enough_above most within =
-      bound_covers s.least most (omega (arith, within, held.cost_is, held.below s.plan held.short.lawful))
+      bound_covers s.least most (omega (arith, within, held.cost_is, held.below s.plan held.allowed.lawful))
 
   -- a price set under some decisions
   module _ (more : List Prices) (branch : List Decision) (pairs : ArePairsIn p branch) (shores : AreShoresIn p s.pool branch) where

@@ -18,7 +18,7 @@ use Rattle.grown_trees.specs.Stands.{stands, with_sets}
 use Rattle.grown_trees.specs.declared.growing.GrowingNode.{GrowingNode}
 use Rattle.branch_tree.specs.Known.{Known}
 use Rattle.branch_tree.specs.Leaves.{IsAtLeaf}
-use Rattle.short_plans.specs.Shorts.{IsShortPlan}
+use Rattle.short_plans.specs.Shorts.{IsAllowedPlan}
 use Rattle.branch_tree.specs.Searches.{IsHeld, IsHeldSet, State, support_in}
 use Rattle.branch_tree.specs.Steps.{IsTaken}
 use Rattle.branch_tree.specs.Values.{just_above}
@@ -29,7 +29,7 @@ no_entry = record { node = nodes.Void; shows = 0 }
 
 module _ (known : Known) (p : Problem) (s : State) (held : IsHeld p s) where
   pub small_cost : s.cost ≤ 2000000000000
-  small_cost = omega (arith, held.cost_is, known.costs p s.plan held.valid held.short.lawful held.short.few_steps)
+  small_cost = omega (arith, held.cost_is, known.costs p s.plan held.valid held.allowed.lawful held.allowed.few_steps)
 
   is_tree : IsSoundTree (support_in p s) held.tree s.nodes
   is_tree = known.tree (support_in p s) (just_above s.least) held.tree s.nodes held.sound
@@ -90,7 +90,7 @@ module _ (known : Known) (p : Problem) (s : State) (held : IsHeld p s) where
       -- other nodes may stand in place of the leaf, with more price sets, and with a plan that is no dearer
       pub record MayFollow : Type 0 where
         pub no_dearer : cost ≤ s.cost
-        pub short : IsShortPlan p plan
+        pub allowed : IsAllowedPlan p plan
         pub cost_is : cost ≡ plan_cost p plan
         pub sets : All (IsHeldSet p s.pool) more
         pub one_set : length more ≤ 1
@@ -117,7 +117,7 @@ module _ (known : Known) (p : Problem) (s : State) (held : IsHeld p s) where
             sets = All-append (IsHeldSet p s.pool) s.sets more held.sets m.sets;
             few_sets = m.few_sets;
             belong = held.belong;
-            short = m.short;
+            allowed = m.allowed;
             cost_is = m.cost_is;
             done_is = refl;
             few_nodes = omega (arith, nodes_then s.cost s.nodes place no_entry at.least.inside news, m.few_news, m.turn, rise, held.done_is, held.few_nodes);

@@ -21,7 +21,7 @@ use Rattle.grown_trees.specs.Stands.{stands, with_sets}
 use Rattle.grown_trees.specs.declared.growing.GrowingNode.{GrowingNode}
 use Rattle.branch_tree.specs.Known.{Known}
 use Rattle.branch_tree.specs.Leaves.{IsAtLeaf, IsSplitBy, MayStand, NamesSet, set_in, split_nodes, with_news, with_pool, with_set}
-use Rattle.short_plans.specs.Shorts.{IsShortPlan}
+use Rattle.short_plans.specs.Shorts.{IsAllowedPlan, IsShortPlan}
 use Rattle.branch_tree.specs.Searches.{IsHeld, IsHeldSet, State, support_in}
 use Rattle.branch_tree.specs.Splits.{split_tree}
 use Rattle.branch_tree.specs.Steps.{HasNewSet, IsClosedBy, IsStep}
@@ -56,7 +56,7 @@ module _ (known : Known) (p : Problem) (s : State) (held : IsHeld p s) (place : 
       subst (λ (sets : List Prices). AreSound (record { problem = p; pool = s.pool; sets = sets }) (just_above s.least) (stands branch sub) news) (sym (append-nil s.sets)) is
 
   module _ (sub : Tree) (leaf : GrowingNode) (plan : List (List Step)) (cost : ℕ) (sound : AreSound (support_in p s) (just_above s.least) (stands branch sub) (leaf ∷ [])) (is_leaf : IsLeaf leaf.node)
-      (no_dearer : cost ≤ s.cost) (short : IsShortPlan p plan) (cost_is : cost ≡ plan_cost p plan) (closed : cost ≤ leaf.shows)
+      (no_dearer : cost ≤ s.cost) (allowed : IsAllowedPlan p plan) (cost_is : cost ≡ plan_cost p plan) (closed : cost ≤ leaf.shows)
       (by : IsClosedBy p s (with_news (record s { plan = plan; cost = cost }) place (leaf ∷ [])) branch leaf leaf.node) where
     abbrev closed_state : List Prices → State
     closed_state sets =
@@ -66,7 +66,7 @@ module _ (known : Known) (p : Problem) (s : State) (held : IsHeld p s) (place : 
     may_close : MayFollow known p s held place branch at sub (leaf ∷ []) [] plan cost
     may_close = record {
       no_dearer = no_dearer;
-      short = short;
+      allowed = allowed;
       cost_is = cost_is;
       sets = All-nil (IsHeldSet p s.pool);
       one_set = omega arith;
@@ -97,14 +97,14 @@ module _ (known : Known) (p : Problem) (s : State) (held : IsHeld p s) (place : 
 
   pub closes_void : IsVoid p s.pool branch → Goes p s (with_news s place (record { node = nodes.Void; shows = 18446744073709551615 } ∷ [])) Closed
   closes_void is =
-      closes void (record { node = nodes.Void; shows = 18446744073709551615 }) s.plan s.cost (void_sound known p s held place branch at is) tt (omega arith) held.short held.cost_is
+      closes void (record { node = nodes.Void; shows = 18446744073709551615 }) s.plan s.cost (void_sound known p s held place branch at is) tt (omega arith) held.allowed held.cost_is
       (omega (arith, small_cost known p s held)) (is, refl, refl)
 
   pub closes_fixed : (plan best : List (List Step)) (value cost : ℕ) → IsFixed p s.pool branch → IsLawful p plan → value ≡ plan_cost p plan → HasFixedValue p branch (plan_cost p plan) →
-      cost ≤ s.cost → cost ≤ value → IsShortPlan p best → cost ≡ plan_cost p best → (best ≡ s.plan) ⊎ ((cost ≡ value) × (cost < s.cost)) →
+      cost ≤ s.cost → cost ≤ value → IsAllowedPlan p best → cost ≡ plan_cost p best → (best ≡ s.plan) ⊎ (IsShortPlan p best × (cost ≡ value) × (cost < s.cost)) →
       Goes p s (with_news (record s { plan = best; cost = cost }) place (record { node = nodes.Fixed; shows = value } ∷ [])) Closed
-  closes_fixed plan best value cost is lawful value_is has no_dearer closed short cost_is kept =
-      closes fixed (record { node = nodes.Fixed; shows = value }) best cost (fixed_sound known p s held place branch at plan value is lawful value_is has) tt no_dearer short cost_is closed
+  closes_fixed plan best value cost is lawful value_is has no_dearer closed allowed cost_is kept =
+      closes fixed (record { node = nodes.Fixed; shows = value }) best cost (fixed_sound known p s held place branch at plan value is lawful value_is has) tt no_dearer allowed cost_is closed
       (is, refl, kept)
 
 -- a leaf that names a set, in a search whose pool gained shores
@@ -132,7 +132,7 @@ module _ (known : Known) (p : Problem) (s : State) (held : IsHeld p s) (place : 
       may_close_new : s.cost ≤ most → MayFollow known p (with_pool s pool) then_held place branch then_names.at (price (length s.sets + 1)) (leaf ∷ []) (set ∷ []) s.plan s.cost
       may_close_new closed = record {
         no_dearer = omega arith;
-        short = held.short;
+        allowed = held.allowed;
         cost_is = held.cost_is;
         sets = held_set;
         one_set = omega arith;
@@ -180,7 +180,7 @@ module _ (known : Known) (p : Problem) (s : State) (held : IsHeld p s) (place : 
         may_split_new : MayFollow known p (with_pool s pool) then_held place branch then_names.at (split_tree node (length s.sets + 1)) (split_nodes node (length s.sets + 1) c) (set ∷ []) s.plan s.cost
         may_split_new = record {
           no_dearer = omega arith;
-          short = held.short;
+          allowed = held.allowed;
           cost_is = held.cost_is;
           sets = held_set;
           one_set = omega arith;
@@ -233,7 +233,7 @@ module _ (known : Known) (p : Problem) (s : State) (held : IsHeld p s) (place : 
   may_split_old : MayFollow known p s held place branch names.at (split_tree node number) (split_nodes node number c) [] s.plan s.cost
   may_split_old = record {
     no_dearer = omega arith;
-    short = held.short;
+    allowed = held.allowed;
     cost_is = held.cost_is;
     sets = All-nil (IsHeldSet p s.pool);
     one_set = omega arith;

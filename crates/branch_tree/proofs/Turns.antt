@@ -24,7 +24,7 @@ use Rattle.grown_trees.specs.Stands.{NodeShows}
 use Rattle.grown_trees.specs.declared.growing.GrowingNode.{GrowingNode}
 use Rattle.branch_tree.specs.Known.{Known}
 use Rattle.branch_tree.specs.Leaves.{HasClosed, HasSplit, IsAtLeaf, IsFramed, IsRaisedFrom, IsRepriced, IsTurn, MayStand, NamesSet, set_in, split_nodes, with_cheaper, with_news, with_pool, with_set}
-use Rattle.short_plans.specs.Shorts.{IsShortPlan}
+use Rattle.short_plans.specs.Shorts.{IsAllowedPlan, IsShortPlan}
 use Rattle.branch_tree.specs.Searches.{IsHeld, IsSearch, State, state_of, support_in}
 use Rattle.branch_tree.specs.Steps.{IsAsBefore, IsStep}
 use Rattle.branch_tree.specs.declared.search.Search.{Search}
@@ -150,6 +150,9 @@ module _ (known : Known) (p : Problem) (s : State) (held : IsHeld p s) (place : 
   short : IsShortPlan p plan
   short = record { lawful = lawful; few_tours = few_tours; few_steps = few_steps }
 
+  allowed : IsAllowedPlan p plan
+  allowed = record { lawful = lawful; few_tours = omega (arith, few_tours, held.valid.few_required); few_steps = few_steps }
+
   pub small_plan : plan_cost p plan ≤ 2000000000000
   small_plan = known.costs p plan held.valid lawful few_steps
 
@@ -157,10 +160,10 @@ module _ (known : Known) (p : Problem) (s : State) (held : IsHeld p s) (place : 
   fixed_goes value value_is = by (nat_lt value s.cost) refl where
     by : (b : Bool) → nat_lt value s.cost ≡ b → Goes p s (with_news (if b then record s { plan = plan; cost = value } else s) place (record { node = nodes.Fixed; shows = value } ∷ [])) Closed
     by true test =
-        closes_fixed known p s held place branch at plan plan value value is lawful value_is has (grind (arith, nat_tests)) (omega arith) short value_is
-        (inr (refl, grind (arith, nat_tests)))
+        closes_fixed known p s held place branch at plan plan value value is lawful value_is has (grind (arith, nat_tests)) (omega arith) allowed value_is
+        (inr (short, refl, grind (arith, nat_tests)))
     by false test =
-        closes_fixed known p s held place branch at plan s.plan value s.cost is lawful value_is has (omega arith) (grind (arith, nat_tests)) held.short held.cost_is
+        closes_fixed known p s held place branch at plan s.plan value s.cost is lawful value_is has (omega arith) (grind (arith, nat_tests)) held.allowed held.cost_is
         (inl refl)
 
 -- a set was raised for a leaf

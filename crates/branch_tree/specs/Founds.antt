@@ -4,7 +4,7 @@ use Rattle.std.specs.List.{All}
 use Rattle.carp_base.specs.Problem.{Problem, IsValid}
 use Rattle.plan_model.specs.Plans.{plan_cost}
 use Rattle.plan_model.specs.declared.step.Step.{Step}
-use Rattle.short_plans.specs.Shorts.{IsShortPlan}
+use Rattle.short_plans.specs.Shorts.{IsAllowedPlan}
 use Rattle.cut_pool.specs.Shores.{Belongs}
 use Rattle.branch_rules.specs.Limits.{IsNodeIn}
 use Rattle.branch_rules.specs.Prices.{Prices}
@@ -29,11 +29,11 @@ findings_of f = record { plan = f.plan; pool = f.shores; sets = f.sets.items; no
 abbrev pub support_found : Problem → Findings → Support
 support_found p f = record { problem = p; pool = f.pool; sets = f.sets }
 
--- A short lawful plan, and the nodes of a lean tree in preorder, whose price leaves name sets that fit there. The tree has so many turns for
+-- A lawful plan that a certificate can hold, and the nodes of a lean tree in preorder, whose price leaves name sets that fit there. The tree has so many turns for
 -- the plan's cost, and the bound is the greatest up to this cost that the tree shows.
 pub record IsFound (p : Problem) (f : Findings) (turns : ℕ) : Type 0 where
   pub valid : IsValid p
-  pub short : IsShortPlan p f.plan
+  pub allowed : IsAllowedPlan p f.plan
   pub belong : All (Belongs p) f.pool
   pub sets : All (IsHeldSet p f.pool) f.sets
   pub few_sets : length f.sets ≤ 256

@@ -4,7 +4,7 @@ use Rattle.std.specs.List.{All}
 use Rattle.carp_base.specs.Problem.{Problem, IsValid}
 use Rattle.plan_model.specs.declared.step.Step.{Step}
 use Rattle.plan_model.specs.Plans.{IsLawful, plan_cost}
-use Rattle.short_plans.specs.Shorts.{IsShortPlan}
+use Rattle.short_plans.specs.Shorts.{IsAllowedPlan}
 use Rattle.deadhead_paths.specs.Prices.{costs_of}
 use Rattle.cut_pool.specs.Shores.{Belongs}
 use Rattle.route_pricing.specs.Tables.{IsRoom}
@@ -56,7 +56,7 @@ pub record IsHeld (p : Problem) (s : State) : Type 0 where
   pub sets : All (IsHeldSet p s.pool) s.sets
   pub few_sets : length s.sets ≤ 256
   pub belong : All (Belongs p) s.pool
-  pub short : IsShortPlan p s.plan
+  pub allowed : IsAllowedPlan p s.plan
   pub cost_is : s.cost ≡ plan_cost p s.plan
   pub done_is : s.done ≡ turns_in s.cost s.nodes
   pub few_nodes : length s.nodes ≤ 2 * s.done + 1

@@ -8,6 +8,7 @@ use Rattle.branch_rules.specs.Prices.{Prices}
 use Rattle.branch_rules.specs.Trees.{Tree, preorder, PriceShows}
 use Rattle.branch_rules.specs.declared.node.Node.{Node}
 use Rattle.branch_rules.specs.declared.node.Node.TheVariants as nodes
+use Rattle.short_plans.specs.Shorts.{IsShortPlan}
 use Rattle.shore_prices.specs.Proposals.{IsGrown}
 use Rattle.tight_prices.specs.Tight.{IsTight}
 use Rattle.grown_trees.specs.Growth.{IsLeastOpen}
@@ -48,7 +49,7 @@ pub record HasNewSet (p : Problem) (before after : State) (branch : List Decisio
   pub tight : IsTight p after.pool (length before.pool) branch set
 
 -- What closes a leaf, by its new node: a void or a fixed branch, with the price sets as they were; or one that is neither, and a new set,
--- which the leaf names. The best plan is another one only where a fixed leaf shows its cost, which is less than before.
+-- which the leaf names. The best plan is another one only where a fixed leaf shows its cost, which is less than before; it is short then.
 abbrev pub IsClosedBy : Problem → (before after : State) → List Decision → GrowingNode → Node → Type 0
 IsClosedBy p before after branch leaf (nodes.Pair a b) = ⊥
 IsClosedBy p before after branch leaf (nodes.Cut shore k) = ⊥
@@ -56,7 +57,7 @@ IsClosedBy p before after branch leaf (nodes.Price set) =
     ¬ (IsVoid p after.pool branch) × ¬ (IsFixed p after.pool branch) × (set ≡ length after.sets) × HasNewSet p before after branch × (after.plan ≡ before.plan)
 IsClosedBy p before after branch leaf nodes.Void = IsVoid p after.pool branch × (after.sets ≡ before.sets) × (after.plan ≡ before.plan)
 IsClosedBy p before after branch leaf nodes.Fixed =
-    IsFixed p after.pool branch × (after.sets ≡ before.sets) × ((after.plan ≡ before.plan) ⊎ ((after.cost ≡ leaf.shows) × (after.cost < before.cost)))
+    IsFixed p after.pool branch × (after.sets ≡ before.sets) × ((after.plan ≡ before.plan) ⊎ (IsShortPlan p after.plan × (after.cost ≡ leaf.shows) × (after.cost < before.cost)))
 
 -- a leaf was closed: another leaf in its place shows the best plan's cost
 pub record IsClosing (p : Problem) (before after : State) : Type 0 where

@@ -1,7 +1,7 @@
 // How a search begins.
 ghost use Rattle.std.specs.Prelude.{◌≡◌, ◌*◌, ◌+◌, ◌≤◌, ◌∷◌, [], IfOk};
 ghost use Rattle.plan_model.specs.Plans.{plan_cost};
-ghost use Rattle.short_plans.specs.Shorts.{IsShortPlan};
+ghost use Rattle.short_plans.specs.Shorts.{IsAllowedPlan};
 ghost use Rattle.branch_tree.specs.Beginnings.{AreTools, IsFloor, IsRoot};
 ghost use Rattle.branch_tree.specs.Searches.{IsBegun, IsSearch, state_of};
 
@@ -11,8 +11,9 @@ use crate::values::shown_under;
 use branch_rules::{Branch, PriceSet, prices_bound};
 use carp_base::{Instance, Memory};
 use cut_pool::ShorePool;
-use deadhead_paths::{Distances, least_prices_are_there};
+use deadhead_paths::Distances;
 use dual_master::floors;
+use floor_prices::level_sets_are_there;
 use grown_trees::GrowingTree;
 use plan_model::Plan;
 use road_network::Network;
@@ -39,7 +40,7 @@ pub(crate) struct Floor {
 impl Search {
     /// A search for an instance from a plan on, for a budget of turns from 1 to 1,048,576.
     ///
-    /// The plan is lawful and has at most a tour for each required edge and 2,000,000 steps. The tree is one leaf with the best set of
+    /// The plan is lawful and has at most 100,000 tours and 2,000,000 steps. The tree is one leaf with the best set of
     /// the floors (`dual_master::floors`), and the pool is as `floors` leaves it. Memory for all nodes that the budget can make, up to
     /// `2 * turns + 1`, is taken here, so that no step lacks it.
     ///
@@ -47,13 +48,13 @@ impl Search {
     pub fn begin(alloc: Global, inst: &Instance, turns: u64, best: Plan) -> Result<Search, Memory>
         requires some_turns { 1 ≤ turns }
         requires turns_in_range { turns ≤ 1048576 }
-        requires short { IsShortPlan inst.now best }
+        requires allowed { IsAllowedPlan inst.now best }
         ensures search { IfOk result (IsSearch inst.now) }
         ensures turns { IfOk result (λ search. search.turns ≡ turns) }
         ensures begun { IfOk result (λ search. IsBegun inst.now best (state_of search)) }
     {
         short_plans_cost_little();
-        let cost = short_cost(alloc, inst, &best)?;
+        let cost = allowed_cost(alloc, inst, &best)?;
         let mut tools = tools_of(alloc, inst)?;
         let floor = floor_of(alloc, inst, &mut tools)?;
         let tree = plant(alloc, inst, turns, &floor)?;
@@ -77,9 +78,9 @@ impl Search {
     }
 }
 
-// What a short plan costs.
-pub(crate) fn short_cost(alloc: Global, inst: &Instance, plan: &Plan) -> Result<u64, Memory>
-    requires { IsShortPlan inst.now plan.now }
+// What an allowed plan costs.
+pub(crate) fn allowed_cost(alloc: Global, inst: &Instance, plan: &Plan) -> Result<u64, Memory>
+    requires { IsAllowedPlan inst.now plan.now }
     ensures { IfOk result (λ cost. cost ≡ plan_cost inst.now plan.now) }
 {
     short_plans_cost_little();
@@ -105,7 +106,7 @@ fn floor_of(alloc: Global, inst: &Instance, tools: &mut Tools) -> Result<Floor, 
     ensures floor { IfOk result (IsFloor inst.now) }
     ensures tools { AreTools inst.now tools.new }
 {
-    least_prices_are_there();
+    level_sets_are_there();
     prices_bound();
     // What reads of the instance and of the set say is needed: that both are within their limits.
     let _ = inst.vertices();

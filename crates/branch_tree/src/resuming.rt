@@ -1,11 +1,11 @@
 // How a search goes on from a tree.
 ghost use Rattle.std.specs.Prelude.{◌≡◌, ◌+◌, ◌≤◌, IfOk, length, min};
-ghost use Rattle.short_plans.specs.Shorts.{IsShortPlan};
+ghost use Rattle.short_plans.specs.Shorts.{IsAllowedPlan};
 ghost use Rattle.grown_trees.specs.Growth.{turns_in};
 ghost use Rattle.branch_tree.specs.Resumes.{IsResumed, MayResume, ResumedTreesHaveTurns};
 ghost use Rattle.branch_tree.specs.Searches.{IsSearch, state_of};
 
-use crate::beginning::{short_cost, tools_of};
+use crate::beginning::{allowed_cost, tools_of};
 use crate::search::Search;
 use branch_rules::PriceSet;
 use carp_base::{Instance, Memory};
@@ -22,7 +22,7 @@ impl Search {
     /// A search that goes on from a tree and a plan, for so many turns beyond those that the tree has for the plan's cost, where they are
     /// no more than 1,048,576 in all; a tree that has as many takes no turn.
     ///
-    /// The tree may be another's: its price leaves may lie below the floors, and it may have all nodes, price sets and shores that a
+    /// The plan is lawful and has at most 100,000 tours and 2,000,000 steps. The tree may be another's: its price leaves may lie below the floors, and it may have all nodes, price sets and shores that a
     /// certificate can spell. It shows the bound `least` then and at each moment. Memory for all nodes that the budget can make is taken
     /// here.
     ///
@@ -40,7 +40,7 @@ impl Search {
     ) -> Result<Search, Memory>
         requires some_turns { 1 ≤ turns }
         requires turns_in_range { turns ≤ 1048576 }
-        requires short { IsShortPlan inst.now best }
+        requires allowed { IsAllowedPlan inst.now best }
         requires may { MayResume inst.now pool sets.items least nodes.now }
         ensures search { IfOk result (IsSearch inst.now) }
         ensures turns { IfOk result (λ search. search.turns ≡ min (search.done + turns) 1048576) }
@@ -48,7 +48,7 @@ impl Search {
     {
         short_plans_cost_little();
         let _ = inst.vertices();
-        let cost = short_cost(alloc, inst, &best)?;
+        let cost = allowed_cost(alloc, inst, &best)?;
         let tools = tools_of(alloc, inst)?;
         let done = turns_for(nodes, cost);
         let budget = budget_from(done, turns);

@@ -1,5 +1,6 @@
 // One turn of a search.
 ghost use Rattle.std.specs.Prelude.{◌≡◌, ◌<◌, OnErr, IfOk};
+ghost use Rattle.short_plans.specs.Shorts.{IsShortPlan};
 ghost use Rattle.grown_trees.specs.Growth.{IsLeastOpen};
 ghost use Rattle.branch_tree.specs.Leaves.{IsAtLeaf, IsTurn, NamesSet};
 ghost use Rattle.branch_tree.specs.Searches.{IsSearch, state_of};
@@ -29,7 +30,7 @@ impl Search {
     /// Takes the first leaf that shows least, if it does not show the best plan's cost. Where its branch is void or fixed, it is closed as
     /// that; the plan of a fixed leaf is the best one from then on if it is cheaper. Else, while fewer than 256 price sets are held, a
     /// tight set is sought for it (`dual_master::raise`). If that shows the cost, it closes the leaf, and otherwise both leaves of a split
-    /// by a pair or a shore carry it. Where 256 are held, the leaves of the split carry the set of the leaf.
+    /// by a pair or a shore carry it. Where 256 are held, the leaves of the split carry the set of the leaf. A short best plan stays short.
     ///
     /// It asks for a search whose turns are below its budget. The one error is want of memory: then the tree, the price sets and the best
     /// plan are as before, and shores may have been added. It takes the time of `raise` and, with n nodes, m required edges and d decisions
@@ -40,6 +41,7 @@ impl Search {
         ensures search { IsSearch inst.now self.new }
         ensures turns { self.new.turns ≡ self.old.turns }
         ensures least { self.new.least ≡ self.old.least }
+        ensures short { IsShortPlan inst.now self.old.best → IsShortPlan inst.now self.new.best }
         ensures step { IfOk result (IsStep inst.now (state_of self.old) (state_of self.new)) }
         ensures err { OnErr result (IsAsBefore (state_of self.old) (state_of self.new)) }
     {

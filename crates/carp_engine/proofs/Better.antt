@@ -8,6 +8,7 @@ use Rattle.plan_model.specs.declared.step.Step.{Step}
 use Rattle.plan_model.specs.Plans.{plan_cost}
 use Rattle.grown_trees.specs.Growth.{turns_in}
 use Rattle.grown_trees.specs.declared.growing.GrowingNode.{GrowingNode}
+use Rattle.short_plans.specs.Shorts.{IsShortPlan}
 use Rattle.cert_lines.specs.Certificates.{Certificate}
 use Rattle.cert_format.specs.Good.{support_of}
 use Rattle.carp_engine.specs.Certifying.{IsSearched, certificate_by}
@@ -22,7 +23,7 @@ no_fewer : (less more : ℕ) (entries : List GrowingNode) → less ≤ more → 
 no_fewer less more entries within =
     sum_by-le-sum_by (λ (entry : GrowingNode). cond (nat_le more entry.shows) 1 0) (λ (entry : GrowingNode). cond (nat_le less entry.shows) 1 0) entries (λ entry. one_more less more entry.shows within)
 
-module _ (laws : Laws) (p : Problem) (old : Certificate) (entries : List GrowingNode) (asked : ℕ) (plan : List (List Step)) (cheap : plan_cost p plan ≤ old.cost)
+module _ (laws : Laws) (p : Problem) (old : Certificate) (entries : List GrowingNode) (asked : ℕ) (plan : List (List Step)) (short : IsShortPlan p plan) (cheap : plan_cost p plan ≤ old.cost)
     (had : HaveTurns (support_of p old) old.nodes old.cost (turns_in old.cost entries)) (c : Certificate) (turns : ℕ)
     (s : IsSearched p old.bound (min (turns_in (plan_cost p plan) entries + asked) 1048576) plan c turns) where
   went_on : (s.found.bound ≡ plan_cost p s.found.plan) ⊎ (min (turns_in old.cost entries + asked) 1048576 ≤ turns)
@@ -38,7 +39,7 @@ module _ (laws : Laws) (p : Problem) (old : Certificate) (entries : List Growing
     bounds = bounds laws p s.found turns s.is_found;
     spellable = laws.spelled (certificate_by p s.found) (is_fine laws p s.found turns s.is_found s.certified.limits);
     counts = refl;
-    plan = s.is_found.short;
+    plan = s.short short;
     no_dearer = omega (arith, cheap, s.no_dearer);
     no_lower = s.no_lower;
     not_above = s.is_found.at_most;

@@ -48,7 +48,7 @@ no_depot p (shore ∷ pool) all = ((All-head (Belongs p) shore pool all).no_depo
 module _ (laws : Laws) (p : Problem) (f : Findings) (turns : ℕ) (found : IsFound p f turns) where
   pub small : plan_cost p f.plan < 10 ^ 18
   small =
-      let little = laws.costs p f.plan found.valid found.short.lawful found.short.few_steps in
+      let little = laws.costs p f.plan found.valid found.allowed.lawful found.allowed.few_steps in
       omega (arith, little)
 
   -- It can be spelled.
@@ -72,9 +72,9 @@ module _ (laws : Laws) (p : Problem) (f : Findings) (turns : ℕ) (found : IsFou
     counts_in = laws.counts p found.valid;
     cost_in = small;
     bound_in = omega (arith, small, found.at_most);
-    few_tours = omega (arith, found.short.few_tours, found.valid.few_required);
-    few_steps = subst (λ n. n ≤ 2000000) (length-flat_map (λ walk. walk) f.plan) found.short.few_steps;
-    edges_in = laws.edges p f.plan found.valid found.short.lawful;
+    few_tours = found.allowed.few_tours;
+    few_steps = subst (λ n. n ≤ 2000000) (length-flat_map (λ walk. walk) f.plan) found.allowed.few_steps;
+    edges_in = laws.edges p f.plan found.valid found.allowed.lawful;
     few_shores = limits.few;
     shores_fine = both_all IsShore (Belongs p) IsFineShore (λ shore is belongs. laws.shores p shore found.valid is belongs) f.pool limits.shores found.belong;
     different = limits.different;
@@ -91,7 +91,7 @@ module _ (laws : Laws) (p : Problem) (f : Findings) (turns : ℕ) (found : IsFou
   unfoldable pub is_good : IsGood p (certificate_by p f)
   is_good = record {
     counts = refl;
-    lawful = found.short.lawful;
+    lawful = found.allowed.lawful;
     cost = refl;
     shores = found.belong;
     prices = All-weaker (IsHeldSet p f.pool) (HasPriceEach p) (λ set is. is.one_each) f.sets found.sets;

@@ -5,13 +5,14 @@ use Rattle.plan_model.specs.declared.step.Step.{Step}
 use Rattle.plan_model.specs.Plans.{plan_cost}
 use Rattle.branch_rules.specs.Laws.{LeanIsSmall}
 use Rattle.branch_tree.specs.Founds.{support_found}
+use Rattle.short_plans.specs.Shorts.{IsShortPlan}
 use Rattle.cert_lines.specs.Certificates.{Certificate}
 use Rattle.branch_tree.specs.Values.{IsFloored}
 use Rattle.carp_engine.specs.Certifying.{IsSearched, IsSearchedAnew, certificate_by}
 use Rattle.carp_engine.specs.Solutions.{IsAtMostSingles, IsSound}
 use Rattle.carp_engine.proofs.Certified.{Laws, above_floors, bounds, floored_more, is_fine, is_good, reached}
 
-module _ (laws : Laws) (p : Problem) (budget : ℕ) (plan : List (List Step)) (cheap : IsAtMostSingles p (plan_cost p plan)) (c : Certificate) (turns : ℕ)
+module _ (laws : Laws) (p : Problem) (budget : ℕ) (plan : List (List Step)) (short : IsShortPlan p plan) (cheap : IsAtMostSingles p (plan_cost p plan)) (c : Certificate) (turns : ℕ)
     (anew : IsSearchedAnew p budget plan c turns) where
   abbrev s : IsSearched p anew.least budget plan c turns
   s = anew.searched
@@ -29,7 +30,7 @@ module _ (laws : Laws) (p : Problem) (budget : ℕ) (plan : List (List Step)) (c
     bounds = bounds laws p s.found turns s.is_found;
     spellable = laws.spelled (certificate_by p s.found) (is_fine laws p s.found turns s.is_found s.certified.limits);
     counts = refl;
-    plan = s.is_found.short;
+    plan = s.short short;
     no_dearer = cheaper;
     not_above = s.is_found.at_most;
     greatest = λ other most shows. s.is_found.greatest other most shows;
@@ -53,3 +54,7 @@ module _ (p : Problem) (least budget : ℕ) (plan : List (List Step)) (c : Certi
         | inl same ↦ same
         | inr spent ↦ absurd (omega (arith, few, spent, enough))
       ]
+
+-- the certificate costs no more than the plan that the search began with
+pub no_dearer : (p : Problem) (least budget : ℕ) (plan : List (List Step)) (c : Certificate) (turns : ℕ) → IsSearched p least budget plan c turns → c.cost ≤ plan_cost p plan
+no_dearer p least budget plan c turns s = subst (λ (d : Certificate). d.cost ≤ plan_cost p plan) (sym s.certified.certificate) s.no_dearer

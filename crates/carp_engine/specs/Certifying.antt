@@ -10,6 +10,7 @@ use Rattle.branch_rules.specs.Limits.{IsPriceSet}
 use Rattle.branch_rules.specs.Prices.{Prices}
 use Rattle.branch_tree.specs.Founds.{Findings, IsFound}
 use Rattle.branch_tree.specs.Values.{IsFloored}
+use Rattle.short_plans.specs.Shorts.{IsShortPlan}
 use Rattle.cert_lines.specs.Certificates.{Certificate}
 use Rattle.cert_format.specs.Good.{counts_in}
 
@@ -36,13 +37,14 @@ pub record IsCertified (p : Problem) (f : Findings) (c : Certificate) : Type 0 w
   pub limits : AreWithinLimits f.pool f.sets
   pub certificate : c ≡ certificate_by p f
 
--- what a search from a plan and a bound on found, and its certificate: the plan costs no more, the bound is no lower, and it is below the
--- cost only where the turns are at least the budget
+-- what a search from a plan and a bound on found, and its certificate: the plan costs no more and is short if the first one was, the bound is
+-- no lower, and it is below the cost only where the turns are at least the budget
 pub record IsSearched (p : Problem) (least budget : ℕ) (plan : List (List Step)) (c : Certificate) (turns : ℕ) : Type 0 where
   pub found : Findings
   pub is_found : IsFound p found turns
   pub certified : IsCertified p found c
   pub no_dearer : plan_cost p found.plan ≤ plan_cost p plan
+  pub short : IsShortPlan p plan → IsShortPlan p found.plan
   pub no_lower : least ≤ found.bound
   pub ended : (found.bound ≡ plan_cost p found.plan) ⊎ (budget ≤ turns)
 

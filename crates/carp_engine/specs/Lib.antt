@@ -1,3 +1,4 @@
 pub mod Solutions
 pub mod Improved
 pub mod Certifying
+pub mod Asked

@@ -1,9 +1,11 @@
 // Goes on from a certificate.
-ghost use Rattle.std.specs.Prelude.{◌≡◌, ◌⊎◌, ◌+◌, ◌%◌, ◌^◌, ◌≤◌, All, EachIndex, IfOk, OnOk, map, slice_index};
+ghost use Rattle.std.specs.Prelude.{◌≡◌, ◌⊎◌, ◌+◌, ◌%◌, ◌^◌, ◌≤◌, All, EachIndex, IfOk, OnOk, length, map, slice_index};
+ghost use Rattle.helper_rounds.specs.Asking.{standings};
 ghost use Rattle.helper_rounds.specs.Helpers.{IsAtMost};
 ghost use Rattle.cert_lines.specs.Spelling.{IsSpellable};
 ghost use Rattle.cert_format.specs.Certs.{certificate_in};
 ghost use Rattle.cert_format.specs.Good.{IsGood};
+ghost use Rattle.carp_engine.specs.Asked.{AreAskedFrom};
 ghost use Rattle.carp_engine.specs.Improved.{IsImproved};
 
 use crate::Solved;
@@ -17,7 +19,7 @@ use chain_plans::fixed_values_compare;
 use deadhead_paths::tidy;
 use helper_rounds::ask_all;
 use plan_model::Proposer;
-use short_plans::short_plans_cost_little;
+use short_plans::{short_plans_are_allowed, short_plans_cost_little};
 use std::alloc::Global;
 use task_tours::cost_distances;
 use tree_transfer::note_nodes;
@@ -52,11 +54,13 @@ pub fn improve<P: Proposer>(
     ensures few_rounds { OnOk result (All (λ helper. P.asked helper ≤ 4) helpers.new.items) }
     ensures fouls { OnOk result (All (λ helper. (P.tally helper).fouls ≤ 1) helpers.new.items) }
     ensures least { IfOk result (λ solved. All (λ helper. IsAtMost solved.cert.cost (P.tally helper).least) helpers.new.items) }
+    ensures rounds { IfOk result (λ solved. AreAskedFrom inst.now (certificate_in cert).plan (length helpers.old.items) (standings P.asked P.tally helpers.new.items) solved.cert.cost) }
     ensures improved { IfOk result (λ solved. IsImproved inst.now (certificate_in cert) (certificate_in solved.cert) turns solved.turns) }
     ensures ended { IfOk result (λ solved. (solved.cert.bound ≡ solved.cert.cost) ⊎ (turns ≤ solved.turns)) }
 {
     tree_bounds();
     short_plans_cost_little();
+    short_plans_are_allowed();
     counts_are_in_range();
     fine_is_spellable();
     spellable_is_fine();

@@ -1,7 +1,7 @@
 // Searches for a tree that shows the cost of a plan, within a budget of turns.
 ghost use Rattle.std.specs.Prelude.{◌≡◌, ◌⊎◌, ◌+◌, ◌≤◌, IfOk, OnOk, min};
 ghost use Rattle.plan_model.specs.Plans.{plan_cost};
-ghost use Rattle.short_plans.specs.Shorts.{IsShortPlan};
+ghost use Rattle.short_plans.specs.Shorts.{IsAllowedPlan, IsShortPlan};
 ghost use Rattle.grown_trees.specs.Growth.{turns_in};
 ghost use Rattle.branch_tree.specs.Resumes.{MayResume};
 ghost use Rattle.branch_tree.specs.Searches.{IsSearch, state_of};
@@ -28,7 +28,7 @@ pub(crate) fn search(
 ) -> Result<Solved, Memory>
     requires some_turns { 1 ≤ turns }
     requires turns_in_range { turns ≤ 1048576 }
-    requires short { IsShortPlan inst.now plan }
+    requires allowed { IsAllowedPlan inst.now plan }
     ensures { IfOk result (λ solved. IsSearchedAnew inst.now turns plan (certificate_in solved.cert) solved.turns) }
 {
     let search = Search::begin(alloc, inst, turns, plan)?;
@@ -48,7 +48,7 @@ pub(crate) fn search_on(
 ) -> Result<Solved, Memory>
     requires some_turns { 1 ≤ turns }
     requires turns_in_range { turns ≤ 1048576 }
-    requires short { IsShortPlan inst.now plan }
+    requires allowed { IsAllowedPlan inst.now plan }
     requires may { MayResume inst.now shores sets.items least nodes.now }
     ensures { IfOk result (λ solved. IsSearched inst.now least (min (turns_in (plan_cost inst.now plan) nodes.now + turns) 1048576) plan (certificate_in solved.cert) solved.turns) }
 {
@@ -76,6 +76,7 @@ fn take_turns(inst: &Instance, turns: u64, search: &mut Search) -> Result<(), Me
     requires turns { search.old.turns ≡ turns }
     ensures search { IsSearch inst.now search.new }
     ensures no_dearer { search.new.cost ≤ search.old.cost }
+    ensures short { IsShortPlan inst.now search.old.best → IsShortPlan inst.now search.new.best }
     ensures least { search.new.least ≡ search.old.least }
     ensures ended { OnOk result (AreClosed (state_of search.new) ⊎ (turns ≤ search.new.done)) }
 {

@@ -1,8 +1,10 @@
 // Finds a plan of an instance, and a bound on all its plans.
-ghost use Rattle.std.specs.Prelude.{◌≡◌, ◌⊎◌, ◌+◌, ◌-◌, ◌*◌, ◌/◌, ◌%◌, ◌^◌, ◌≤◌, All, EachIndex, IfOk, OnOk, map, slice_index};
+ghost use Rattle.std.specs.Prelude.{◌≡◌, ◌⊎◌, ◌+◌, ◌-◌, ◌*◌, ◌/◌, ◌%◌, ◌^◌, ◌≤◌, All, EachIndex, IfOk, OnOk, length, map, slice_index};
 ghost use Rattle.carp_base.specs.Problem.{IsValid, required_edges};
+ghost use Rattle.helper_rounds.specs.Asking.{standings};
 ghost use Rattle.helper_rounds.specs.Helpers.{IsAtMost};
 ghost use Rattle.cert_format.specs.Certs.{certificate_in};
+ghost use Rattle.carp_engine.specs.Asked.{AreAskedFromSingles};
 ghost use Rattle.carp_engine.specs.Solutions.{IsSound};
 
 use crate::searching::search;
@@ -13,7 +15,7 @@ use cert_lines::{fine_is_spellable, shores_are_fine};
 use deadhead_paths::{single_tours, tidy};
 use helper_rounds::ask_all;
 use plan_model::Proposer;
-use short_plans::short_plans_cost_little;
+use short_plans::{short_plans_are_allowed, short_plans_cost_little};
 use std::alloc::Global;
 use task_tours::cost_distances;
 
@@ -29,8 +31,9 @@ pub struct Solved {
 /// The best plan that the helpers find from one tour for each required edge on, and a bound of all plans that is at least each of the
 /// floors Shell, Ratio and Join (`dual_master::floors`).
 ///
-/// Each helper is seeded with `seed` plus its place in the list, from 0, wrapping. Then the helpers are asked in up to four rounds
-/// (`helper_rounds::ask_all`); after an unlawful offer a helper is not asked again. The list keeps all its helpers in their order.
+/// Each helper is seeded with `seed` plus its place in the list, from 0, wrapping. Then the helpers are asked in up to four rounds, each time in
+/// the order of the list (`helper_rounds::ask_all`); after an unlawful offer a helper is not asked again, and a round without a better plan
+/// is the last. The list keeps all its helpers in their order.
 /// Without memory the answer is `Memory`.
 ///
 /// Then a tree of decisions is searched by turns (`branch_tree`), until it shows the cost of the best plan or its turns, its inner nodes and
@@ -54,6 +57,7 @@ pub fn solve<P: Proposer>(
     ensures few_rounds { OnOk result (All (λ helper. P.asked helper ≤ 4) helpers.new.items) }
     ensures fouls { OnOk result (All (λ helper. (P.tally helper).fouls ≤ 1) helpers.new.items) }
     ensures least { IfOk result (λ solved. All (λ helper. IsAtMost solved.cert.cost (P.tally helper).least) helpers.new.items) }
+    ensures rounds { IfOk result (λ solved. AreAskedFromSingles inst.now (length helpers.old.items) (standings P.asked P.tally helpers.new.items) solved.cert.cost) }
     ensures sound { IfOk result (λ solved. IsSound inst.now (certificate_in solved.cert) solved.turns) }
     ensures ended { IfOk result (λ solved. (solved.cert.bound ≡ solved.cert.cost) ⊎ (turns ≤ solved.turns)) }
     ensures whole { 2 ^ (inst.now.required * (inst.now.required - 1) / 2 + 5) ≤ turns → IfOk result (λ solved. solved.cert.bound ≡ solved.cert.cost) }
@@ -61,10 +65,12 @@ pub fn solve<P: Proposer>(
     tree_bounds();
     lean_trees_are_small();
     short_plans_cost_little();
+    short_plans_are_allowed();
     counts_are_in_range();
     fine_is_spellable();
     shores_are_fine();
     plans_are_on_edges();
+    let _ = inst.vertices();
     let dist = cost_distances(alloc, inst)?;
     let mut plan = tidy(alloc, inst, &dist, &single_tours(alloc, inst, &dist)?)?;
     ask_all(alloc, inst, &dist, &mut plan, helpers, seed)?;

@@ -56,7 +56,7 @@ module _ (law : GrowthKeepsSets) (p : Problem) (base pool : List (List ℕ)) (n 
       subst (λ (xs : List (List ℕ)). All (λ (w : Weight). IsShoreOf p xs w.shore) set.weights) (sym grown)
       (All-weaker (λ (w : Weight). IsShoreOf p base w.shore) (λ (w : Weight). IsShoreOf p (base ++ more) w.shore) (λ w is. shore_of_grown p base more w.shore is) set.weights floor.shores)
 
-  same_value : plain_value p pool set ≡ plain_value p base set
+  pub same_value : plain_value p pool set ≡ plain_value p base set
   same_value = subst (λ xs. plain_value p xs set ≡ plain_value p base set) (sym grown) (law p base more [] set (numbers p base set floor.shores)).value
 
   -- the floors that the set reached it still reaches
@@ -103,5 +103,11 @@ module _ (p : Problem) (shell ratio join first best : Candidate) (is_shell : IsC
         join = then'.join ((candidate_reaches better p join best is_join is_best over_join).join join_reached);
         no_groups = is_best.floor.no_groups;
         shores = shores_then growth p best.pool pool p.vertices best.set singles is_best.floor;
-        held = record { base = best.pool; of_floor = is_best.floor.base; weighed = is_best.floor.weighed; singles = singles };
+        held = record {
+          base = best.pool;
+          of_floor = is_best.floor.base;
+          weighed = is_best.floor.weighed;
+          singles = singles;
+          value = same_value growth p best.pool pool p.vertices best.set singles is_best.floor;
+        };
       }

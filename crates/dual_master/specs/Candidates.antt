@@ -5,21 +5,22 @@ use Rattle.carp_base.specs.Problem.{Problem}
 use Rattle.cut_pool.specs.Shores.{Belongs}
 use Rattle.branch_rules.specs.Limits.{IsPriceSet, IsShoreOf}
 use Rattle.branch_rules.specs.Prices.{Prices}
-use Rattle.floor_prices.specs.Floors.{FitsAlways, HoldsShells, HoldsJoinShores, WeighsEach, plain_value}
+use Rattle.floor_prices.specs.Floors.{FitsAlways, HoldsShells, ShowsJoinShores, ShowsRatio, ShowsShell, WeighsEach, plain_value}
 use Rattle.dual_master.specs.declared.candidate.Candidate.{Candidate}
 
--- the level sets of Shell, the shores of Join, or none, as Ratio has them
-abbrev pub IsFloorBase : Problem → List (List ℕ) → Type 0
-IsFloorBase p base = HoldsShells p base ⊎ HoldsJoinShores p base ⊎ (base ≡ [])
+-- the pool holds the level sets and the set shows exactly Shell, or it holds the shores of Join and the set shows what they need, or it is
+-- empty and the set shows exactly Ratio
+abbrev pub IsFloorBase : Problem → List (List ℕ) → Prices → Type 0
+IsFloorBase p base set = (HoldsShells p base × ShowsShell p base set) ⊎ ShowsJoinShores p base set ⊎ ((base ≡ []) × ShowsRatio p base set)
 
--- the set fits under every branch and has no groups, its shores are in the pool, which holds those of a floor, each with a weight, and
--- each belongs to the instance
+-- the set fits under every branch and has no groups, its shores are in the pool, which holds those of the floor that the set shows, each
+-- with a weight, and each belongs to the instance
 pub record IsFloorSet (p : Problem) (pool : List (List ℕ)) (set : Prices) : Type 0 where
   pub fits : FitsAlways p pool set
   pub no_groups : set.groups ≡ []
   pub shores : All (λ w. IsShoreOf p pool w.shore) set.weights
   pub belong : All (Belongs p) pool
-  pub base : IsFloorBase p pool
+  pub base : IsFloorBase p pool set
   pub weighed : WeighsEach pool set
 
 -- so much is a value at most, either way

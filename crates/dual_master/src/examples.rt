@@ -2,7 +2,9 @@
 ghost use Rattle.std.specs.Prelude.{[]};
 ghost use Rattle.deadhead_paths.specs.Examples.{town};
 ghost use Rattle.branch_rules.specs.Examples.{town_pool};
-ghost use Rattle.branch_rules.specs.Trees.{no_prices};
+ghost use Rattle.floor_prices.specs.Examples.{bare_prices, no_town};
+ghost use Rattle.floor_prices.specs.Sets.{empty_set};
+ghost use Rattle.dual_master.specs.Candidates.{IsFloorBase};
 ghost use Rattle.dual_master.specs.Singles.{HasSingles, IsFloorPool, IsWanted};
 
 fn a_wanted_shore()
@@ -15,5 +17,6 @@ fn shores_of_single_vertices()
     ensures placed { HasSingles town [] 2 town_pool }
     ensures left_out { ¬ (HasSingles town [] 2 []) }
     ensures not_first { ¬ (HasSingles town [] 1 town_pool) }
-    ensures pool { IsFloorPool town town_pool no_prices }
+    ensures pool { IsFloorPool no_town [] empty_set }
+    ensures overvalued { ¬ (IsFloorBase no_town [] bare_prices) }
 {}

@@ -8,6 +8,7 @@ use carp_base::{Instance, Memory};
 use deadhead_paths::tidy;
 use plan_model::{JudgeRoom, Plan, Step, Verdict, Walk, judge, verdicts_are_exact};
 use samples::street;
+use short_plans::short_plans_are_allowed;
 use std::alloc::Global;
 use std::test::Fail;
 use task_tours::cost_distances;
@@ -109,6 +110,8 @@ fn first_step(
     requires turns_in_range { turns ≤ 1048576 }
     requires short { IsShortPlan inst.now plan }
 {
+    short_plans_are_allowed();
+    let _ = inst.vertices();
     let mut search = Search::begin(alloc, inst, turns, plan)?;
     let before = search.done();
     let turn = step(inst, &mut search, turns)?;

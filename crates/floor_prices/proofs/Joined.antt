@@ -14,9 +14,9 @@ use Rattle.plan_model.specs.Plans.{crosses}
 use Rattle.cut_pool.specs.declared.shore.Weighted.{Weighted}
 use Rattle.cut_pool.specs.Shores.{is_in, need, required_crossings}
 use Rattle.matching_duals.specs.Joins.{IsJoinBound, IsOddShore, all_halves, halves}
-use Rattle.floor_prices.specs.Floors.{FitsAlways, ReachesJoin, shores_of}
+use Rattle.floor_prices.specs.Floors.{FitsAlways, ReachesJoin, ShowsJoinShores, shores_of}
 use Rattle.floor_prices.specs.Pieces.{ArePlaceable, prices_of}
-use Rattle.floor_prices.proofs.Packed.{shores_fit, value_least}
+use Rattle.floor_prices.proofs.Packed.{shores_fit, value_is}
 
 -- where some edges pass a test, one of them has a place
 some_passes : (test : Edge → Bool) (edges : List Edge) → 1 ≤ count_by test edges → (k : ℕ) × (k < length edges) × (test (get_or edges k no_edge) ≡ true)
@@ -86,9 +86,15 @@ module _ (p : Problem) (counts : List ℕ) (shores : List Weighted) (value : ℕ
         omega (
           arith,
           ints,
-          value_least p pool 2 shores valid held join_placeable,
+          value_is p pool 2 shores valid held join_placeable,
           needs_least shores bound.odd,
           bound.twice,
           least.least counts bound.makes_even,
           bound.costs,
         )
+
+    pub join_shows : ShowsJoinShores p pool (prices_of p 2 shores)
+    join_shows = record {
+      shores = record { counts = counts; shores = shores; value = value; show = bound; held = held };
+      needs = omega (arith, ints, value_is p pool 2 shores valid held join_placeable);
+    }

@@ -12,3 +12,4 @@ pub mod Joined
 pub mod Better
 pub mod Small
 pub mod Weighed
+pub mod Levels

@@ -1,5 +1,5 @@
--- Sets of shores that pack: they fit, and their value is at least what the shores ask for.
-use Rattle.std.proofs.Common.{◌≡◌, ℕ, ◌+◌, ◌*◌, ◌≤◌, max, List, [], ◌∷◌, map, refl, sym, subst, ap, ◌∙◌, arith, ℤ, pos, negsuc, ◌-ℤ◌, ◌≤ℤ◌, ◌<ℤ◌, nat_abs}
+-- Sets of shores that pack: they fit, and their value is what the shores need.
+use Rattle.std.proofs.Common.{◌≡◌, ℕ, ◌+◌, ◌-◌, ◌*◌, ◌%◌, ◌≤◌, max, List, [], ◌∷◌, map, refl, sym, subst, ap, ◌∙◌, arith, ℤ, pos, negsuc, ◌-ℤ◌, ◌≤ℤ◌, ◌<ℤ◌, nat_abs}
 use Rattle.std.specs.Prelude.{if◌then◌else◌, IsSome, IsTrue}
 use Rattle.std.specs.List.{All, AllByRecursion, sum_by}
 use Rattle.std.proofs.Math.Nat.{mul-le-mul_left}
@@ -9,8 +9,9 @@ use Rattle.std.proofs.lemmas.List.Sums.{sum_by-cons}
 use Rattle.carp_base.specs.declared.edge.Task.{Task}
 use Rattle.carp_base.specs.Problem.{Problem, IsValid, IsRequired, IsEdgeNumber, edge_at, required_cost}
 use Rattle.plan_model.specs.Plans.{crosses}
-use Rattle.cut_pool.specs.Shores.{is_in, need, required_crossings, Belongs}
+use Rattle.cut_pool.specs.Shores.{is_in, need, required_crossings, touched, vehicles, Belongs}
 use Rattle.cut_pool.specs.declared.shore.Weighted.{Weighted}
+use Rattle.capacity_cuts.specs.Levels.{weighted_needs}
 use Rattle.branch_rules.specs.declared.weight.Weight.{Weight}
 use Rattle.branch_rules.specs.Bonds.{GroupWeight, bond_weight}
 use Rattle.branch_rules.specs.Decisions.{is_yes_pair, lowest, to_parity}
@@ -106,35 +107,38 @@ module _ (p : Problem) (pool : List (List ℕ)) (unit : ℕ) (shores : List Weig
         );
   })
 
-  -- each weight counts at least so often as its shore needs
-  weigh_least : (z : ℤ) (n low least : ℕ) → z ≡ pos n → least ≤ low → pos (n * least) ≤ℤ weigh z low 0
-  weigh_least (pos m) n low least is more = let same : m ≡ n = omega (arith, ints, is) in rw same (omega (arith, ints, mul-le-mul_left n more))
-  weigh_least (negsuc m) n low least is more = absurd (omega (arith, ints, is))
+  -- each weight counts just so often as its shore needs
+  weigh_just : (z : ℤ) (n low least : ℕ) → z ≡ pos n → low ≡ least → weigh z low 0 ≡ pos (n * least)
+  weigh_just (pos m) n low least is same =
+      let first : m ≡ n = omega (arith, ints, is) in
+      let product : n * low ≡ n * least = ap (λ (i : ℕ). n * i) same in
+      rw first (omega (arith, ints, product))
+  weigh_just (negsuc m) n low least is same = absurd (omega (arith, ints, is))
 
-  needed : (r n : ℕ) → n ≤ to_parity r (max n 0)
-  needed r n = omega arith
+  -- a need has the parity of the required crossings
+  needed : (r v : ℕ) → to_parity r (max (max (r % 2) (2 * v - r)) 0) ≡ max (r % 2) (2 * v - r)
+  needed r v = omega arith
 
-  weights_least : (rest : List Weighted) → All IsPositive rest →
-      pos (sum_by (λ s. nat_abs s.weight * need p (is_in s.shore)) rest)
-      ≤ℤ signed_sum (λ s. weigh s.weight (to_parity (required_crossings p (is_in s.shore)) (max (need p (is_in s.shore)) 0)) 0) rest
-  weights_least [] positive = omega (arith, ints)
-  weights_least (s ∷ rest) positive =
+  weights_are : (rest : List Weighted) → All IsPositive rest →
+      signed_sum (λ s. weigh s.weight (to_parity (required_crossings p (is_in s.shore)) (max (need p (is_in s.shore)) 0)) 0) rest ≡ pos (weighted_needs p rest)
+  weights_are [] positive = refl
+  weights_are (s ∷ rest) positive =
       let first = All-head IsPositive s rest positive in
       omega (
         arith,
         ints,
-        weigh_least s.weight (nat_abs s.weight) (to_parity (required_crossings p (is_in s.shore)) (max (need p (is_in s.shore)) 0)) (need p (is_in s.shore)) first.natural
-            (needed (required_crossings p (is_in s.shore)) (need p (is_in s.shore))),
-        weights_least rest (All-tail IsPositive s rest positive),
+        weigh_just s.weight (nat_abs s.weight) (to_parity (required_crossings p (is_in s.shore)) (max (need p (is_in s.shore)) 0)) (need p (is_in s.shore)) first.natural
+            (needed (required_crossings p (is_in s.shore)) (vehicles p (touched p (is_in s.shore)))),
+        weights_are rest (All-tail IsPositive s rest positive),
         sum_by-cons (λ r. nat_abs r.weight * need p (is_in r.shore)) s rest,
       )
 
-  pub value_least : pos (unit * required_cost p + sum_by (λ s. nat_abs s.weight * need p (is_in s.shore)) shores) ≤ℤ plain_value p pool (prices_of p unit shores)
-  value_least =
+  pub value_is : plain_value p pool (prices_of p unit shores) ≡ pos (unit * required_cost p + weighted_needs p shores)
+  value_is =
       omega (
         arith,
         ints,
         services_sum p unit 0,
         weights_sum (λ shore z. weigh z (to_parity (required_crossings p (is_in shore)) (max (need p (is_in shore)) 0)) 0) pool [] 1 shores held refl,
-        weights_least shores placeable.positive,
+        weights_are shores placeable.positive,
       )

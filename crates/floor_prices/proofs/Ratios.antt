@@ -1,11 +1,12 @@
 -- Prices by the least ratio of deadhead and load: they are small, they fit, and their value is the Ratio floor.
-use Rattle.std.proofs.Common.{◌≡◌, ℕ, suc, ◌+◌, ◌*◌, ◌≤◌, true, List, [], ◌∷◌, ◌++◌, length, refl, sym, ap, ◌∙◌, subst, arith, inl, inr, ℤ, pos, ◌*ℤ◌, ◌≤ℤ◌}
+use Rattle.std.proofs.Common.{◌≡◌, ℕ, suc, ◌+◌, ◌*◌, ◌≤◌, true, List, [], ◌∷◌, ◌++◌, length, take, refl, sym, ap, ◌∙◌, subst, arith, inl, inr, ℤ, pos, ◌*ℤ◌, ◌≤ℤ◌}
 use Rattle.std.specs.List.{sum_by}
 use Rattle.std.proofs.Math.Nat.{mul-le-mul_left}
 use Rattle.std.proofs.lemmas.Bool.{cases_lt}
 use Rattle.std.proofs.lemmas.Int.{ints}
 use Rattle.std.proofs.lemmas.List.{length-append}
 use Rattle.std.proofs.lemmas.List.Sums.{sum_by-cons}
+use Rattle.carp_base.specs.declared.edge.Edge.{Edge}
 use Rattle.carp_base.specs.declared.edge.Task.{Task}
 use Rattle.carp_base.specs.Problem.{Problem, IsValid, IsRequired, edge_at, tail_of, head_of, required_cost, total_demand}
 use Rattle.plan_model.specs.declared.step.Step.{Step}
@@ -15,7 +16,7 @@ use Rattle.deadhead_paths.specs.Laws.{FewStepsAreLeast, LeastDeadheadIsThere}
 use Rattle.decision_chains.specs.Exclusions.{same}
 use Rattle.branch_rules.specs.Prices.{crossing_prices}
 use Rattle.branch_rules.specs.Limits.{IsPriceSet}
-use Rattle.floor_prices.specs.Floors.{FitsAlways, IsFreeTour, tour_load, IsLeastCostRatio, ReachesRatio, plain_value}
+use Rattle.floor_prices.specs.Floors.{FitsAlways, IsFreeTour, tour_load, IsLeastCostRatio, ReachesRatio, ShowsRatio, plain_value}
 use Rattle.floor_prices.specs.Pieces.{ArePricesSmall, IsRatioIn, ratio_set}
 use Rattle.floor_prices.proofs.Nested.{least_small}
 use Rattle.floor_prices.proofs.Taking.{crossing_scaled, services_take}
@@ -163,6 +164,23 @@ module _ (few : FewStepsAreLeast) (there : LeastDeadheadIsThere) (p : Problem) (
       (omega (arith, ints, services_sum p b a))
       (let most : a' * tour_load p ratio.tasks ≤ a * b' = other.least ratio.tasks a ratio.tour ratio.joined in rw ratio.loaded most)
 
+  -- and no more
+  just : (c t a' b' : ℕ) (value : ℤ) → value ≡ pos (b * c + a * t) → a' * b ≡ a * b' → (value *ℤ pos b') ≡ pos (b * (c * b' + t * a'))
+  just c t a' b' value is equal =
+      let shared : t * (a' * b) ≡ t * (a * b') = ap (λ (n : ℕ). t * n) equal in
+      let product : (b * c + a * t) * b' ≡ b * (c * b') + t * (a * b') = omega arith in
+      let floor : b * (c * b' + t * a') ≡ b * (c * b') + t * (a' * b) = omega arith in
+      rw is (omega (arith, ints, shared, product, floor))
+
+  pub ratio_shows : (pool : List (List ℕ)) → ShowsRatio p pool (ratio_set p a b)
+  ratio_shows pool = record {
+    ratio = λ a' b' other.
+        let no_less : a * b' ≤ a' * b = rw other.loaded (ratio.least other.tasks a' other.tour other.joined) in
+        let no_more : a' * b ≤ a * b' = rw ratio.loaded (other.least ratio.tasks a ratio.tour ratio.joined) in
+        just (required_cost p) (total_demand p) a' b' (plain_value p pool (ratio_set p a b)) (omega (arith, ints, services_sum p b a)) (omega (arith, no_less, no_more));
+    nothing = λ none. let some = some_required p ratio.tasks ratio.tour in absurd (omega (arith, none, some.1.from_one, some.1.in_range));
+  }
+
 -- the set is within its limits
 pub ratio_set_fine : (p : Problem) (a b : ℕ) → IsValid p → IsRatioIn p a b → IsPriceSet (ratio_set p a b)
 ratio_set_fine p a b valid is = record {
@@ -187,3 +205,12 @@ plain_fits p pool valid =
     packing_law p pool (ratio_set p 0 1)
     (record { one_each = prices_long p 1 0 valid; at_cost = λ e is. price_at p (ratio_set p 0 1) 1 0 e valid refl is ∙ ap pos (omega arith); no_groups = refl })
     (record { none_negative = λ k d below. absurd (omega (arith, below)); packs = λ e number. omega (arith, ints) })
+
+-- without required edges their value is 0
+pub plain_shows : (p : Problem) (pool : List (List ℕ)) → p.required ≡ 0 → ShowsRatio p pool (ratio_set p 0 1)
+plain_shows p pool none = record {
+  ratio = λ a b least. let some = some_required p least.tasks least.tour in absurd (omega (arith, none, some.1.from_one, some.1.in_range));
+  nothing = λ _.
+      let no_cost : required_cost p ≡ 0 = ap (λ (n : ℕ). sum_by (λ (x : Edge). x.service) (take n p.edges)) none in
+      omega (arith, ints, services_sum p 1 0, no_cost);
+}

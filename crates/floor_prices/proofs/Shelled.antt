@@ -10,10 +10,10 @@ use Rattle.cut_pool.specs.Shores.{Belongs}
 use Rattle.deadhead_paths.specs.Laws.{FewStepsAreLeast}
 use Rattle.capacity_cuts.specs.Laws.{ShellsPack, ShellsWeighTheirNeeds}
 use Rattle.capacity_cuts.specs.Levels.{AreShells}
-use Rattle.floor_prices.specs.Floors.{FitsAlways, ReachesShell, shores_of}
+use Rattle.floor_prices.specs.Floors.{FitsAlways, ReachesShell, ShowsShell, shores_of}
 use Rattle.floor_prices.specs.Pieces.{ArePlaceable, HoldsFirst, prices_of}
 use Rattle.floor_prices.proofs.Nested.{shells_placeable}
-use Rattle.floor_prices.proofs.Packed.{shores_fit, value_least}
+use Rattle.floor_prices.proofs.Packed.{shores_fit, value_is}
 
 -- two facts of an answer give a third
 pub both_on_ok : {T E : Type 0} (r : Result T E) (P : T → Type 0) (Q : Type 0) (R : T → Type 0) → ((x : T) → P x → Q → R x) → IfOk r P → OnOk r Q → IfOk r R
@@ -33,5 +33,8 @@ module _ (few : FewStepsAreLeast) (p : Problem) (pool : List (List ℕ)) (shells
   pub shell_fits : ShellsPack → FitsAlways p pool (prices_of p 1 shells)
   shell_fits pack = shores_fit p pool 1 shells valid held placeable (λ e number. omega (arith, pack p shells valid are e number))
 
+  pub shell_shows : ShellsWeighTheirNeeds → ShowsShell p pool (prices_of p 1 shells)
+  shell_shows weigh level k levels far = omega (arith, ints, value_is p pool 1 shells valid held placeable, weigh p shells level k valid are levels far)
+
   pub shell_reaches : ShellsWeighTheirNeeds → ReachesShell p pool (prices_of p 1 shells)
-  shell_reaches weigh level k levels far = omega (arith, ints, value_least p pool 1 shells valid held placeable, weigh p shells level k valid are levels far)
+  shell_reaches weigh level k levels far = omega (arith, ints, shell_shows weigh level k levels far)

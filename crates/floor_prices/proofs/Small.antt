@@ -1,5 +1,5 @@
 -- The town of one street: its least ways, its level sets, its least ratio and its least join.
-use Rattle.std.proofs.Common.{◌≡◌, ◌≢◌, ℕ, zero, suc, ◌+◌, ◌*◌, ◌<◌, ◌≤◌, Bool, true, false, List, [], ◌∷◌, ◌++◌, length, map, refl, sym, ap, ◌∙◌, subst, arith, inl, inr, ◌⊎◌, pos, negsuc, ◌*ℤ◌, ◌≤ℤ◌, lit≤}
+use Rattle.std.proofs.Common.{◌≡◌, ◌≢◌, ℕ, zero, suc, ◌+◌, ◌*◌, ◌<◌, ◌≤◌, Bool, true, false, List, [], ◌∷◌, ◌++◌, length, map, refl, sym, ap, ◌∙◌, subst, arith, inl, inr, ◌⊎◌, pos, negsuc, ◌*ℤ◌, ◌≤ℤ◌, lit≤, nat_abs, slice_index_or}
 use Rattle.std.specs.List.{sum_by}
 use Rattle.std.specs.Prelude.{◌&&◌, ◌↔◌, IsTrue, nat_lt}
 use Rattle.std.proofs.lemmas.Bool.{false≢true, cases_lt, lt-ltb, le-ltb}
@@ -11,17 +11,17 @@ use Rattle.carp_base.specs.declared.edge.Task.{Task}
 use Rattle.carp_base.specs.Problem.{IsEdgeNumber, IsFineEdge, IsFineTask, IsRequired, IsValid, IsVertex, edge_at, head_of, tail_of}
 use Rattle.plan_model.specs.Plans.{Leads}
 use Rattle.plan_model.specs.declared.step.Step.{Step}
-use Rattle.cut_pool.specs.Shores.{Belongs, IsShore, is_in}
+use Rattle.cut_pool.specs.Shores.{Belongs, IsShore, is_in, need}
 use Rattle.cut_pool.specs.declared.shore.Weighted.{Weighted}
 use Rattle.capacity_cuts.specs.Laws.{ShellsWeighTheirNeeds}
 use Rattle.capacity_cuts.specs.Levels.{IsBeyond, IsLevelSet, AreShells, AreLevelSets, needs_below, weighted_needs}
 use Rattle.deadhead_paths.specs.Examples.{town, forth, homeward, task}
 use Rattle.deadhead_paths.specs.Prices.{IsLeastPrice, price_of, costs_of}
-use Rattle.matching_duals.specs.Joins.{MakesEven, IsJoinBound, IsLeastJoin, IsOddShore, halves_over, join_cost}
+use Rattle.matching_duals.specs.Joins.{MakesEven, IsJoinBound, IsLeastJoin, IsOddShore, all_halves, halves_over, join_cost}
 use Rattle.branch_rules.specs.Examples.{light_prices, town_pool, town_prices}
 use Rattle.branch_rules.specs.Prices.{Prices, no_weight, price_in}
-use Rattle.floor_prices.specs.Examples.{bare_prices, half_prices, no_town, shared_prices, town_halves, town_level, town_shells}
-use Rattle.floor_prices.specs.Floors.{IsFreeTour, HasDeadhead, IsLeastCostRatio, ReachesJoin, ReachesRatio, ReachesShell, plain_value, tour_load}
+use Rattle.floor_prices.specs.Examples.{bare_prices, half_prices, high_prices, no_town, shared_prices, town_halves, town_level, town_shells}
+use Rattle.floor_prices.specs.Floors.{IsFreeTour, HasDeadhead, IsLeastCostRatio, ReachesJoin, ReachesRatio, ReachesShell, ShowsJoinShores, ShowsRatio, ShowsShell, plain_value, shores_of, tour_load}
 use Rattle.floor_prices.specs.Laws.{ServesAtCost, WeightsPack}
 use Rattle.floor_prices.specs.Sets.{IsJoinSet, IsRatioSet, IsShellSet, empty_set}
 
@@ -118,6 +118,33 @@ pub ratio_missed : ReachesRatio town town_pool bare_prices → ⊥
 ratio_missed reaches =
     let floor : pos (1 * (7 * 1 + 1 * 5)) ≤ℤ (pos 7 *ℤ pos 1) = reaches 5 1 town_ratio in
     omega (arith, ints, floor)
+
+-- each least ratio is 5 to 1
+five_times : (a b : ℕ) → IsLeastCostRatio town a b → a ≡ 5 * b
+five_times a b ratio =
+    let no_less : 5 * tour_load town ratio.tasks ≤ a * 1 = tour_least ratio.tasks a ratio.tour ratio.joined in
+    let no_more : a * 1 ≤ 5 * b = ratio.least (task ∷ []) 5 one_tour one_deadhead in
+    omega (arith, no_less, no_more, ratio.loaded)
+
+pub ratio_shown : ShowsRatio town [] shared_prices
+ratio_shown = record {
+  ratio = λ a b ratio.
+      let floor : (pos 12 *ℤ pos b) ≡ pos (1 * (7 * b + 1 * a)) = omega (arith, ints, five_times a b ratio) in
+      floor;
+  nothing = λ none. absurd (omega (arith, none));
+}
+
+pub ratio_passed : ShowsRatio town [] high_prices → ⊥
+ratio_passed shows =
+    let floor : (pos 13 *ℤ pos 1) ≡ pos (1 * (7 * 1 + 1 * 5)) = shows.ratio 5 1 town_ratio in
+    omega (arith, ints, floor)
+
+no_tour : (tasks : List Task) → IsFreeTour no_town tasks → ⊥
+no_tour [] tour = absurd (tour.some refl)
+no_tour (t ∷ tasks) tour = omega (arith, tour.required.0.from_one, tour.required.0.in_range)
+
+pub no_ratio_shown : ShowsRatio no_town [] empty_set
+no_ratio_shown = record { ratio = λ a b least. absurd (no_tour least.tasks least.tour); nothing = λ _. refl }
 
 -- one deadhead makes both ends even, and none does not
 one_or_two : (v : ℕ) → IsVertex town v → (v ≡ 1) ⊎ (v ≡ 2)
@@ -255,6 +282,19 @@ module _ (weigh : ShellsWeighTheirNeeds) where
       let floor : pos (1 * (7 + needs_below town level k)) ≤ℤ pos 12 = omega (arith, ints, five_levels level k levels far) in
       floor
 
+  pub shell_shown : ShowsShell town town_pool town_prices
+  shell_shown level k levels far =
+      let floor : pos 12 ≡ pos (1 * (7 + needs_below town level k)) = omega (arith, ints, five_levels level k levels far) in
+      floor
+
+  passed_at : (k : ℕ) → 1000000000 ≤ k → ShowsShell town town_pool high_prices → ⊥
+  passed_at k far shows =
+      let floor : pos 13 ≡ pos (1 * (7 + needs_below town town_level k)) = shows town_level k town_levels far in
+      omega (arith, ints, floor, five_levels town_level k town_levels far)
+
+  pub shell_passed : ShowsShell town town_pool high_prices → ⊥
+  shell_passed = passed_at 1000000000 (lit≤ tt)
+
   missed_at : (k : ℕ) → 1000000000 ≤ k → ReachesShell town town_pool bare_prices → ⊥
   missed_at k far reaches =
       let floor : pos (1 * (7 + needs_below town town_level k)) ≤ℤ pos 7 = reaches town_level k town_levels far in
@@ -318,6 +358,28 @@ join_made = record {
   show = town_bound;
   weighs = record { denominator = refl; services = at_cost half_prices refl refl refl; held = refl; weights = refl };
 }
+
+pub join_shown : ShowsJoinShores town town_pool half_prices
+join_shown = record {
+  shores = record { counts = 1 ∷ []; shores = town_halves; value = 5; show = town_bound; held = refl };
+  needs = refl;
+}
+
+-- the one shore needs one deadhead
+needs_ten : (shores : List Weighted) → town_pool ≡ shores_of shores → weighted_needs town shores ≡ all_halves shores
+needs_ten [] held = absurd (omega (arith, ap length held))
+needs_ten (s ∷ []) held =
+    let same : s.shore ≡ 2 ∷ [] = sym (ap (λ (xs : List (List ℕ)). slice_index_or xs 0 []) held) in
+    let one : need town (is_in s.shore) ≡ 1 = ap (λ (xs : List ℕ). need town (is_in xs)) same in
+    let product : nat_abs s.weight * need town (is_in s.shore) ≡ nat_abs s.weight * 1 = ap (λ (n : ℕ). nat_abs s.weight * n) one in
+    omega (arith, product)
+needs_ten (s ∷ (r ∷ shores)) held = absurd (omega (arith, ap length held))
+
+pub join_passed : ShowsJoinShores town town_pool high_prices → ⊥
+join_passed shows =
+    let value : pos 26 ≡ pos (1 * (2 * 7 + weighted_needs town shows.shores.shores)) = shows.needs in
+    let least : shows.shores.value ≤ 5 = shows.shores.show.least.least (1 ∷ []) one_is_even in
+    omega (arith, ints, value, needs_ten shows.shores.shores shows.shores.held, shows.shores.show.twice, least)
 
 pub join_wholes : IsJoinSet town town_pool town_prices → ⊥
 join_wholes is = omega (arith, is.weighs.denominator)

@@ -20,6 +20,10 @@ half_prices = record { unit = 2; services = pos 14 ∷ []; weights = record { sh
 abbrev pub shared_prices : Prices
 shared_prices = record { unit = 1; services = pos 12 ∷ []; weights = []; groups = [] }
 
+-- a price of 13, and no weight
+abbrev pub high_prices : Prices
+high_prices = record { unit = 1; services = pos 13 ∷ []; weights = []; groups = [] }
+
 -- a depot alone
 abbrev pub no_town : Problem
 no_town = record { vertices = 1; depot = 1; capacity = 1; required = 0; edges = [] }

@@ -1,11 +1,12 @@
--- The floors of the bound, and when a price set reaches one: where its value divided by its denominator is at least the floor.
+-- The floors of the bound, and when a price set reaches one, or shows just one: its value divided by its denominator is at least the floor, or just
+-- the floor.
 use Rattle.std.specs.Prelude.{◌≡◌, ◌≢◌, ℕ, ◌+◌, ◌*◌, ◌<◌, ◌≤◌, Bool, List, [], length, map, sum_by, ℤ, pos, ◌*ℤ◌, ◌≤ℤ◌}
 use Rattle.carp_base.specs.declared.edge.Task.{Task}
 use Rattle.carp_base.specs.Problem.{Problem, edge_at, required_cost, total_demand}
 use Rattle.cut_pool.specs.declared.shore.Weighted.{Weighted}
 use Rattle.deadhead_paths.specs.Prices.{price_of, costs_of}
 use Rattle.deadhead_paths.specs.Tours.{IsTaskTour, LeastDeadhead}
-use Rattle.capacity_cuts.specs.Levels.{AreShells, AreLevelSets, needs_below}
+use Rattle.capacity_cuts.specs.Levels.{AreShells, AreLevelSets, needs_below, weighted_needs}
 use Rattle.matching_duals.specs.Joins.{IsLeastJoin, IsJoinBound}
 use Rattle.decision_chains.specs.declared.decision.Decision.{Decision}
 use Rattle.branch_rules.specs.Prices.{Prices, value_of, weight_at}
@@ -25,6 +26,12 @@ abbrev pub ReachesShell : Problem → List (List ℕ) → Prices → Type 0
 ReachesShell p pool set =
     (level : ℕ → ℕ → Bool) (k : ℕ) → AreLevelSets p level → 1000000000 ≤ k →
     pos (set.unit * (required_cost p + needs_below p level k)) ≤ℤ plain_value p pool set
+
+-- the set's value divided by its denominator is exactly Shell
+abbrev pub ShowsShell : Problem → List (List ℕ) → Prices → Type 0
+ShowsShell p pool set =
+    (level : ℕ → ℕ → Bool) (k : ℕ) → AreLevelSets p level → 1000000000 ≤ k →
+    plain_value p pool set ≡ pos (set.unit * (required_cost p + needs_below p level k))
 
 -- a relaxed tour in which no edge follows itself
 abbrev pub IsFreeTour : Problem → List Task → Type 0
@@ -52,6 +59,13 @@ ReachesRatio p pool set =
     (deadhead load : ℕ) → IsLeastCostRatio p deadhead load →
     pos (set.unit * (required_cost p * load + total_demand p * deadhead)) ≤ℤ (plain_value p pool set *ℤ pos load)
 
+-- the set's value divided by its denominator is exactly Ratio; if no edge is required, there is no ratio, and the value is 0
+pub record ShowsRatio (p : Problem) (pool : List (List ℕ)) (set : Prices) : Type 0 where
+  pub ratio :
+      (deadhead load : ℕ) → IsLeastCostRatio p deadhead load →
+      (plain_value p pool set *ℤ pos load) ≡ pos (set.unit * (required_cost p * load + total_demand p * deadhead))
+  pub nothing : p.required ≡ 0 → plain_value p pool set ≡ pos 0
+
 -- Join is the service costs, and the least cost of deadheads that make every vertex even
 abbrev pub ReachesJoin : Problem → List (List ℕ) → Prices → Type 0
 ReachesJoin p pool set = (value : ℕ) → IsLeastJoin p value → pos (set.unit * (required_cost p + value)) ≤ℤ plain_value p pool set
@@ -73,6 +87,13 @@ pub record HoldsJoinShores (p : Problem) (pool : List (List ℕ)) : Type 0 where
   pub value : ℕ
   pub show : IsJoinBound p counts shores value
   pub held : pool ≡ shores_of shores
+
+-- The pool holds shores that show the least join, and nothing else. The set's value divided by its denominator is the service costs and
+-- half of the sum of the shores' needs, each times the halves of its shore. So it is Join if each shore needs one deadhead, and more than
+-- Join if a shore needs more, as for the vehicles that its demand takes.
+pub record ShowsJoinShores (p : Problem) (pool : List (List ℕ)) (set : Prices) : Type 0 where
+  pub shores : HoldsJoinShores p pool
+  pub needs : (pos 2 *ℤ plain_value p pool set) ≡ pos (set.unit * (2 * required_cost p + weighted_needs p shores.shores))
 
 -- the set has one weight on each shore of the pool, in their order, and no others
 pub record WeighsEach (pool : List (List ℕ)) (set : Prices) : Type 0 where

@@ -1,6 +1,7 @@
--- Price sets that fit because their weights pack, and sets that reach what others reach.
-use Rattle.std.specs.Prelude.{◌≡◌, ℕ, ◌*◌, ◌≤◌, List, [], length, All, pos, ◌*ℤ◌, ◌≤ℤ◌}
-use Rattle.carp_base.specs.Problem.{Problem, IsRequired, IsEdgeNumber, edge_at}
+-- Price sets that fit because their weights pack, level sets, and sets that reach what others reach.
+use Rattle.std.specs.Prelude.{◌≡◌, ℕ, ◌*◌, ◌≤◌, Bool, List, [], length, All, pos, ◌*ℤ◌, ◌≤ℤ◌}
+use Rattle.carp_base.specs.Problem.{Problem, IsEdgeNumber, IsRequired, IsValid, edge_at}
+use Rattle.capacity_cuts.specs.Levels.{AreLevelSets}
 use Rattle.branch_rules.specs.Prices.{Prices, price_in, signed_sum, crossing_weight}
 use Rattle.floor_prices.specs.Floors.{FitsAlways, ReachesShell, ReachesRatio, ReachesJoin, plain_value}
 
@@ -18,6 +19,10 @@ pub record WeightsPack (p : Problem) (pool : List (List ℕ)) (set : Prices) : T
 -- services at cost and weights that pack fit, whatever the decisions are
 abbrev pub PackingWeightsFit : Type 0
 PackingWeightsFit = (p : Problem) (pool : List (List ℕ)) (set : Prices) → ServesAtCost p set → WeightsPack p pool set → FitsAlways p pool set
+
+-- for each valid instance, there are level sets of all levels
+abbrev pub LevelSetsAreThere : Type 0
+LevelSetsAreThere = (p : Problem) → IsValid p → (level : ℕ → ℕ → Bool) × AreLevelSets p level
 
 -- the value of the first set divided by its denominator is at most that of the second
 abbrev pub IsNoBetter : Problem → List (List ℕ) → Prices → List (List ℕ) → Prices → Type 0

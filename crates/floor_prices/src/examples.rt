@@ -3,8 +3,8 @@ ghost use Rattle.std.specs.Prelude.{[], ◌∷◌};
 ghost use Rattle.deadhead_paths.specs.Examples.{town};
 ghost use Rattle.branch_rules.specs.Examples.{heavy_prices, light_prices, town_pool, town_prices};
 ghost use Rattle.matching_duals.specs.Joins.{IsLeastJoin};
-ghost use Rattle.floor_prices.specs.Examples.{bare_prices, dear_prices, half_prices, no_town, shared_prices};
-ghost use Rattle.floor_prices.specs.Floors.{IsLeastCostRatio, ReachesJoin, ReachesRatio, ReachesShell};
+ghost use Rattle.floor_prices.specs.Examples.{bare_prices, dear_prices, half_prices, high_prices, no_town, shared_prices};
+ghost use Rattle.floor_prices.specs.Floors.{IsLeastCostRatio, ReachesJoin, ReachesRatio, ReachesShell, ShowsJoinShores, ShowsRatio, ShowsShell};
 ghost use Rattle.floor_prices.specs.Laws.{IsNoBetter, ServesAtCost, WeightsPack};
 ghost use Rattle.floor_prices.specs.Sets.{IsJoinSet, IsRatioSet, IsShellSet, empty_set};
 
@@ -29,12 +29,17 @@ fn a_least_ratio()
     ensures dearer { ¬ (IsLeastCostRatio town 6 1) }
     ensures reached { ReachesRatio town town_pool town_prices }
     ensures missed { ¬ (ReachesRatio town town_pool bare_prices) }
+    ensures shown { ShowsRatio town [] shared_prices }
+    ensures passed { ¬ (ShowsRatio town [] high_prices) }
+    ensures none { ShowsRatio no_town [] empty_set }
 {}
 
 fn a_least_join()
     ensures least { IsLeastJoin town 5 }
     ensures reached { ReachesJoin town town_pool town_prices }
     ensures missed { ¬ (ReachesJoin town town_pool bare_prices) }
+    ensures shown { ShowsJoinShores town town_pool half_prices }
+    ensures passed { ¬ (ShowsJoinShores town town_pool high_prices) }
 {}
 
 fn sets_that_are_made()
@@ -51,6 +56,8 @@ fn sets_that_are_made()
 fn a_level_set()
     ensures reached { ReachesShell town town_pool town_prices }
     ensures missed { ¬ (ReachesShell town town_pool bare_prices) }
+    ensures shown { ShowsShell town town_pool town_prices }
+    ensures passed { ¬ (ShowsShell town town_pool high_prices) }
 {
     shells_are_duals();
 }

@@ -3,7 +3,7 @@ ghost use Rattle.std.specs.Prelude.{◌≡◌, [], All, IfOk, OnOk};
 ghost use Rattle.cut_pool.specs.Shores.{Belongs};
 ghost use Rattle.deadhead_paths.specs.Prices.{costs_of};
 ghost use Rattle.branch_rules.specs.Limits.{IsShoreOf};
-ghost use Rattle.floor_prices.specs.Floors.{FitsAlways, HoldsJoinShores, ReachesJoin, WeighsEach};
+ghost use Rattle.floor_prices.specs.Floors.{FitsAlways, HoldsJoinShores, ReachesJoin, ShowsJoinShores, WeighsEach};
 ghost use Rattle.floor_prices.specs.Sets.{IsJoinSet};
 
 use crate::placing::set_of_shores;
@@ -19,8 +19,9 @@ use std::alloc::Global;
 /// since those weights are in halves (Edmonds and Johnson 1973).
 ///
 /// The Join floor is the service costs and the least cost of deadheads that make the number of crossings at each vertex even.
-/// The set fits under every branch, since over each edge the halves sum to at most twice its cost, and its value is at least the
-/// floor, since an odd number of required edges cross each shore, and so one deadhead at least.
+/// The set fits under every branch, since over each edge the halves sum to at most twice its cost, and its value divided by its
+/// denominator is at least the floor, since an odd number of required edges cross each shore, and so one deadhead at least. It is above
+/// the floor where a shore needs more than one, since each shore counts as often as it needs a deadhead.
 ///
 /// It asks for the network, for distances by cost and for an empty pool, in which it leaves the shores, at most 1,999, each with a weight. The one
 /// error is want of memory, after which all shores of the pool belong to the instance. It takes the time of
@@ -38,6 +39,7 @@ pub fn join_prices(
     requires empty { pool.old ≡ [] }
     ensures fits { IfOk result (FitsAlways inst.now pool.new) }
     ensures reaches { IfOk result (ReachesJoin inst.now pool.new) }
+    ensures value { IfOk result (ShowsJoinShores inst.now pool.new) }
     ensures shores { IfOk result (λ set. All (λ w. IsShoreOf inst.now pool.new w.shore) set.weights) }
     ensures held { OnOk result (HoldsJoinShores inst.now pool.new) }
     ensures weighed { IfOk result (WeighsEach pool.new) }

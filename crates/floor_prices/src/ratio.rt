@@ -2,7 +2,7 @@
 ghost use Rattle.std.specs.Prelude.{◌≡◌, ℕ, List, [], IfOk, MatchOption};
 ghost use Rattle.deadhead_paths.specs.Prices.{costs_of};
 ghost use Rattle.route_pricing.specs.Tables.{IsRoom};
-ghost use Rattle.floor_prices.specs.Floors.{FitsAlways, IsLeastCostRatio, ReachesRatio};
+ghost use Rattle.floor_prices.specs.Floors.{FitsAlways, IsLeastCostRatio, ReachesRatio, ShowsRatio};
 ghost use Rattle.floor_prices.specs.Pieces.{IsRatioIn, ratio_set};
 ghost use Rattle.floor_prices.specs.Sets.{IsRatioSet};
 
@@ -24,8 +24,8 @@ const NOTHING: Ratio = Ratio {
 ///
 /// The Ratio floor is the service costs and the total demand times a / b (relaxed tours: Christofides, Mingozzi and Toth 1981).
 /// The set has no weights, so it says nothing of a pool.
-/// It fits under every branch, since the deadhead of each relaxed tour divided by its load is at least a / b, and its value is at
-/// least the floor. Where no edge is required it is the empty set with the denominator 1.
+/// It fits under every branch, since the deadhead of each relaxed tour divided by its load is at least a / b, and its value divided by its
+/// denominator is exactly the floor. Where no edge is required it is the empty set with the denominator 1, of the value 0.
 ///
 /// It asks for distances by cost and for a table that was made for the instance, and fills the table. The one error is want of
 /// memory. With m required edges it takes one filling of the table, one look over it, and m * m steps for the pairs.
@@ -40,6 +40,7 @@ pub fn ratio_prices(
     requires room { IsRoom inst.now table.old }
     ensures fits { IfOk result (λ set. (pool : List (List ℕ)) → FitsAlways inst.now pool set) }
     ensures reaches { IfOk result (λ set. (pool : List (List ℕ)) → ReachesRatio inst.now pool set) }
+    ensures value { IfOk result (λ set. (pool : List (List ℕ)) → ShowsRatio inst.now pool set) }
     ensures no_weights { IfOk result (λ set. set.weights ≡ []) }
     ensures no_groups { IfOk result (λ set. set.groups ≡ []) }
     ensures made { IfOk result (IsRatioSet inst.now) }

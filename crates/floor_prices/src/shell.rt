@@ -3,7 +3,7 @@ ghost use Rattle.std.specs.Prelude.{◌≡◌, [], All, IfOk, OnOk};
 ghost use Rattle.cut_pool.specs.Shores.{Belongs};
 ghost use Rattle.deadhead_paths.specs.Prices.{costs_of};
 ghost use Rattle.branch_rules.specs.Limits.{IsShoreOf};
-ghost use Rattle.floor_prices.specs.Floors.{FitsAlways, HoldsShells, ReachesShell, WeighsEach};
+ghost use Rattle.floor_prices.specs.Floors.{FitsAlways, HoldsShells, ReachesShell, ShowsShell, WeighsEach};
 ghost use Rattle.floor_prices.specs.Sets.{IsShellSet};
 
 use crate::laws::packing_weights_fit;
@@ -20,7 +20,7 @@ use std::alloc::Global;
 ///
 /// The Shell floor is the service costs, and for each whole t from 0 on the need (Belenguer and Benavent 1998) of the set of the
 /// vertices that the depot reaches at a distance by cost above t. The set fits under every branch, since over each edge the
-/// weights sum to at most its cost, and its value is at least the floor.
+/// weights sum to at most its cost, and its value is exactly the floor.
 ///
 /// It asks for distances by cost and for an empty pool, in which it leaves the level sets, nearest first, each with a weight. The one error is want
 /// of memory, after which all shores of the pool belong to the instance. With n vertices and m required edges it takes one sort
@@ -36,6 +36,7 @@ pub fn shell_prices(
     requires empty { pool.old ≡ [] }
     ensures fits { IfOk result (FitsAlways inst.now pool.new) }
     ensures reaches { IfOk result (ReachesShell inst.now pool.new) }
+    ensures value { IfOk result (ShowsShell inst.now pool.new) }
     ensures shores { IfOk result (λ set. All (λ w. IsShoreOf inst.now pool.new w.shore) set.weights) }
     ensures held { OnOk result (HoldsShells inst.now pool.new) }
     ensures weighed { IfOk result (WeighsEach pool.new) }

@@ -11,6 +11,7 @@ use Rattle.carp_engine.specs.Certifying.{IsSearched}
 use Rattle.carp_engine.proofs.Better.{asked_or_closed, improved}
 use Rattle.carp_engine.proofs.Certified.{Laws}
 use Rattle.carp_engine.proofs.Olds.{had, may_resume, shores, tree_nodes, would_show}
+use Rattle.carp_engine.proofs.Sound.{no_dearer}
 use Rattle.carp_engine.proofs.improving.improve.Goals as goal
 
 pub note_nodes-requires-clause-nodes : goal.note_nodes-requires-clause-nodes
@@ -25,6 +26,9 @@ pub note_nodes-requires-clause-shores : goal.note_nodes-requires-clause-shores
 note_nodes-requires-clause-shores g c =
     subst (λ (sets : List Prices). HasShores (record { problem = c.args.inst.now; pool = c.args.cert.shores; sets = sets })) (sym c.deref.ensures.value)
     (shores c.spellable_is_fine.ensures c.fixed_values_compare.ensures.unique c.args.inst.now (certificate_in c.args.cert) c.requires.spellable c.requires.good)
+
+pub search_on-requires-clause-allowed : goal.search_on-requires-clause-allowed
+search_on-requires-clause-allowed g c = c.short_plans_are_allowed.ensures c.args.inst.now c.ask_all.new.best c.vertices.ensures.valid c.ask_all.ensures.short
 
 pub search_on-requires-clause-may : goal.search_on-requires-clause-may
 search_on-requires-clause-may g c =
@@ -48,7 +52,7 @@ returns-clause-improved g c =
     had c.spellable_is_fine.ensures c.fixed_values_compare.ensures.unique p old c.requires.spellable c.requires.good c.resumed_trees_have_turns.ensures
     (c.good_is_proof.ensures p old c.vertices.ensures.valid c.requires.good).bounds entries noted in
     IfOk-weaker c.search_on.result _ _
-    (λ solved searched. improved laws p old entries c.args.turns best (omega (arith, c.ask_all.ensures.no_dearer, c.in_ok-plan.ensures.cost, c.requires.good.cost)) before _ _
+    (λ solved searched. improved laws p old entries c.args.turns best c.ask_all.ensures.short (omega (arith, c.ask_all.ensures.no_dearer, c.in_ok-plan.ensures.cost, c.requires.good.cost)) before _ _
     (subst (λ (xs : List GrowingNode). IsSearched p old.bound (min (turns_in (plan_cost p best) xs + c.args.turns) 1048576) best (certificate_in solved.cert) solved.turns) c.deref-2.ensures.value searched))
     c.search_on.ensures
 
@@ -56,3 +60,14 @@ pub returns-clause-ended : goal.returns-clause-ended
 returns-clause-ended g c =
     IfOk-weaker c.search_on.result _ _ (λ solved is. asked_or_closed c.args.inst.now (certificate_in c.args.cert) (certificate_in solved.cert) c.args.turns solved.turns c.requires.turns_in_range is)
     (returns-clause-improved g c)
+
+pub returns-clause-rounds : goal.returns-clause-rounds
+returns-clause-rounds g c =
+    IfOk-weaker c.search_on.result _ _
+    (λ solved searched. record {
+      start = c.in_ok-plan.plan;
+      tidied = c.in_ok-plan.ensures;
+      best = c.ask_all.new.best;
+      rounds = c.in_ok-ask_all.ensures.rounds;
+      no_dearer = no_dearer c.args.inst.now c.args.cert.bound _ c.ask_all.new.best _ _ searched;
+    }) c.search_on.ensures

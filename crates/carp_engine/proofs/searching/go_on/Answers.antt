@@ -1,5 +1,6 @@
 use Rattle.std.proofs.Common.{◌≡◌, ◌≤◌, ◌⊎◌, sym, ap, ◌∙◌, arith, inl, inr, subst, ℕ}
 use Rattle.plan_model.specs.Plans.{plan_cost}
+use Rattle.short_plans.specs.Shorts.{IsShortPlan}
 use Rattle.branch_tree.specs.Founds.{IsFound, findings_of}
 use Rattle.carp_engine.proofs.searching.go_on.Goals as goal
 
@@ -21,6 +22,7 @@ returns c =
       is_found = subst (IsFound p (findings_of found)) (sym turns) c.in_ok-found.ensures.found;
       certified = solved.certified;
       no_dearer = omega (arith, cost, first, c.take_turns.ensures.no_dearer);
+      short = λ short. subst (IsShortPlan p) (sym c.in_ok-found.ensures.plan) (c.take_turns.ensures.short short);
       no_lower = omega (arith, c.in_ok-found.ensures.least, c.take_turns.ensures.least);
       ended = ended_by found.bound s.cost (plan_cost p found.plan) c.args.search.turns c.budget-turns.result s.done c.in_ok-solved.solved.turns c.budget-turns.ensures c.in_ok-found.ensures.closed cost turns c.in_ok-take_turns.ensures.ended;
     }

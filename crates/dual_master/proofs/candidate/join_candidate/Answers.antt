@@ -9,7 +9,7 @@ with_value-requires c = record {
   no_groups = c.in_ok-set.ensures.no_groups;
   shores = c.in_ok-set.ensures.shores;
   belong = c.join_prices.ensures.belong;
-  base = inr (inl c.in_ok-set.ensures.held);
+  base = inr (inl c.in_ok-set.ensures.value);
   weighed = c.in_ok-set.ensures.weighed;
 }
 

@@ -18,7 +18,7 @@ with_value-requires c =
       no_groups = c.in_ok-set.ensures.no_groups;
       shores = subst (λ (ws : List Weight). All (λ (w : Weight). IsShoreOf p pool w.shore) ws) (sym c.in_ok-set.ensures.no_weights) (All-nil (λ (w : Weight). IsShoreOf p pool w.shore));
       belong = subst (All (Belongs p)) (sym c.new.ensures) (All-nil (Belongs p));
-      base = inr (inr c.new.ensures);
+      base = inr (inr (c.new.ensures, c.in_ok-set.ensures.value pool));
       weighed = none_weighed pool c.in_ok-set.set c.new.ensures c.in_ok-set.ensures.no_weights;
     }
 

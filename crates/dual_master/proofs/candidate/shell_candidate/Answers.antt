@@ -9,7 +9,7 @@ with_value-requires c = record {
   no_groups = c.in_ok-set.ensures.no_groups;
   shores = c.in_ok-set.ensures.shores;
   belong = c.shell_prices.ensures.belong;
-  base = inl c.in_ok-set.ensures.held;
+  base = inl (c.in_ok-set.ensures.held, c.in_ok-set.ensures.value);
   weighed = c.in_ok-set.ensures.weighed;
 }
 

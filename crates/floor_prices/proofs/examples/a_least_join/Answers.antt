@@ -1,4 +1,4 @@
-use Rattle.floor_prices.proofs.Small.{town_join, join_reached, join_missed}
+use Rattle.floor_prices.proofs.Small.{town_join, join_reached, join_missed, join_shown, join_passed}
 use Rattle.floor_prices.proofs.examples.a_least_join.Goals as goal
 
 pub returns-clause-least : goal.returns-clause-least
@@ -9,3 +9,9 @@ returns-clause-reached c = join_reached
 
 pub returns-clause-missed : goal.returns-clause-missed
 returns-clause-missed c = join_missed
+
+pub returns-clause-shown : goal.returns-clause-shown
+returns-clause-shown c = join_shown
+
+pub returns-clause-passed : goal.returns-clause-passed
+returns-clause-passed c = join_passed

@@ -1,4 +1,4 @@
-use Rattle.floor_prices.proofs.Small.{town_ratio, no_dearer_ratio, ratio_reached, ratio_missed}
+use Rattle.floor_prices.proofs.Small.{town_ratio, no_dearer_ratio, ratio_reached, ratio_missed, ratio_shown, ratio_passed, no_ratio_shown}
 use Rattle.floor_prices.proofs.examples.a_least_ratio.Goals as goal
 
 pub returns-clause-least : goal.returns-clause-least
@@ -12,3 +12,12 @@ returns-clause-reached c = ratio_reached
 
 pub returns-clause-missed : goal.returns-clause-missed
 returns-clause-missed c = ratio_missed
+
+pub returns-clause-shown : goal.returns-clause-shown
+returns-clause-shown c = ratio_shown
+
+pub returns-clause-passed : goal.returns-clause-passed
+returns-clause-passed c = ratio_passed
+
+pub returns-clause-none : goal.returns-clause-none
+returns-clause-none c = no_ratio_shown

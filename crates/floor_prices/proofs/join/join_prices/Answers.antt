@@ -4,10 +4,10 @@ use Rattle.std.proofs.lemmas.Result.{on_ok_weaker}
 use Rattle.branch_rules.specs.Limits.{IsShoreOf}
 use Rattle.branch_rules.specs.Prices.{Prices}
 use Rattle.branch_rules.specs.declared.weight.Weight.{Weight}
-use Rattle.floor_prices.specs.Floors.{FitsAlways, ReachesJoin, WeighsEach, shores_of}
+use Rattle.floor_prices.specs.Floors.{FitsAlways, ReachesJoin, ShowsJoinShores, WeighsEach, shores_of}
 use Rattle.floor_prices.specs.Pieces.{prices_of}
 use Rattle.floor_prices.specs.Sets.{IsJoinSet}
-use Rattle.floor_prices.proofs.Joined.{join_placeable, join_fits, join_reaches}
+use Rattle.floor_prices.proofs.Joined.{join_placeable, join_fits, join_reaches, join_shows}
 use Rattle.floor_prices.proofs.Made.{weighs_shores}
 use Rattle.floor_prices.proofs.Packed.{pool_belongs}
 use Rattle.floor_prices.proofs.Shelled.{both_on_ok, first_belong}
@@ -39,6 +39,17 @@ returns-clause-reaches c =
     both_on_ok c.set_of_shores.result (λ set. set ≡ prices_of p 2 shores) (pool ≡ shores_of shores) (ReachesJoin p pool)
     (λ set is held.
     subst (ReachesJoin p pool) (sym is) (join_reaches p bound.deadheads.items shores bound.value c.vertices.ensures.valid c.in_ok-bound.ensures pool held))
+    c.set_of_shores.ensures.value c.set_of_shores.ensures.ok
+
+pub returns-clause-value : goal.returns-clause-value
+returns-clause-value c =
+    let p = c.args.inst.now in
+    let pool = c.set_of_shores.new.pool in
+    let bound = c.in_ok-bound.bound in
+    let shores = bound.shores.items in
+    both_on_ok c.set_of_shores.result (λ set. set ≡ prices_of p 2 shores) (pool ≡ shores_of shores) (ShowsJoinShores p pool)
+    (λ set is held.
+    subst (ShowsJoinShores p pool) (sym is) (join_shows p bound.deadheads.items shores bound.value c.vertices.ensures.valid c.in_ok-bound.ensures pool held))
     c.set_of_shores.ensures.value c.set_of_shores.ensures.ok
 
 pub returns-clause-shores : goal.returns-clause-shores

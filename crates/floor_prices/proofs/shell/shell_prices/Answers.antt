@@ -3,13 +3,13 @@ use Rattle.std.specs.List.{All}
 use Rattle.branch_rules.specs.Limits.{IsShoreOf}
 use Rattle.branch_rules.specs.Prices.{Prices}
 use Rattle.branch_rules.specs.declared.weight.Weight.{Weight}
-use Rattle.floor_prices.specs.Floors.{FitsAlways, ReachesShell, WeighsEach, shores_of}
+use Rattle.floor_prices.specs.Floors.{FitsAlways, ReachesShell, ShowsShell, WeighsEach, shores_of}
 use Rattle.floor_prices.specs.Pieces.{prices_of}
 use Rattle.floor_prices.specs.Sets.{IsShellSet}
 use Rattle.floor_prices.proofs.Nested.{shells_placeable}
 use Rattle.floor_prices.proofs.Made.{weighs_shores}
 use Rattle.floor_prices.proofs.Packed.{pool_belongs}
-use Rattle.floor_prices.proofs.Shelled.{both_on_ok, first_belong, shell_fits, shell_reaches}
+use Rattle.floor_prices.proofs.Shelled.{both_on_ok, first_belong, shell_fits, shell_reaches, shell_shows}
 use Rattle.floor_prices.proofs.Weighed.{weighs_each}
 use Rattle.floor_prices.proofs.shell.shell_prices.Goals as goal
 
@@ -37,6 +37,17 @@ returns-clause-reaches c =
     (λ set is held.
     subst (ReachesShell p pool) (sym is)
     (shell_reaches c.least_prices_are_there.ensures.few_steps p pool shells c.vertices.ensures.valid c.in_ok-found.ensures held c.shells_are_duals.ensures.weigh))
+    c.set_of_shores.ensures.value c.set_of_shores.ensures.ok
+
+pub returns-clause-value : goal.returns-clause-value
+returns-clause-value c =
+    let p = c.args.inst.now in
+    let pool = c.set_of_shores.new.pool in
+    let shells = c.in_ok-found.found.items in
+    both_on_ok c.set_of_shores.result (λ set. set ≡ prices_of p 1 shells) (pool ≡ shores_of shells) (ShowsShell p pool)
+    (λ set is held.
+    subst (ShowsShell p pool) (sym is)
+    (shell_shows c.least_prices_are_there.ensures.few_steps p pool shells c.vertices.ensures.valid c.in_ok-found.ensures held c.shells_are_duals.ensures.weigh))
     c.set_of_shores.ensures.value c.set_of_shores.ensures.ok
 
 pub returns-clause-shores : goal.returns-clause-shores

@@ -18,7 +18,7 @@ returns-clause-search c =
       some_turns = c.requires.some_turns;
       turns_in_range = c.requires.turns_in_range;
       room = ap (λ (tree : Growth). tree.room) root.leaf;
-      held = begun_held c.short_plans_cost_little.ensures p floor c.in_ok-floor.ensures.floor c.args.best c.requires.short c.args.turns c.in_ok-tree.tree root c.in_ok-sets.sets.items c.in_ok-sets.ensures c.in_ok-cost.cost c.in_ok-cost.ensures c.turns-done.result c.turns-done.ensures
+      held = begun_held c.short_plans_cost_little.ensures p floor c.in_ok-floor.ensures.floor c.args.best c.requires.allowed c.args.turns c.in_ok-tree.tree root c.in_ok-sets.sets.items c.in_ok-sets.ensures c.in_ok-cost.cost c.in_ok-cost.ensures c.turns-done.result c.turns-done.ensures
           c.node-least.result.shows (ap (λ (x : GrowingNode). x.shows) leaf);
     }
 
@@ -34,5 +34,5 @@ returns-clause-begun c =
       one_set = c.in_ok-sets.ensures;
       pool = c.in_ok-floor.ensures.floor.held;
       leaf = ap (λ (tree : Growth). map (λ (entry : GrowingNode). entry.node) tree.nodes) root.leaf;
-      floored = begun_floored c.short_plans_cost_little.ensures p floor c.in_ok-floor.ensures.floor c.args.best c.requires.short c.args.turns c.in_ok-tree.tree root c.node-least.result.shows (ap (λ (x : GrowingNode). x.shows) leaf);
+      floored = begun_floored c.short_plans_cost_little.ensures p floor c.in_ok-floor.ensures.floor c.args.best c.requires.allowed c.args.turns c.in_ok-tree.tree root c.node-least.result.shows (ap (λ (x : GrowingNode). x.shows) leaf);
     }

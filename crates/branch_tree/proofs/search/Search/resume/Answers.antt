@@ -7,9 +7,9 @@ use Rattle.branch_tree.proofs.search.Search.resume.Goals as goal
 
 pub of-requires : goal.of-requires
 of-requires c =
-    let few = few_nodes c.short_plans_cost_little.ensures c.args.inst.now c.vertices.ensures.valid c.args.best c.requires.short c.args.pool c.args.sets.items c.args.least c.args.nodes.now c.requires.may
+    let few = few_nodes c.short_plans_cost_little.ensures c.args.inst.now c.vertices.ensures.valid c.args.best c.requires.allowed c.args.pool c.args.sets.items c.args.least c.args.nodes.now c.requires.may
     c.in_ok-cost.cost c.in_ok-cost.ensures in
-    let most = in_range c.short_plans_cost_little.ensures c.args.inst.now c.vertices.ensures.valid c.args.best c.requires.short c.args.pool c.args.sets.items c.args.least c.args.nodes.now c.requires.may in
+    let most = in_range c.short_plans_cost_little.ensures c.args.inst.now c.vertices.ensures.valid c.args.best c.requires.allowed c.args.pool c.args.sets.items c.args.least c.args.nodes.now c.requires.may in
     omega (arith, few, most, c.turns_for-done.ensures, c.budget_from-budget.ensures)
 
 pub returns-clause-search : goal.returns-clause-search
@@ -28,7 +28,7 @@ returns-clause-search c =
       held =
           subst (λ (ns : List GrowingNode). IsHeld p (record { pool = c.args.pool; sets = c.args.sets.items; nodes = ns; plan = c.args.best; cost = c.in_ok-cost.cost; done = c.turns_for-done.result; least = c.args.least }))
           (sym entries)
-          (resumed_held c.short_plans_cost_little.ensures p c.vertices.ensures.valid c.args.best c.requires.short c.args.pool c.args.sets.items c.args.least c.args.nodes.now c.requires.may
+          (resumed_held c.short_plans_cost_little.ensures p c.vertices.ensures.valid c.args.best c.requires.allowed c.args.pool c.args.sets.items c.args.least c.args.nodes.now c.requires.may
           c.in_ok-cost.cost c.turns_for-done.result c.in_ok-cost.ensures c.turns_for-done.ensures);
     }
 
