@@ -7,7 +7,7 @@ use Rattle.carp_base.specs.declared.edge.Task.{Task}
 use Rattle.carp_base.specs.Problem.{Problem, IsValid, IsRequired, IsEdgeNumber, IsReached, TasksLead, edge_at, tail_of, head_of}
 use Rattle.pricing_grid.specs.declared.charging.Charge.{Charge}
 use Rattle.pricing_grid.specs.declared.charging.Charge.TheVariants.{Free, Charged, Gained}
-use Rattle.pricing_grid.specs.Partial.{base, charge_at, raised_from, least_raised, no_value, IsGrid, width, column_task, task_start, task_end, demand_of, between, leg, adds_of, may_follow, IsPartial, Reaches, IsCell, IsJoin, IsLeastJoin, IsJoinFrom, IsPredecessor, IsPredecessorUpTo, IsLeastFrom, IsLeastUpTo, cell_place, AreFilled, AreBegun}
+use Rattle.pricing_grid.specs.Partial.{base, charge_at, raised_from, least_raised, no_value, IsGrid, width, column_task, task_start, task_end, demand_of, between, leg, adds_of, may_follow, surcharge_at, IsPartial, Reaches, IsCell, IsJoin, IsLeastJoin, IsJoinFrom, IsPredecessor, IsPredecessorUpTo, IsLeastFrom, IsLeastUpTo, cell_place, AreFilled, AreBegun}
 use Rattle.pricing_grid.specs.declared.grid.Grid.{Grid}
 
 -- the depot reaches both ends of a required edge
@@ -93,6 +93,11 @@ pub partial_heavy : (g : Grid) → IsGrid g → (us : List Task) (t : Task) (l v
 partial_heavy g grid [] t l v partial = omega (arith, partial.load_is, (grid.valid.tasks t.edge partial.required).some_demand)
 partial_heavy g grid (u ∷ us) t l v partial = omega (arith, partial.3.load_is, (grid.valid.tasks t.edge partial.3.required).some_demand)
 
+least_small : (x : Charge) → least_raised x ≤ base
+least_small Free = omega arith
+least_small Charged = omega arith
+least_small Gained = omega arith
+
 module _ (g : Grid) (grid : IsGrid g) where
   pub reaches_required : (t : Task) (l v : ℕ) → Reaches g t l v → IsRequired g.inst t.edge
   reaches_required t l v r = partial_required g r.before t l v r.partial
@@ -107,11 +112,23 @@ module _ (g : Grid) (grid : IsGrid g) where
   pub leg_small : (u t : Task) → IsRequired g.inst u.edge → IsRequired g.inst t.edge → leg g u t ≤ 2 ^ 73 + 2 ^ 62
   leg_small u t u_in t_in = omega (arith, between_small u t u_in t_in, grid.small_surcharges u.edge t.edge u_in t_in)
 
-  -- no leg to a task is below the least of what is known of its edge
+  -- no surcharge of an edge is below the least of what is known of it, and no leg to its tasks
+  pub raised_least : (u t : Task) (x : Charge) → IsRequired g.inst u.edge → IsRequired g.inst t.edge → x ≡ charge_at g t.edge → least_raised x ≤ surcharge_at g u.edge t.edge
+  raised_least u t Free u_in t_in is = omega (arith, ap {A = Charge} {B = ℕ} (λ c. raised_from c (slice_index g.raised.items ((t.edge - 1) * g.inst.required + (u.edge - 1)))) is)
+  raised_least u t Charged u_in t_in is = omega (arith, grid.charged u.edge t.edge u_in t_in (sym is))
+  raised_least u t Gained u_in t_in is = omega arith
+
   pub leg_least : (u t : Task) (x : Charge) → IsRequired g.inst u.edge → IsRequired g.inst t.edge → x ≡ charge_at g t.edge → least_raised x ≤ leg g u t
-  leg_least u t Free u_in t_in is = omega (arith, ap {A = Charge} {B = ℕ} (λ c. raised_from c (slice_index g.raised.items ((t.edge - 1) * g.inst.required + (u.edge - 1)))) is)
-  leg_least u t Charged u_in t_in is = omega (arith, grid.charged u.edge t.edge u_in t_in (sym is))
-  leg_least u t Gained u_in t_in is = omega arith
+  leg_least u t x u_in t_in is = omega (arith, raised_least u t x u_in t_in is)
+
+  join_least : (load : ℕ) (t : Task) (x : Charge) (n : ℕ) → IsRequired g.inst t.edge → x ≡ charge_at g t.edge → IsJoin g load t n → least_raised x ≤ n
+  join_least load t x n t_in is j = omega (arith, j.sum, leg_least j.last t x (reaches_required j.last load j.value j.reaches) t_in is)
+
+  pub bound_least : (load : ℕ) (t : Task) (x : Charge) (n : ℕ) → IsRequired g.inst t.edge → x ≡ charge_at g t.edge → (n < no_value → IsJoin g load t n) → least_raised x ≤ n
+  bound_least load t x n t_in is known = elim (cases_lt n no_value) [
+    | inl less ↦ join_least load t x n t_in is (known less)
+    | inr more ↦ omega (arith, least_small x, more)
+  ]
 
   pub first_small : (t : Task) → IsRequired g.inst t.edge → between g g.inst.depot (task_start g t) ≤ 2 ^ 73
   first_small t t_in = grid.small_dist g.inst.depot (task_start g t) (depot_reached g.inst) (tail_reached g.inst t.edge t.forward grid.valid t_in)
@@ -169,6 +186,10 @@ module _ (g : Grid) (grid : IsGrid g) where
       | inr other ↦ omega (arith, below, so_far.least c w (omega (arith, before, other)) reaches allowed)
     ];
   }
+
+  -- none yet, where one may be known
+  pub up_to_none : (load : ℕ) (t : Task) (n : ℕ) → (n < no_value → IsJoin g load t n) → IsLeastUpTo g load t 0 n
+  up_to_none load t n known = record { attained = known; least = λ c w before reaches allowed. absurd (omega (arith, before)) }
 
   -- one column more, whose joins are no less
   pub up_to_same : (load : ℕ) (t : Task) (columns best : ℕ) → IsLeastUpTo g load t columns best →

@@ -9,7 +9,7 @@ use Rattle.pricing_grid.specs.declared.joining.Successor.{Successor}
 use Rattle.pricing_grid.specs.declared.charging.Charge.{Charge}
 use Rattle.pricing_grid.specs.declared.charging.Charge.TheVariants.{Free, Charged, Gained}
 use Rattle.pricing_grid.specs.Partial.{raised_from, least_raised, IsGrid, IsSuccessor, IsCell, IsLeastUpTo, AreFilled, width, column_task, task_start, task_end, between, may_follow, surcharge_at}
-use Rattle.pricing_grid.proofs.Partials.{column_required, tail_reached, head_reached, pair_in, pair_place, pair_read, cell_read, leg_least, between_small, up_to_same, not_both}
+use Rattle.pricing_grid.proofs.Partials.{column_required, tail_reached, head_reached, pair_in, pair_place, pair_read, cell_read, raised_least, leg_least, between_small, up_to_same, not_both}
 use Rattle.pricing_grid.proofs.Copies.{reached_in}
 
 not_free : (c : Charge) (n : ℕ) → c ≢ Free → raised_from c n ≡ n
@@ -89,3 +89,7 @@ module _ (g : Grid) (grid : IsGrid g) (x : Successor) (next : IsSuccessor g x) (
 
   pub excluded : (best : ℕ) (b : Bool) → b ≡ may_follow g t u → b ≡ false → IsLeastUpTo g x.load t before best → IsLeastUpTo g x.load t (before + 1) best
   excluded best b is not so_far = up_to_same g grid x.load t before best so_far (λ w reaches allowed. absurd (not_both b (may_back b is ∙ allowed) not))
+
+  -- no surcharge is below the least of what is known, also where it is read
+  pub surcharge_least : least_raised x.charge ≤ surcharge_at g u.edge t.edge
+  surcharge_least = raised_least g grid u t x.charge u_in t_in next.known

@@ -1,6 +1,6 @@
 use Rattle.std.proofs.Common.{arith}
 use Rattle.pricing_grid.proofs.Succeeding.{end_is, way_within, way_fits, way_is, way_small}
-use Rattle.pricing_grid.proofs.grid.Grid.leg.Goals as goal
+use Rattle.pricing_grid.proofs.grid.Grid.leg_above.Goals as goal
 
 pub overflow_add-next : goal.overflow_add-next
 overflow_add-next c =
@@ -22,7 +22,7 @@ overflow_add-result c =
     let r = c.requires in
     let end = end_is g r.grid c.args.next.now r.next c.args.before r.before c.index.result.now c.index.ensures in
     let way = way_is g r.grid c.args.next.now r.next c.args.before r.before c.index.result.now c.index-way.result.now end c.index-way.ensures in
-    omega (arith, way, way_small g r.grid c.args.next.now r.next c.args.before r.before, c.raised.ensures.small)
+    omega (arith, way, way_small g r.grid c.args.next.now r.next c.args.before r.before, c.surcharge_above.ensures.small)
 
 pub returns-clause-value : goal.returns-clause-value
 returns-clause-value c =
@@ -30,7 +30,7 @@ returns-clause-value c =
     let r = c.requires in
     let end = end_is g r.grid c.args.next.now r.next c.args.before r.before c.index.result.now c.index.ensures in
     let way = way_is g r.grid c.args.next.now r.next c.args.before r.before c.index.result.now c.index-way.result.now end c.index-way.ensures in
-    omega (arith, way, c.raised.ensures.value)
+    omega (arith, way, c.surcharge_above.ensures.value)
 
 pub returns-clause-small : goal.returns-clause-small
 returns-clause-small c =
@@ -38,4 +38,4 @@ returns-clause-small c =
     let r = c.requires in
     let end = end_is g r.grid c.args.next.now r.next c.args.before r.before c.index.result.now c.index.ensures in
     let way = way_is g r.grid c.args.next.now r.next c.args.before r.before c.index.result.now c.index-way.result.now end c.index-way.ensures in
-    omega (arith, way, way_small g r.grid c.args.next.now r.next c.args.before r.before, c.raised.ensures.small)
+    omega (arith, way, way_small g r.grid c.args.next.now r.next c.args.before r.before, c.surcharge_above.ensures.small)
