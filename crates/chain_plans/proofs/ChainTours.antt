@@ -13,7 +13,7 @@ use Rattle.deadhead_paths.specs.Tidy.{GoByLeastPaths, served_steps}
 use Rattle.deadhead_paths.specs.Tours.{LeastDeadhead, task_of, tasks_of, dead_price}
 use Rattle.deadhead_paths.specs.Laws.{LeastPriceIsSymmetric, LeastDeadheadIsThere, LeastDeadheadIsLeast, LeastPathsCost}
 use Rattle.task_tours.specs.Tours.{JoinsTasks}
-use Rattle.tour_directions.specs.Directions.{Directs, IsCheapestDirected}
+use Rattle.chain_plans.specs.Directions.{Directs, IsCheapestDirected}
 use Rattle.decision_chains.specs.Neighbours.{served_edges, times}
 use Rattle.chain_plans.proofs.Times.{map-cond, times-cons, times-same}
 use Rattle.chain_plans.proofs.Uniqueness.{turned_on, times-turned}

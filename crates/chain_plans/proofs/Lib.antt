@@ -1,3 +1,4 @@
+pub mod Choices
 pub mod Times
 pub mod Walking
 pub mod Uniqueness

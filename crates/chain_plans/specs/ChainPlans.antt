@@ -7,7 +7,7 @@ use Rattle.plan_model.specs.Plans.{plan_cost, steps_of}
 use Rattle.plan_model.specs.Sums.{sum_to}
 use Rattle.plan_model.specs.declared.step.Step.{Step}
 use Rattle.task_tours.specs.Tours.{JoinsTasks, PlanGoesByLeastPaths, all_tasks, plan_tours, tour_load}
-use Rattle.tour_directions.specs.Directions.{IsCheapestDirected}
+use Rattle.chain_plans.specs.Directions.{IsCheapestDirected}
 use Rattle.chain_plans.specs.ChainWalks.{AreClosed, IsOrdered, is_marked, unmarked}
 use Rattle.decision_chains.specs.Exclusions.{AreJoined}
 use Rattle.chain_plans.specs.FixedValue.{HasChainCost}

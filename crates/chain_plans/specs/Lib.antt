@@ -1,3 +1,5 @@
+pub mod Directions
+pub mod Choosing
 pub mod FixedValue
 pub mod Laws
 pub mod ChainWalks

@@ -18,7 +18,7 @@ use decision_chains::{Chains, yes_pairs_join};
 use plan_model::{Plan, Walk};
 use std::alloc::Global;
 use task_tours::{join, plans_are_tours};
-use tour_directions::direct;
+use crate::direct;
 
 // The cheapest walk along the chain of an edge that is not marked yet. Its edges are marked.
 fn tour(

@@ -1,8 +1,8 @@
 use Rattle.std.proofs.Common.{◌+◌, ◌<◌, length, drop, get_or, refl, inl, arith}
 use Rattle.deadhead_paths.specs.Prices.{price_of, costs_of}
-use Rattle.tour_directions.specs.Choosing.{no_left}
-use Rattle.tour_directions.proofs.Choices.{one_more_task, all_done}
-use Rattle.tour_directions.proofs.directing.follow.Goals as goal
+use Rattle.chain_plans.specs.Choosing.{no_left}
+use Rattle.chain_plans.proofs.Choices.{one_more_task, all_done}
+use Rattle.chain_plans.proofs.directing.follow.Goals as goal
 
 pub loop-i-preserved : goal.loop-i-preserved
 loop-i-preserved c =

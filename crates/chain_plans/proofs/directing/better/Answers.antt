@@ -1,6 +1,6 @@
 use Rattle.std.proofs.Common.{arith}
-use Rattle.tour_directions.proofs.Choices.{forward_best, backward_best}
-use Rattle.tour_directions.proofs.directing.better.Goals as goal
+use Rattle.chain_plans.proofs.Choices.{forward_best, backward_best}
+use Rattle.chain_plans.proofs.directing.better.Goals as goal
 
 pub returns-then-out-back-clause-best : goal.returns-then-out-back-clause-best
 returns-then-out-back-clause-best c = λ edges after.

@@ -1,8 +1,8 @@
 use Rattle.std.proofs.Common.{◌-◌, ◌≤◌, length, refl, sym, subst, arith}
 use Rattle.std.proofs.lemmas.List.{drop_all}
-use Rattle.tour_directions.specs.Choosing.{IsLeastLeft}
-use Rattle.tour_directions.proofs.Choices.{nothing_left}
-use Rattle.tour_directions.proofs.directing.cost_left.Goals as goal
+use Rattle.chain_plans.specs.Choosing.{IsLeastLeft}
+use Rattle.chain_plans.proofs.Choices.{nothing_left}
+use Rattle.chain_plans.proofs.directing.cost_left.Goals as goal
 
 pub returns-then-i-edges-clause-least : goal.returns-then-i-edges-clause-least
 returns-then-i-edges-clause-least c =

@@ -8,9 +8,9 @@ use Rattle.carp_base.specs.Problem.{Problem, edge_at, head_of, tail_of}
 use Rattle.deadhead_paths.specs.Prices.{IsLeastPrice, price_of, costs_of}
 use Rattle.deadhead_paths.specs.Tours.{LeastDeadhead}
 use Rattle.task_tours.specs.Tours.{IsStand}
-use Rattle.tour_directions.specs.Directions.{Directs, IsCheapestDirected}
-use Rattle.tour_directions.specs.Choosing.{IsLeastLeft, IsLeftAfter, IsSmallLeft, IsBestStart, IsFilled, IsUnderway, left_after, no_left}
-use Rattle.tour_directions.specs.declared.directing.Left.{Left}
+use Rattle.chain_plans.specs.Directions.{Directs, IsCheapestDirected}
+use Rattle.chain_plans.specs.Choosing.{IsLeastLeft, IsLeftAfter, IsSmallLeft, IsBestStart, IsFilled, IsUnderway, left_after, no_left}
+use Rattle.chain_plans.specs.declared.directing.Left.{Left}
 
 cons_head : (x y : ℕ) (xs ys : List ℕ) → x ∷ xs ≡ y ∷ ys → x ≡ y
 cons_head x y xs ys same = cc

@@ -1,7 +1,7 @@
 use Rattle.std.proofs.Common.{◌≡◌, ◌+◌, ◌-◌, ◌<◌, length, subst, sym, arith}
-use Rattle.tour_directions.specs.Choosing.{IsFilled}
-use Rattle.tour_directions.proofs.Choices.{filled_more}
-use Rattle.tour_directions.proofs.directing.fill.Goals as goal
+use Rattle.chain_plans.specs.Choosing.{IsFilled}
+use Rattle.chain_plans.proofs.Choices.{filled_more}
+use Rattle.chain_plans.proofs.directing.fill.Goals as goal
 
 pub loop-i-init : goal.loop-i-init
 loop-i-init c = record {

@@ -3,8 +3,8 @@ ghost use Rattle.std.specs.Prelude.{◌≡◌, ◌+◌, ◌-◌, ◌*◌, ◌<�
 ghost use Rattle.carp_base.specs.Problem.{IsRequired};
 ghost use Rattle.deadhead_paths.specs.Prices.{costs_of};
 ghost use Rattle.task_tours.specs.Tours.{IsStand};
-ghost use Rattle.tour_directions.specs.Choosing.{IsBestStart, IsFilled, IsLeastLeft, IsLeftAfter, IsSmallLeft};
-ghost use Rattle.tour_directions.specs.Directions.{IsCheapestDirected};
+ghost use Rattle.chain_plans.specs.Choosing.{IsBestStart, IsFilled, IsLeastLeft, IsLeftAfter, IsSmallLeft};
+ghost use Rattle.chain_plans.specs.Directions.{IsCheapestDirected};
 
 use carp_base::{Instance, Memory, Task};
 use deadhead_paths::Distances;

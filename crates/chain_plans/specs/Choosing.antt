@@ -5,8 +5,8 @@ use Rattle.carp_base.specs.Problem.{Problem, edge_at, head_of, tail_of}
 use Rattle.deadhead_paths.specs.Prices.{IsLeastPrice, price_of, costs_of}
 use Rattle.deadhead_paths.specs.Tours.{LeastDeadhead}
 use Rattle.task_tours.specs.Tours.{IsStand}
-use Rattle.tour_directions.specs.Directions.{Directs}
-use Rattle.tour_directions.specs.declared.directing.Left.{Left}
+use Rattle.chain_plans.specs.Directions.{Directs}
+use Rattle.chain_plans.specs.declared.directing.Left.{Left}
 
 -- n is the least, over all directions of the edges, of the least deadhead from a vertex over them to the depot
 pub record IsLeastLeft (p : Problem) (a : ℕ) (edges : List ℕ) (n : ℕ) : Type 0 where

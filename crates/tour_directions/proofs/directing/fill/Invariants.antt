@@ -1,5 +1,0 @@
-use Rattle.tour_directions.specs.Choosing.{IsFilled}
-use Rattle.tour_directions.proofs.directing.fill.Given as goal
-
-abbrev pub invariant-loop-i : goal.invariant-loop-i
-invariant-loop-i l = IsFilled l.inst l.edges l.lefts l.i
