@@ -12,7 +12,7 @@ use Rattle.decision_chains.specs.Neighbours.{served_edges, times, AreNeighbours}
 use Rattle.deadhead_paths.specs.Tours.{IsFollowed}
 use Rattle.decision_chains.specs.Exclusions.{IsYes, AreJoined}
 use Rattle.branch_rules.specs.Decisions.{Spells}
-use Rattle.chain_plans.specs.FixedValue.{ServesChain, HasFixedValue}
+use Rattle.decision_chains.specs.FixedValue.{ServesChain, HasFixedValue}
 use Rattle.decision_chains.specs.declared.decision.Decision.{Decision}
 use Rattle.branch_rules.proofs.Services.{map-cond, all_required}
 use Rattle.branch_rules.proofs.Line.{times-cons, times-same}

@@ -16,7 +16,7 @@ use Rattle.decision_chains.specs.Neighbours.{served_edges, times}
 use Rattle.branch_rules.specs.Prices.{signed_sum, task_adds, deadhead_price}
 use Rattle.decision_chains.specs.Exclusions.{IsYes, YesPath, AreJoined, same}
 use Rattle.branch_rules.specs.Decisions.{IsVoid, IsFixed, three, cycle, heavy_chain, crossed}
-use Rattle.chain_plans.specs.FixedValue.{ServesChain, HasChainCost, HasFixedValue}
+use Rattle.decision_chains.specs.FixedValue.{ServesChain, HasChainCost, HasFixedValue}
 use Rattle.branch_rules.specs.Laws.{FitsBranch}
 use Rattle.decision_chains.specs.declared.decision.Decision.{Decision}
 use Rattle.branch_rules.specs.Examples.{town_pool, town_prices}

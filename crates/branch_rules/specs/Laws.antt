@@ -12,7 +12,7 @@ use Rattle.branch_rules.specs.Prices.{Prices, Fits, KeepsRules, value_of}
 use Rattle.cut_pool.specs.Pools.{shore_at}
 use Rattle.branch_rules.specs.Decisions.{MeetsAll, IsVoid, IsFixed, Spells, is_yes_pair, rules_of}
 use Rattle.decision_chains.specs.Exclusions.{Excluded}
-use Rattle.chain_plans.specs.FixedValue.{HasFixedValue}
+use Rattle.decision_chains.specs.FixedValue.{HasFixedValue}
 use Rattle.branch_rules.specs.Trees.{Tree, preorder, Support, Shows, NodesShow, IsSoundSupport, IsLean, HasTurns, PairsIn}
 use Rattle.decision_chains.specs.declared.decision.Decision.{Decision}
 

@@ -6,7 +6,7 @@ use Rattle.cut_pool.specs.Shores.{is_in}
 use Rattle.branch_rules.specs.Prices.{Prices, Fits, value_of}
 use Rattle.branch_rules.specs.Decisions.{rules_of, lower_of, lowest, IsVoid, IsFixed}
 use Rattle.decision_chains.specs.Exclusions.{Excluded, IsDetermined}
-use Rattle.chain_plans.specs.FixedValue.{HasFixedValue}
+use Rattle.decision_chains.specs.FixedValue.{HasFixedValue}
 use Rattle.decision_chains.specs.declared.decision.Decision.{Decision}
 use Rattle.decision_chains.specs.declared.decision.Decision.TheVariants.{Yes, No, Low, High}
 use Rattle.branch_rules.specs.declared.node.Node.{Node}

@@ -4,7 +4,7 @@ ghost use Rattle.decision_chains.specs.ChainTables.{IsChainTable};
 ghost use Rattle.branch_rules.specs.Crossings.{IsCrossed, IsCrossing, IsUncrossed};
 ghost use Rattle.decision_chains.specs.Exclusions.{Excluded, IsDetermined, PermitsUnexcluded};
 ghost use Rattle.branch_rules.specs.Decisions.{IsFixed, IsVoid, cuts_of};
-ghost use Rattle.chain_plans.specs.FixedValue.{HasFixedValue};
+ghost use Rattle.decision_chains.specs.FixedValue.{HasFixedValue};
 ghost use Rattle.decision_chains.specs.Pairs.{ArePairsIn};
 ghost use Rattle.branch_rules.specs.Limits.{AreShoresIn, HasShoreOf, IsNodeIn, IsShoreOf};
 ghost use Rattle.branch_rules.specs.Trees.{IsLeanNode};
@@ -15,10 +15,9 @@ ghost use Rattle.plan_model.specs.Plans.{IsLawful, plan_cost, steps_of};
 
 use crate::{Branch, Decision, Node};
 use carp_base::{Allowed, Instance, Memory};
-use chain_plans::plan;
+use decision_chains::{Chains, plan};
 use cut_pool::ShorePool;
 use deadhead_paths::Distances;
-use decision_chains::Chains;
 use plan_model::Plan;
 use std::alloc::Global;
 

@@ -8,7 +8,7 @@ ghost use Rattle.branch_rules.specs.Bonds.{IsGroup, bond_weight, bonds, plan_bon
 ghost use Rattle.branch_rules.specs.Prices.{KeepsRules, deadhead_price, task_adds, value_of};
 ghost use Rattle.decision_chains.specs.Exclusions.{Excluded};
 ghost use Rattle.branch_rules.specs.Decisions.{IsFixed, IsVoid, Meets, MeetsAll, Spells, cuts_of, is_yes_pair, lower_of, lowest, rules_of};
-ghost use Rattle.chain_plans.specs.FixedValue.{HasFixedValue};
+ghost use Rattle.decision_chains.specs.FixedValue.{HasFixedValue};
 ghost use Rattle.branch_rules.specs.Laws.{FitsBranch, IsMet};
 ghost use Rattle.decision_chains.specs.Pairs.{ArePairsIn};
 ghost use Rattle.branch_rules.specs.Limits.{AreShoresIn, IsNodeIn};

@@ -16,7 +16,7 @@ use Rattle.branch_rules.specs.Prices.{Prices, value_of}
 use Rattle.branch_rules.specs.Trees.{PricesShow, Support, fixed, no_prices, price, set_at, void}
 use Rattle.branch_rules.specs.declared.node.Node.{Node}
 use Rattle.branch_rules.specs.declared.node.Node.TheVariants as nodes
-use Rattle.chain_plans.specs.FixedValue.{HasFixedValue}
+use Rattle.decision_chains.specs.FixedValue.{HasFixedValue}
 use Rattle.dual_master.specs.Raising.{IsNoLower}
 use Rattle.grown_trees.specs.Growth.{AreSound, Fraction, IsSoundNode, NodeReaches}
 use Rattle.grown_trees.specs.Laws.{IsKept, IsOpenDecision}

@@ -16,7 +16,7 @@ use Rattle.dual_master.specs.Raising.{IsNoLower}
 use Rattle.branch_rules.specs.Trees.{FixedShows}
 use Rattle.branch_rules.specs.declared.node.Node.{Node}
 use Rattle.branch_rules.specs.declared.node.Node.TheVariants as nodes
-use Rattle.chain_plans.specs.FixedValue.{HasFixedValue}
+use Rattle.decision_chains.specs.FixedValue.{HasFixedValue}
 use Rattle.route_pricing.specs.Tables.{IsRoom}
 use Rattle.shore_prices.specs.Proposals.{IsGrown}
 use Rattle.grown_trees.specs.Places.{IsLeaf}

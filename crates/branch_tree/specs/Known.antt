@@ -1,5 +1,5 @@
 -- What is known of grown trees, of branches, of price sets and of plans, for the proofs of private functions.
-use Rattle.chain_plans.specs.Laws.{FixedValueIsUnique}
+use Rattle.decision_chains.specs.PlanLaws.{FixedValueIsUnique}
 use Rattle.dual_master.specs.Growth.{GrowthKeepsSets}
 use Rattle.grown_trees.specs.Laws.{DecisionsKeepSets, GrownIsSound, MoreSetsKeepSound, MoreShoresKeepSound, SoundAtPlace, SoundIsTree, UnshownIsLeaf}
 use Rattle.short_plans.specs.Laws.{ShortPlansCostLittle}

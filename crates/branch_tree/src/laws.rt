@@ -1,7 +1,7 @@
 // The laws that a search stands on, as one.
 ghost use Rattle.branch_tree.specs.Known.{Known};
 
-use chain_plans::fixed_values_compare;
+use decision_chains::fixed_values_compare;
 use dual_master::growth_keeps_sets;
 use grown_trees::{
     decisions_keep_sets, grown_trees_stay_sound, more_support_keeps_trees_sound,

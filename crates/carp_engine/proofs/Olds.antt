@@ -8,7 +8,7 @@ use Rattle.cut_pool.specs.Pools.{IsShoreNumber}
 use Rattle.cut_pool.specs.Shores.{Belongs}
 use Rattle.decision_chains.specs.declared.decision.Decision.{Decision}
 use Rattle.decision_chains.specs.declared.decision.Decision.TheVariants.{Yes, No, Low, High}
-use Rattle.chain_plans.specs.Laws.{FixedValueIsUnique}
+use Rattle.decision_chains.specs.PlanLaws.{FixedValueIsUnique}
 use Rattle.branch_rules.specs.Limits.{IsNodeIn, IsPriceSet, IsShoreOf}
 use Rattle.branch_rules.specs.Prices.{Prices}
 use Rattle.branch_rules.specs.Trees.{Tree, pair, cut, price, void, fixed, preorder, PairsIn, Shows, Support, no_prices}

@@ -15,7 +15,7 @@ use branch_tree::resumed_trees_have_turns;
 use carp_base::{Instance, Memory};
 use cert_format::{Cert, counts_are_in_range, good_is_proof, plans_are_on_edges};
 use cert_lines::{fine_is_spellable, shores_are_fine, spellable_is_fine};
-use chain_plans::fixed_values_compare;
+use decision_chains::fixed_values_compare;
 use deadhead_paths::tidy;
 use helper_rounds::ask_all;
 use plan_model::Proposer;

@@ -10,7 +10,7 @@ use Rattle.decision_chains.specs.Exclusions.{IsYes, AreJoined, AreDistinct, Excl
 use Rattle.decision_chains.specs.Laws.{DistinctSumToNoMore}
 use Rattle.decision_chains.specs.declared.decision.Decision.{Decision}
 use Rattle.decision_chains.specs.declared.decision.Decision.TheVariants.{High, Low}
-use Rattle.chain_plans.specs.FixedValue.{HasFixedValue}
+use Rattle.decision_chains.specs.FixedValue.{HasFixedValue}
 use Rattle.branch_rules.specs.Decisions.{IsFixed, IsVoid, rules_of, three, cycle, heavy_chain, crossed}
 use Rattle.branch_rules.specs.Prices.{Fits}
 use Rattle.branch_rules.specs.Trees.{price}

@@ -4,7 +4,7 @@ use Rattle.carp_base.specs.Problem.{Problem}
 use Rattle.decision_chains.specs.declared.decision.Decision.{Decision}
 use Rattle.decision_chains.specs.declared.decision.Decision.TheVariants.{Yes, No, Low, High}
 use Rattle.decision_chains.specs.Exclusions.{Excluded}
-use Rattle.chain_plans.specs.FixedValue.{HasFixedValue}
+use Rattle.decision_chains.specs.FixedValue.{HasFixedValue}
 use Rattle.branch_rules.specs.Decisions.{lower_of, IsVoid, IsFixed}
 use Rattle.branch_rules.specs.Trees.{Tree, pair, cut, price, void, fixed, Support, PriceShows}
 

@@ -6,7 +6,7 @@ use Rattle.std.proofs.lemmas.Bool.{cases_lt}
 use Rattle.std.proofs.lemmas.List.Elements.{All-from_recursion}
 use Rattle.decision_chains.specs.declared.decision.Decision.{Decision}
 use Rattle.decision_chains.specs.Exclusions.{IsDetermined}
-use Rattle.chain_plans.specs.Laws.{FixedValueIsUnique}
+use Rattle.decision_chains.specs.PlanLaws.{FixedValueIsUnique}
 use Rattle.decision_chains.specs.Pairs.{IsPairWithin}
 use Rattle.branch_rules.specs.Decisions.{IsFixed, IsVoid, cuts_of}
 use Rattle.branch_rules.specs.Prices.{Prices, no_weight, weight_at}

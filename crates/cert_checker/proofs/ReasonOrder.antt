@@ -10,7 +10,7 @@ use Rattle.plan_model.specs.Verdicts.{IsVerdict, IsFailing}
 use Rattle.plan_model.specs.declared.verdict.Verdict.{Verdict}
 use Rattle.cut_pool.specs.Pools.{shore_at}
 use Rattle.cut_pool.specs.Shores.{Belongs}
-use Rattle.chain_plans.specs.Laws.{FixedValueIsUnique}
+use Rattle.decision_chains.specs.PlanLaws.{FixedValueIsUnique}
 use Rattle.branch_rules.specs.Prices.{deadhead_price}
 use Rattle.branch_rules.specs.Refusals.{IsTooHeavy, NoneTooHeavy}
 use Rattle.branch_rules.specs.Trees.{set_at}

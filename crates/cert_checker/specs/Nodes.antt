@@ -6,7 +6,7 @@ use Rattle.deadhead_paths.specs.Prices.{price_of}
 use Rattle.deadhead_paths.specs.Tours.{IsTaskTour, LeastDeadhead}
 use Rattle.decision_chains.specs.declared.decision.Decision.{Decision}
 use Rattle.decision_chains.specs.Exclusions.{Excluded, IsDetermined}
-use Rattle.chain_plans.specs.FixedValue.{HasFixedValue}
+use Rattle.decision_chains.specs.FixedValue.{HasFixedValue}
 use Rattle.branch_rules.specs.declared.node.Node.{Node}
 use Rattle.branch_rules.specs.declared.node.Node.TheVariants as nodes
 use Rattle.branch_rules.specs.Bonds.{bond_weight}

@@ -1,7 +1,7 @@
 // Laws over certificates and their reasons, as functions whose contract is the law.
 ghost use Rattle.cert_checker.specs.Reasons.{GoodHasNoReason, ReasonIsUnique};
 
-use chain_plans::fixed_values_compare;
+use decision_chains::fixed_values_compare;
 use plan_model::verdicts_are_exact;
 
 /// A certificate that is good has no first reason.

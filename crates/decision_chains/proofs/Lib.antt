@@ -1,3 +1,10 @@
+pub mod Choices
+pub mod PlanTimes
+pub mod Walking
+pub mod Uniqueness
+pub mod ChainTours
+pub mod PlanParts
+pub mod FixedSums
 pub mod YesPairs
 pub mod Times
 pub mod Covering

@@ -1,3 +1,9 @@
+pub mod Directions
+pub mod Choosing
+pub mod FixedValue
+pub mod PlanLaws
+pub mod ChainWalks
+pub mod ChainPlans
 pub mod Neighbours
 pub mod Pairs
 pub mod Exclusions

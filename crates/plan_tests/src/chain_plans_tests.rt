@@ -3,8 +3,7 @@ ghost use Rattle.std.specs.Prelude.{◌≡◌};
 ghost use Rattle.decision_chains.specs.Pairs.{ArePairsIn};
 
 use carp_base::{Instance, RawEdge};
-use chain_plans::plan;
-use decision_chains::{Chains, Decision};
+use decision_chains::{Chains, Decision, plan};
 use std::alloc::Global;
 use std::process::Abort;
 use std::test::Fail;

@@ -7,7 +7,7 @@ use std::alloc::Global;
 use std::process::Abort;
 use std::test::Fail;
 use task_tours::cost_distances;
-use chain_plans::direct;
+use decision_chains::direct;
 
 // A street whose service costs as much as a crossing.
 fn street(u: u64, v: u64, cost: u64) -> RawEdge {

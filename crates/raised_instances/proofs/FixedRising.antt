@@ -10,7 +10,7 @@ use Rattle.deadhead_paths.specs.Tours.{IsFollowed}
 use Rattle.decision_chains.specs.declared.decision.Decision.{Decision}
 use Rattle.decision_chains.specs.Exclusions.{IsYes, YesPath, AreJoined}
 use Rattle.decision_chains.specs.Neighbours.{served_edges, times}
-use Rattle.chain_plans.specs.Laws.{ChainsCostLess, FixedValuesCompare}
+use Rattle.decision_chains.specs.PlanLaws.{ChainsCostLess, FixedValuesCompare}
 use Rattle.raised_instances.specs.Raised.{IsRaised}
 use Rattle.raised_instances.specs.Laws.{FixedValuesRise}
 use Rattle.raised_instances.proofs.Rising.{cost_there, leads_there, moved}

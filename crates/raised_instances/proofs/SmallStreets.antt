@@ -9,8 +9,8 @@ use Rattle.plan_model.specs.declared.step.Step.{Step}
 use Rattle.deadhead_paths.specs.Examples.{town}
 use Rattle.decision_chains.specs.Exclusions.{AreJoined}
 use Rattle.decision_chains.specs.Neighbours.{times}
-use Rattle.chain_plans.specs.FixedValue.{ServesChain}
-use Rattle.chain_plans.specs.Laws.{ChainsCostLess, IsServedWithin}
+use Rattle.decision_chains.specs.FixedValue.{ServesChain}
+use Rattle.decision_chains.specs.PlanLaws.{ChainsCostLess, IsServedWithin}
 use Rattle.instance_edits.specs.Examples.{three_streets}
 use Rattle.raised_instances.specs.Examples.{exchanged_streets, free_town, there_and_back}
 use Rattle.raised_instances.specs.Raised.{IsNoCheaper, IsRaised}

@@ -4,7 +4,7 @@ use Rattle.carp_base.specs.Problem.{Problem, IsValid, IsRequired}
 use Rattle.cut_pool.specs.Shores.{need, required_crossings}
 use Rattle.decision_chains.specs.declared.decision.Decision.{Decision}
 use Rattle.decision_chains.specs.Exclusions.{IsYes, Excluded}
-use Rattle.chain_plans.specs.FixedValue.{HasFixedValue}
+use Rattle.decision_chains.specs.FixedValue.{HasFixedValue}
 use Rattle.branch_rules.specs.Bonds.{GroupWeight, room}
 use Rattle.branch_rules.specs.Prices.{Prices, Fits, room_weight}
 use Rattle.branch_rules.specs.Decisions.{lowest, rules_of}

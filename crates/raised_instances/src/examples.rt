@@ -1,6 +1,6 @@
 // Small data on which what the contracts speak of holds, and on which it does not.
 ghost use Rattle.std.specs.Prelude.{[], ◌∷◌};
-ghost use Rattle.chain_plans.specs.Laws.{ChainsCostLess, IsServedWithin};
+ghost use Rattle.decision_chains.specs.PlanLaws.{ChainsCostLess, IsServedWithin};
 ghost use Rattle.cut_pool.specs.Shores.{is_in};
 ghost use Rattle.deadhead_paths.specs.Examples.{town};
 ghost use Rattle.instance_edits.specs.Examples.{three_streets, two_streets};

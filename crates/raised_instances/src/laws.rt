@@ -1,7 +1,7 @@
 // Laws over raised instances, as functions whose contract is the law.
 ghost use Rattle.raised_instances.specs.Laws.{DeadheadsStayLight, EditsRaise, FixedValuesRise, NeedsRise, RoomWeightsFall, RoomsFall, SetsStayFit};
 
-use chain_plans::fixed_values_compare;
+use decision_chains::fixed_values_compare;
 use deadhead_paths::least_prices_are_there;
 
 /// Edits raise an instance: they only add to numbers, and close only streets that need no service.

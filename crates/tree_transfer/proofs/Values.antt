@@ -4,8 +4,8 @@ use Rattle.std.specs.List.{All}
 use Rattle.std.proofs.lemmas.Int.{ints}
 use Rattle.std.proofs.lemmas.List.Elements.{All-get_or}
 use Rattle.decision_chains.specs.declared.decision.Decision.{Decision}
-use Rattle.chain_plans.specs.FixedValue.{HasFixedValue}
-use Rattle.chain_plans.specs.Laws.{FixedValueIsUnique}
+use Rattle.decision_chains.specs.FixedValue.{HasFixedValue}
+use Rattle.decision_chains.specs.PlanLaws.{FixedValueIsUnique}
 use Rattle.branch_rules.specs.Decisions.{IsFixed, rules_of}
 use Rattle.branch_rules.specs.Limits.{IsShoreOf}
 use Rattle.branch_rules.specs.Prices.{Prices, value_of}

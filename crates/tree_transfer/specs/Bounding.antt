@@ -3,7 +3,7 @@ use Rattle.std.specs.Prelude.{◌≡◌, ℕ, ◌^◌, ◌≤◌, ◌<◌, ◌�
 use Rattle.carp_base.specs.Problem.{Problem}
 use Rattle.deadhead_paths.specs.Prices.{costs_of}
 use Rattle.decision_chains.specs.declared.decision.Decision.{Decision}
-use Rattle.chain_plans.specs.FixedValue.{HasFixedValue}
+use Rattle.decision_chains.specs.FixedValue.{HasFixedValue}
 use Rattle.branch_rules.specs.Decisions.{IsVoid}
 use Rattle.branch_rules.specs.Trees.{Support, NodesShow, PriceShows, FixedShows}
 use Rattle.branch_rules.specs.declared.node.Node.{Node}

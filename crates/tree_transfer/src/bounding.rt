@@ -13,7 +13,7 @@ ghost use Rattle.tree_transfer.specs.Shown.{AreTreeNodes, HasShores, IsGreatestS
 
 use branch_rules::{Branch, Node, PriceSet, Tree, nodes_show_their_tree};
 use carp_base::{Instance, Memory};
-use chain_plans::fixed_values_compare;
+use decision_chains::fixed_values_compare;
 use cut_pool::ShorePool;
 use deadhead_paths::Distances;
 use grown_trees::shown_under;

@@ -1,5 +1,0 @@
-use Rattle.chain_plans.specs.Choosing.{IsFilled}
-use Rattle.chain_plans.proofs.directing.fill.Given as goal
-
-abbrev pub invariant-loop-i : goal.invariant-loop-i
-invariant-loop-i l = IsFilled l.inst l.edges l.lefts l.i

@@ -1,5 +1,0 @@
-use Rattle.chain_plans.specs.Choosing.{IsUnderway}
-use Rattle.chain_plans.proofs.directing.follow.Given as goal
-
-abbrev pub invariant-loop-i : goal.invariant-loop-i
-invariant-loop-i l = IsUnderway l.inst l.edges l.i l.at l.tasks.items

@@ -1,5 +1,0 @@
-use Rattle.chain_plans.specs.ChainPlans.{IsPartPlan}
-use Rattle.chain_plans.proofs.planning.tours.Given as goal
-
-abbrev pub invariant-loop-edge : goal.invariant-loop-edge
-invariant-loop-edge l = IsPartPlan l.chains l.edge l.marks l.plan
