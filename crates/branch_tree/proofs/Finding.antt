@@ -12,7 +12,7 @@ use Rattle.grown_trees.specs.Growth.{AreSound, Fraction, IsSpelledNode, turns_in
 use Rattle.grown_trees.specs.Laws.{IsSoundTree, SoundIsTree}
 use Rattle.grown_trees.specs.Stands.{Stand, stands}
 use Rattle.grown_trees.specs.declared.growing.GrowingNode.{GrowingNode}
-use Rattle.short_plans.specs.Laws.{ShortPlansCostLittle}
+use Rattle.task_tours.specs.ShortLaws.{ShortPlansCostLittle}
 use Rattle.branch_tree.specs.Founds.{IsFound}
 use Rattle.branch_tree.specs.Searches.{IsHeld, State, support_in}
 use Rattle.branch_tree.specs.Values.{just_above}

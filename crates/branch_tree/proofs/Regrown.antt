@@ -20,8 +20,8 @@ use Rattle.grown_trees.specs.Laws.{SoundIsTree}
 use Rattle.grown_trees.specs.Places.{IsFineNode}
 use Rattle.grown_trees.specs.Stands.{IsLeanStand, IsShownStand, NodeFits, NodeShows, Stand, stands}
 use Rattle.grown_trees.specs.declared.growing.GrowingNode.{GrowingNode}
-use Rattle.short_plans.specs.Laws.{ShortPlansCostLittle}
-use Rattle.short_plans.specs.Shorts.{IsAllowedPlan}
+use Rattle.task_tours.specs.ShortLaws.{ShortPlansCostLittle}
+use Rattle.task_tours.specs.Shorts.{IsAllowedPlan}
 use Rattle.branch_tree.specs.Resumes.{MayResume, support_on}
 use Rattle.branch_tree.specs.Searches.{IsHeld, IsHeldSet}
 use Rattle.branch_tree.specs.Values.{just_above}

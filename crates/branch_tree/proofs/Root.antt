@@ -18,8 +18,8 @@ use Rattle.grown_trees.specs.Growth.{AreSound, Growth, turns_in}
 use Rattle.grown_trees.specs.Stands.{stands}
 use Rattle.grown_trees.specs.declared.growing.GrowingNode.{GrowingNode}
 use Rattle.branch_tree.specs.Beginnings.{IsFloor, IsRoot, fraction_of}
-use Rattle.short_plans.specs.Laws.{ShortPlansCostLittle}
-use Rattle.short_plans.specs.Shorts.{IsAllowedPlan}
+use Rattle.task_tours.specs.ShortLaws.{ShortPlansCostLittle}
+use Rattle.task_tours.specs.Shorts.{IsAllowedPlan}
 use Rattle.branch_tree.specs.Searches.{IsHeld, IsHeldSet, State, support_in}
 use Rattle.grown_trees.specs.Values.{IsMostShown, IsShown}
 use Rattle.branch_tree.specs.declared.beginning.Floor.{Floor}

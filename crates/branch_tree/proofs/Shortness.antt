@@ -4,7 +4,7 @@ use Rattle.carp_base.specs.declared.fail.Memory.{Memory}
 use Rattle.carp_base.specs.Problem.{Problem}
 use Rattle.branch_rules.specs.declared.node.Node.{Node}
 use Rattle.branch_rules.specs.declared.node.Node.TheVariants as nodes
-use Rattle.short_plans.specs.Shorts.{IsShortPlan}
+use Rattle.task_tours.specs.Shorts.{IsShortPlan}
 use Rattle.branch_tree.specs.Leaves.{IsTurn}
 use Rattle.branch_tree.specs.Searches.{State, state_of}
 use Rattle.branch_tree.specs.Steps.{IsClosedBy, IsStep}

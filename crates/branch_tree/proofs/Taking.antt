@@ -18,7 +18,7 @@ use Rattle.grown_trees.specs.Stands.{stands, with_sets}
 use Rattle.grown_trees.specs.declared.growing.GrowingNode.{GrowingNode}
 use Rattle.branch_tree.specs.Known.{Known}
 use Rattle.branch_tree.specs.Leaves.{IsAtLeaf}
-use Rattle.short_plans.specs.Shorts.{IsAllowedPlan}
+use Rattle.task_tours.specs.Shorts.{IsAllowedPlan}
 use Rattle.branch_tree.specs.Searches.{IsHeld, IsHeldSet, State, support_in}
 use Rattle.branch_tree.specs.Steps.{IsTaken}
 use Rattle.branch_tree.specs.Values.{just_above}

@@ -21,7 +21,7 @@ use Rattle.grown_trees.specs.Stands.{stands, with_sets}
 use Rattle.grown_trees.specs.declared.growing.GrowingNode.{GrowingNode}
 use Rattle.branch_tree.specs.Known.{Known}
 use Rattle.branch_tree.specs.Leaves.{IsAtLeaf, IsSplitBy, MayStand, NamesSet, set_in, split_nodes, with_news, with_pool, with_set}
-use Rattle.short_plans.specs.Shorts.{IsAllowedPlan, IsShortPlan}
+use Rattle.task_tours.specs.Shorts.{IsAllowedPlan, IsShortPlan}
 use Rattle.branch_tree.specs.Searches.{IsHeld, IsHeldSet, State, support_in}
 use Rattle.branch_tree.specs.Splits.{split_tree}
 use Rattle.branch_tree.specs.Steps.{HasNewSet, IsClosedBy, IsStep}

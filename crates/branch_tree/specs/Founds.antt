@@ -4,7 +4,7 @@ use Rattle.std.specs.List.{All}
 use Rattle.carp_base.specs.Problem.{Problem, IsValid}
 use Rattle.plan_model.specs.Plans.{plan_cost}
 use Rattle.plan_model.specs.declared.step.Step.{Step}
-use Rattle.short_plans.specs.Shorts.{IsAllowedPlan}
+use Rattle.task_tours.specs.Shorts.{IsAllowedPlan}
 use Rattle.cut_pool.specs.Shores.{Belongs}
 use Rattle.branch_rules.specs.Limits.{IsNodeIn}
 use Rattle.branch_rules.specs.Prices.{Prices}

@@ -2,7 +2,7 @@
 use Rattle.decision_chains.specs.PlanLaws.{FixedValueIsUnique}
 use Rattle.dual_master.specs.Growth.{GrowthKeepsSets}
 use Rattle.grown_trees.specs.Laws.{DecisionsKeepSets, GrownIsSound, MoreSetsKeepSound, MoreShoresKeepSound, SoundAtPlace, SoundIsTree, UnshownIsLeaf}
-use Rattle.short_plans.specs.Laws.{ShortPlansCostLittle}
+use Rattle.task_tours.specs.ShortLaws.{ShortPlansCostLittle}
 
 pub record Known : Type 0 where
   pub grown : GrownIsSound

@@ -1,7 +1,7 @@
 // How a search begins.
 ghost use Rattle.std.specs.Prelude.{◌≡◌, ◌*◌, ◌+◌, ◌≤◌, ◌∷◌, [], IfOk};
 ghost use Rattle.plan_model.specs.Plans.{plan_cost};
-ghost use Rattle.short_plans.specs.Shorts.{IsAllowedPlan};
+ghost use Rattle.task_tours.specs.Shorts.{IsAllowedPlan};
 ghost use Rattle.branch_tree.specs.Beginnings.{AreTools, IsFloor, IsRoot};
 ghost use Rattle.branch_tree.specs.Searches.{IsBegun, IsSearch, state_of};
 
@@ -18,9 +18,8 @@ use grown_trees::GrowingTree;
 use plan_model::Plan;
 use road_network::Network;
 use route_pricing::Table;
-use short_plans::short_plans_cost_little;
+use task_tours::{cost_distances, lawful_cost, short_plans_cost_little};
 use std::alloc::Global;
-use task_tours::{cost_distances, lawful_cost};
 
 // What a search works with.
 #[derive(Drop)]

@@ -10,7 +10,7 @@ use carp_base::{Instance, Memory};
 use cut_pool::ShorePool;
 use grown_trees::sound_trees_are_lean;
 use plan_model::Plan;
-use short_plans::short_plans_cost_little;
+use task_tours::short_plans_cost_little;
 use std::alloc::Global;
 
 /// What a search has found.

@@ -7,7 +7,7 @@ use grown_trees::{
     decisions_keep_sets, grown_trees_stay_sound, more_support_keeps_trees_sound,
     sound_trees_are_lean,
 };
-use short_plans::short_plans_cost_little;
+use task_tours::short_plans_cost_little;
 
 // What is known of grown trees, of branches, of price sets and of plans.
 pub(crate) fn known_laws()

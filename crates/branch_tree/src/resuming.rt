@@ -1,6 +1,6 @@
 // How a search goes on from a tree.
 ghost use Rattle.std.specs.Prelude.{◌≡◌, ◌+◌, ◌≤◌, IfOk, length, min};
-ghost use Rattle.short_plans.specs.Shorts.{IsAllowedPlan};
+ghost use Rattle.task_tours.specs.Shorts.{IsAllowedPlan};
 ghost use Rattle.grown_trees.specs.Growth.{turns_in};
 ghost use Rattle.branch_tree.specs.Resumes.{IsResumed, MayResume, ResumedTreesHaveTurns};
 ghost use Rattle.branch_tree.specs.Searches.{IsSearch, state_of};
@@ -12,7 +12,7 @@ use carp_base::{Instance, Memory};
 use cut_pool::ShorePool;
 use grown_trees::{GrowingNode, GrowingTree, sound_trees_are_lean};
 use plan_model::Plan;
-use short_plans::short_plans_cost_little;
+use task_tours::short_plans_cost_little;
 use std::alloc::Global;
 
 // The most turns of a budget.

@@ -1,6 +1,6 @@
 // One turn of a search.
 ghost use Rattle.std.specs.Prelude.{◌≡◌, ◌<◌, OnErr, IfOk};
-ghost use Rattle.short_plans.specs.Shorts.{IsShortPlan};
+ghost use Rattle.task_tours.specs.Shorts.{IsShortPlan};
 ghost use Rattle.grown_trees.specs.Growth.{IsLeastOpen};
 ghost use Rattle.branch_tree.specs.Leaves.{IsAtLeaf, IsTurn, NamesSet};
 ghost use Rattle.branch_tree.specs.Searches.{IsSearch, state_of};

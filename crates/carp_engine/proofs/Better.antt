@@ -8,7 +8,7 @@ use Rattle.plan_model.specs.declared.step.Step.{Step}
 use Rattle.plan_model.specs.Plans.{plan_cost}
 use Rattle.grown_trees.specs.Growth.{turns_in}
 use Rattle.grown_trees.specs.declared.growing.GrowingNode.{GrowingNode}
-use Rattle.short_plans.specs.Shorts.{IsShortPlan}
+use Rattle.task_tours.specs.Shorts.{IsShortPlan}
 use Rattle.cert_lines.specs.Certificates.{Certificate}
 use Rattle.cert_format.specs.Good.{support_of}
 use Rattle.carp_engine.specs.Certifying.{IsSearched, certificate_by}

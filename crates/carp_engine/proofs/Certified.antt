@@ -21,7 +21,7 @@ use Rattle.branch_rules.specs.declared.weight.Weight.{Weight}
 use Rattle.grown_trees.specs.Growth.{IsSpelledNode}
 use Rattle.branch_tree.specs.Founds.{Findings, IsFound, support_found}
 use Rattle.branch_tree.specs.Values.{IsFloored}
-use Rattle.short_plans.specs.Laws.{ShortPlansCostLittle}
+use Rattle.task_tours.specs.ShortLaws.{ShortPlansCostLittle}
 use Rattle.branch_tree.specs.Searches.{IsHeldSet}
 use Rattle.cert_lines.specs.Laws.{FineIsSpellable, ShoreIsFine}
 use Rattle.cert_lines.specs.Spelling.{IsFine, IsFineNode, IsFineSet, IsFineShore}

@@ -5,7 +5,7 @@ use Rattle.plan_model.specs.declared.step.Step.{Step}
 use Rattle.plan_model.specs.Plans.{plan_cost}
 use Rattle.branch_rules.specs.Laws.{LeanIsSmall}
 use Rattle.branch_tree.specs.Founds.{support_found}
-use Rattle.short_plans.specs.Shorts.{IsShortPlan}
+use Rattle.task_tours.specs.Shorts.{IsShortPlan}
 use Rattle.cert_lines.specs.Certificates.{Certificate}
 use Rattle.branch_tree.specs.Values.{IsFloored}
 use Rattle.carp_engine.specs.Certifying.{IsSearched, IsSearchedAnew, certificate_by}

@@ -10,7 +10,7 @@ use Rattle.branch_rules.specs.Limits.{IsPriceSet}
 use Rattle.branch_rules.specs.Prices.{Prices}
 use Rattle.branch_tree.specs.Founds.{Findings, IsFound}
 use Rattle.branch_tree.specs.Values.{IsFloored}
-use Rattle.short_plans.specs.Shorts.{IsShortPlan}
+use Rattle.task_tours.specs.Shorts.{IsShortPlan}
 use Rattle.cert_lines.specs.Certificates.{Certificate}
 use Rattle.cert_format.specs.Good.{counts_in}
 

@@ -7,7 +7,7 @@ use Rattle.branch_rules.specs.declared.node.Node.{Node}
 use Rattle.cert_lines.specs.Certificates.{Certificate}
 use Rattle.cert_lines.specs.Spelling.{IsSpellable}
 use Rattle.cert_format.specs.Good.{IsGood, counts_in, support_of}
-use Rattle.short_plans.specs.Shorts.{IsShortPlan}
+use Rattle.task_tours.specs.Shorts.{IsShortPlan}
 
 -- the nodes are those of a tree that has so many turns for a cost
 pub record HaveTurns (c : Support) (nodes : List Node) (cost turns : ℕ) : Type 0 where

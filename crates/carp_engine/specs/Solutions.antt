@@ -12,7 +12,7 @@ use Rattle.branch_rules.specs.Trees.{HasTurns, Shows}
 use Rattle.cert_lines.specs.Certificates.{Certificate}
 use Rattle.cert_lines.specs.Spelling.{IsSpellable}
 use Rattle.cert_format.specs.Good.{IsGood, counts_in, support_of}
-use Rattle.short_plans.specs.Shorts.{IsShortPlan}
+use Rattle.task_tours.specs.Shorts.{IsShortPlan}
 
 -- a cost is at most that of one tour for each required edge by least paths
 pub record IsAtMostSingles (p : Problem) (cost : ℕ) : Type 0 where

@@ -19,9 +19,8 @@ use decision_chains::fixed_values_compare;
 use deadhead_paths::tidy;
 use helper_rounds::ask_all;
 use plan_model::Proposer;
-use short_plans::{short_plans_are_allowed, short_plans_cost_little};
+use task_tours::{cost_distances, short_plans_are_allowed, short_plans_cost_little};
 use std::alloc::Global;
-use task_tours::cost_distances;
 use tree_transfer::note_nodes;
 
 /// The best plan that the helpers find from that of a good certificate on, whoever made it, and what a search shows that goes on from its

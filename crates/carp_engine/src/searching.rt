@@ -1,7 +1,7 @@
 // Searches for a tree that shows the cost of a plan, within a budget of turns.
 ghost use Rattle.std.specs.Prelude.{◌≡◌, ◌⊎◌, ◌+◌, ◌≤◌, IfOk, OnOk, min};
 ghost use Rattle.plan_model.specs.Plans.{plan_cost};
-ghost use Rattle.short_plans.specs.Shorts.{IsAllowedPlan, IsShortPlan};
+ghost use Rattle.task_tours.specs.Shorts.{IsAllowedPlan, IsShortPlan};
 ghost use Rattle.grown_trees.specs.Growth.{turns_in};
 ghost use Rattle.branch_tree.specs.Resumes.{MayResume};
 ghost use Rattle.branch_tree.specs.Searches.{IsSearch, state_of};

@@ -4,7 +4,7 @@ use Rattle.carried_trees.specs.Laws.{CarriedTreesShow}
 use Rattle.cert_format.specs.Good.{CountsAreInRange, PlansAreOnEdges}
 use Rattle.cert_lines.specs.Laws.{FineIsSpellable, SpellableIsFine}
 use Rattle.raised_instances.specs.Laws.{DeadheadsStayLight, EditsRaise}
-use Rattle.short_plans.specs.Laws.{ShortPlansCostLittle}
+use Rattle.task_tours.specs.ShortLaws.{ShortPlansCostLittle}
 use Rattle.task_tours.specs.Laws.{LawfulPlansHaveLawfulTours}
 
 pub record Known : Type 0 where

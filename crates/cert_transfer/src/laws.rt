@@ -6,8 +6,7 @@ use carried_trees::carried_trees_show;
 use cert_format::{counts_are_in_range, plans_are_on_edges};
 use cert_lines::{fine_is_spellable, spellable_is_fine};
 use raised_instances::{edits_raise_instances, raised_sets_stay_fit};
-use short_plans::short_plans_cost_little;
-use task_tours::plans_are_tours;
+use task_tours::{plans_are_tours, short_plans_cost_little};
 
 // What is known of certificates, of plans, and of raised instances.
 pub(crate) fn known_laws()

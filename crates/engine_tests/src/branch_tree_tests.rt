@@ -1,6 +1,6 @@
 // Searches on small instances: one vertex, and a star of five streets behind a long way.
 ghost use Rattle.std.specs.Prelude.{◌≡◌, ◌≤◌, IfOk};
-ghost use Rattle.short_plans.specs.Shorts.{IsShortPlan};
+ghost use Rattle.task_tours.specs.Shorts.{IsShortPlan};
 ghost use Rattle.branch_tree.specs.Searches.{IsSearch};
 
 use branch_tree::{Search, Turn};
@@ -8,10 +8,9 @@ use carp_base::{Instance, Memory};
 use deadhead_paths::tidy;
 use plan_model::{JudgeRoom, Plan, Step, Verdict, Walk, judge, verdicts_are_exact};
 use samples::street;
-use short_plans::short_plans_are_allowed;
+use task_tours::{cost_distances, short_plans_are_allowed};
 use std::alloc::Global;
 use std::test::Fail;
-use task_tours::cost_distances;
 
 fn one_vertex(alloc: Global) -> Result<Instance, Fail> {
     Ok(Instance::build(alloc, 1, 1, 1, &[], &[])?)

@@ -4,7 +4,7 @@ ghost use Rattle.deadhead_paths.specs.Prices.{costs_of};
 ghost use Rattle.deadhead_paths.specs.Tidy.{IsTidied};
 ghost use Rattle.plan_model.specs.Offers.{smaller};
 ghost use Rattle.plan_model.specs.Plans.{IsLawful, plan_cost};
-ghost use Rattle.short_plans.specs.Shorts.{IsShortPlan};
+ghost use Rattle.task_tours.specs.Shorts.{IsShortPlan};
 ghost use Rattle.helper_rounds.specs.Helpers.{Hears, IsTidiedOffer};
 
 use carp_base::{Instance, Memory};

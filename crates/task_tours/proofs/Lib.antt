@@ -1,3 +1,4 @@
+mod PlanCosts
 pub mod Going
 pub mod Linking
 pub mod Plans

@@ -1,3 +1,5 @@
+pub mod Shorts
+pub mod ShortLaws
 pub mod Tours
 pub mod Laws
 pub mod Joining

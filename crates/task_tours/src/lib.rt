@@ -3,17 +3,25 @@
 //! [`join`] makes the walk of a tour, and [`add_tour`] adds it to a plan. The laws say that plans of such walks are lawful where
 //! their tours serve each required edge once within the capacity, what they cost, and that no lawful plan with the
 //! same tours costs less. [`Standing`] has the numbers that each helper keeps of itself.
+//!
+//! Short plans: lawful, with no more tours than there are required edges, and of at most 2,000,000 steps.
+//!
+//! Every plan that the engine makes is short. A search may begin with any plan that a certificate can hold, of at most 100,000 tours and
+//! 2,000,000 steps: its cost is far below what a bound may be, and its certificate can be spelled.
 #![tactic(auto)]
 
 mod costs;
 mod examples;
 mod joining;
 mod laws;
+mod short_examples;
+mod short_laws;
 mod standing;
 mod stands;
 
 pub use costs::{cost_distances, lawful_cost, least_cost};
 pub use joining::{add_tour, join};
 pub use laws::{plans_are_tours, tours_are_linked};
+pub use short_laws::{short_plans_are_allowed, short_plans_cost_little};
 pub use standing::Standing;
 pub use stands::ends;

@@ -1,6 +1,6 @@
 use Rattle.std.proofs.Common.{◌≡◌, ◌≤◌, ◌⊎◌, sym, ap, ◌∙◌, arith, inl, inr, subst, ℕ}
 use Rattle.plan_model.specs.Plans.{plan_cost}
-use Rattle.short_plans.specs.Shorts.{IsShortPlan}
+use Rattle.task_tours.specs.Shorts.{IsShortPlan}
 use Rattle.branch_tree.specs.Founds.{IsFound, findings_of}
 use Rattle.carp_engine.proofs.searching.go_on.Goals as goal
 

@@ -1,5 +1,5 @@
 use Rattle.std.proofs.Common.{◌≡◌, ◌≤◌, ◌-◌}
-use Rattle.short_plans.specs.Shorts.{IsShortPlan}
+use Rattle.task_tours.specs.Shorts.{IsShortPlan}
 use Rattle.branch_tree.specs.Searches.{IsSearch}
 use Rattle.carp_engine.proofs.searching.take_turns.Given as goal
 

@@ -1,6 +1,6 @@
 use Rattle.std.proofs.Common.{◌≡◌, ◌≤◌, length, map, replicate, All}
 use Rattle.plan_model.specs.Plans.{plan_cost}
-use Rattle.short_plans.specs.Shorts.{IsShortPlan}
+use Rattle.task_tours.specs.Shorts.{IsShortPlan}
 use Rattle.helper_rounds.specs.Asking.{fresh, standings}
 use Rattle.helper_rounds.specs.Helpers.{IsFit}
 use Rattle.helper_rounds.proofs.Turns.{AreRoundsSoFar}

@@ -3,7 +3,7 @@ use Rattle.std.specs.Prelude.{◌≤◌, List, length}
 use Rattle.carp_base.specs.Problem.{Problem, IsValid}
 use Rattle.plan_model.specs.Plans.{IsLawful, plan_cost, steps_of}
 use Rattle.plan_model.specs.declared.step.Step.{Step}
-use Rattle.short_plans.specs.Shorts.{IsAllowedPlan, IsShortPlan}
+use Rattle.task_tours.specs.Shorts.{IsAllowedPlan, IsShortPlan}
 
 -- a lawful plan of at most 2,000,000 steps costs at most 2 * 10^12
 abbrev pub ShortPlansCostLittle : Type 0

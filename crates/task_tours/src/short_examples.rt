@@ -1,7 +1,7 @@
 // Small data on which definitions are true, and on which they are not.
 ghost use Rattle.std.specs.Prelude.{[], ◌∷◌};
 ghost use Rattle.plan_model.specs.Examples.{one_street, one_vertex};
-ghost use Rattle.short_plans.specs.Shorts.{IsAllowedPlan, IsShortPlan};
+ghost use Rattle.task_tours.specs.Shorts.{IsAllowedPlan, IsShortPlan};
 
 fn short_plans()
     ensures nothing_to_serve { IsShortPlan one_vertex [] }

@@ -1,5 +1,5 @@
 // Laws over plans, as functions whose contract is the law.
-ghost use Rattle.short_plans.specs.Laws.{ShortPlansAreAllowed, ShortPlansCostLittle};
+ghost use Rattle.task_tours.specs.ShortLaws.{ShortPlansAreAllowed, ShortPlansCostLittle};
 
 /// A lawful plan of at most 2,000,000 steps costs at most 2 * 10^12, since a step costs at most 1,000,000.
 pub fn short_plans_cost_little()

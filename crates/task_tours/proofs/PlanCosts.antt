@@ -7,7 +7,7 @@ use Rattle.std.proofs.lemmas.List.Sums.{sum_by-le}
 use Rattle.carp_base.specs.Problem.{Problem, IsValid, IsEdgeNumber, IsRequired, edge_at}
 use Rattle.plan_model.specs.declared.step.Step.{Step}
 use Rattle.plan_model.specs.Plans.{IsLawfulWalk, Leads, step_cost, steps_of}
-use Rattle.short_plans.specs.Laws.{ShortPlansCostLittle}
+use Rattle.task_tours.specs.ShortLaws.{ShortPlansCostLittle}
 
 -- a step of a lawful walk costs at most 1,000,000
 abbrev IsSmallStep : Problem → Step → Type 0
