@@ -1,3 +1,4 @@
+pub mod Entering
 pub mod ChainLaws
 pub mod Signed
 pub mod EdgeCosts

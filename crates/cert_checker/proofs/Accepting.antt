@@ -17,7 +17,7 @@ use Rattle.cert_checker.specs.declared.reason.Reason.{Reason}
 use Rattle.cert_checker.specs.declared.reason.Reason.TheVariants.{PlanUnlawful, CostDiffers, Misfit, WeightTooLarge, CountsDiffer, NotLean, NotVoid, NotFixed, MissingUpper, TourTooCheap, LeafLow}
 use Rattle.cert_checker.specs.Claims.{IsSetRead, IsBacked}
 use Rattle.cert_checker.specs.Nodes.{NodeFails, NodesStand, FirstNodeFails}
-use Rattle.tree_paths.specs.Waiting.{waiting_after}
+use Rattle.branch_rules.specs.Waiting.{waiting_after}
 use Rattle.cert_checker.specs.Reasons.{HeadIsRight, IsFirstReason}
 use Rattle.cert_checker.specs.Walks.{Fills}
 use Rattle.cert_checker.proofs.Filling.{tree_of}

@@ -8,9 +8,9 @@ use Rattle.branch_rules.specs.declared.node.Node.{Node}
 use Rattle.branch_rules.specs.declared.node.Node.TheVariants as nodes
 use Rattle.cert_lines.specs.Order.{open_after}
 use Rattle.cert_checker.specs.declared.checker.Checker.{Checker}
-use Rattle.tree_paths.specs.declared.path.Path.{Path}
-use Rattle.tree_paths.specs.Waiting.{waiting_after}
-use Rattle.tree_paths.specs.Paths.{IsOpen, waits}
+use Rattle.branch_rules.specs.declared.path.Path.{Path}
+use Rattle.branch_rules.specs.Waiting.{waiting_after}
+use Rattle.branch_rules.specs.Paths.{IsOpen, waits}
 use Rattle.cert_checker.specs.Streams.{Fits}
 use Rattle.cert_checker.specs.Walks.{Fills, HasWalked, Walked, waiting_for}
 

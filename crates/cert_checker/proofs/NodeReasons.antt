@@ -19,7 +19,7 @@ use Rattle.cert_checker.specs.declared.reason.Part.TheVariants as parts
 use Rattle.cert_checker.specs.declared.reason.Reason.{Reason}
 use Rattle.cert_checker.specs.declared.reason.Reason.TheVariants.{Misfit, NotLean, NotVoid, NotFixed, MissingUpper, TourTooCheap, LeafLow}
 use Rattle.cert_checker.specs.Nodes.{IsLeastTour, ToursPay, IsFixedLow, IsTourTooCheap, IsPriceLow, NodeFails, NodeStands, NodesStand, FirstNodeFails}
-use Rattle.tree_paths.specs.Waiting.{waiting_after}
+use Rattle.branch_rules.specs.Waiting.{waiting_after}
 
 -- What the reasons of each kind of node are.
 

@@ -6,13 +6,13 @@ use Rattle.branch_rules.specs.Limits.{IsNodeIn}
 use Rattle.branch_rules.specs.Trees.{Support}
 use Rattle.branch_rules.specs.declared.node.Node.{Node}
 use Rattle.branch_rules.specs.declared.node.Node.TheVariants as nodes
-use Rattle.tree_paths.specs.declared.path.Path.{Path}
+use Rattle.branch_rules.specs.declared.path.Path.{Path}
 use Rattle.cert_checker.specs.declared.checker.Checker.{Checker}
 use Rattle.cert_checker.specs.declared.reason.Reason.{Reason}
 use Rattle.cert_checker.specs.Claims.{IsBacked, IsNodeRead}
 use Rattle.cert_checker.specs.Nodes.{NodeFails, NodeStands, NodesStand, FirstNodeFails}
-use Rattle.tree_paths.specs.Waiting.{waiting_after}
-use Rattle.tree_paths.specs.Paths.{IsFineSplit, IsOpen, branch_of, seconds_of, waits}
+use Rattle.branch_rules.specs.Waiting.{waiting_after}
+use Rattle.branch_rules.specs.Paths.{IsFineSplit, IsOpen, branch_of, seconds_of, waits}
 use Rattle.cert_checker.specs.Walks.{HasWalked, TreeSays, Walked, waiting_for}
 use Rattle.cert_checker.proofs.Backing.{shore_of}
 

@@ -14,7 +14,7 @@ use Rattle.branch_rules.specs.Prices.{Prices, PaysAtLeast, task_adds, crossing_p
 use Rattle.branch_rules.specs.Decisions.{rules_of, cuts_of, IsVoid, IsFixed}
 use Rattle.decision_chains.specs.Pairs.{IsPairWithin}
 use Rattle.branch_rules.specs.Refusals.{HasUpper, IsWithoutUpper}
-use Rattle.tree_paths.specs.Waiting.{waiting_after}
+use Rattle.branch_rules.specs.Waiting.{waiting_after}
 use Rattle.branch_rules.specs.Trees.{Support, set_at, IsLeanNode, PriceShows, FixedShows}
 use Rattle.cert_checker.specs.declared.reason.Part.TheVariants as parts
 use Rattle.cert_checker.specs.declared.reason.Reason.{Reason}

@@ -7,9 +7,9 @@ use Rattle.cert_lines.specs.Order.{open_after}
 use Rattle.cert_checker.specs.declared.checker.Checker.{Checker}
 use Rattle.cert_checker.specs.declared.reason.Reason.{Reason}
 use Rattle.cert_checker.specs.Nodes.{NodesStand, FirstNodeFails}
-use Rattle.tree_paths.specs.Waiting.{waiting_after}
+use Rattle.branch_rules.specs.Waiting.{waiting_after}
 use Rattle.cert_checker.specs.Leaves.{AreLeaves}
-use Rattle.tree_paths.specs.Paths.{IsPath, IsPathIn, waits}
+use Rattle.branch_rules.specs.Paths.{IsPath, IsPathIn, waits}
 
 -- the branches that wait after some nodes
 abbrev pub waiting_for : List Node → List (List Decision) → List (List Decision)

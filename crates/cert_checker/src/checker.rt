@@ -7,15 +7,14 @@ ghost use Rattle.branch_rules.specs.declared.node.Node.TheVariants as nodes;
 ghost use Rattle.cert_checker.specs.Claims.{IsBacked, IsNodeRead, support_in};
 ghost use Rattle.cert_checker.specs.Leaves.{AreLeaves, NodeSays};
 ghost use Rattle.cert_checker.specs.Walks.{HasWalked, IsChecker};
-ghost use Rattle.tree_paths.specs.Paths.{IsOpen};
+ghost use Rattle.branch_rules.specs.Paths.{IsOpen};
 
 use crate::claim::Claim;
 use crate::leaves::Leaves;
 use crate::{Part, Reason};
-use branch_rules::{Branch, Node};
+use branch_rules::{Branch, Node, Path};
 use carp_base::{Instance, Memory};
 use std::alloc::Global;
-use tree_paths::Path;
 
 /// What is known of the nodes so far: the first reason, or the path to the next node.
 #[derive(Drop)]

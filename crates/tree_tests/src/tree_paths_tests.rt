@@ -1,12 +1,11 @@
 // Trees read node by node: the decisions on the way to each node.
 ghost use Rattle.std.specs.Prelude.{◌≤◌, OnOk};
-ghost use Rattle.tree_paths.specs.Paths.{IsFineSplit, IsPath};
+ghost use Rattle.branch_rules.specs.Paths.{IsFineSplit, IsPath};
 
-use branch_rules::Node;
+use branch_rules::{Node, Path};
 use std::alloc::Global;
 use std::process::Abort;
 use std::test::Fail;
-use tree_paths::Path;
 
 // The number of a digit.
 fn digit(sign: u8) -> u32

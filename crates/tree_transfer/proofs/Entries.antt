@@ -9,9 +9,9 @@ use Rattle.branch_rules.specs.declared.node.Node.TheVariants as nodes
 use Rattle.grown_trees.specs.Growth.{AreNoted, IsNotedNode, ShowsUpTo}
 use Rattle.grown_trees.specs.Stands.{Stand, stands}
 use Rattle.grown_trees.specs.declared.growing.GrowingNode.{GrowingNode}
-use Rattle.tree_paths.specs.Paths.{IsOpen, IsPath, IsPathIn, branch_of, seconds_of, waits}
-use Rattle.tree_paths.specs.Waiting.{waiting_after}
-use Rattle.tree_paths.specs.declared.path.Path.{Path}
+use Rattle.branch_rules.specs.Paths.{IsOpen, IsPath, IsPathIn, branch_of, seconds_of, waits}
+use Rattle.branch_rules.specs.Waiting.{waiting_after}
+use Rattle.branch_rules.specs.declared.path.Path.{Path}
 use Rattle.tree_transfer.specs.Bounding.{NodeWouldShow, NodeWouldShowSome, NodesWouldShow}
 use Rattle.tree_transfer.specs.Noting.{AreAllNoted, IsNoting, NotesAt, stands_of}
 use Rattle.tree_transfer.specs.Shown.{AreNotedNodes, WouldShowSome}

@@ -10,7 +10,7 @@ use Rattle.branch_rules.specs.Decisions.{lower_of}
 use Rattle.branch_rules.specs.Trees.{Tree, pair, cut, price, void, fixed, preorder, node_at}
 use Rattle.branch_rules.specs.declared.node.Node.{Node}
 use Rattle.branch_rules.specs.declared.node.Node.TheVariants as nodes
-use Rattle.tree_paths.specs.Waiting.{waiting_after}
+use Rattle.branch_rules.specs.Waiting.{waiting_after}
 use Rattle.tree_transfer.specs.Carrying.{AreCarriedOver, GivesWay, IsCarrying, IsForest, LiesBehind, Opens, forest}
 use Rattle.tree_transfer.specs.Shown.{AreCarried, AreTreeNodes}
 

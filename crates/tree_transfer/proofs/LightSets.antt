@@ -17,9 +17,9 @@ use Rattle.branch_rules.specs.declared.node.Node.{Node}
 use Rattle.branch_rules.specs.declared.node.Node.TheVariants as nodes
 use Rattle.branch_rules.specs.declared.weight.Weight.{Weight}
 use Rattle.carried_trees.specs.Carried.{FixedWouldShow, WouldShow}
-use Rattle.tree_paths.specs.Paths.{IsOpen, IsPath, IsPathIn, branch_of, seconds_of, waits}
-use Rattle.tree_paths.specs.Waiting.{waiting_after}
-use Rattle.tree_paths.specs.declared.path.Path.{Path}
+use Rattle.branch_rules.specs.Paths.{IsOpen, IsPath, IsPathIn, branch_of, seconds_of, waits}
+use Rattle.branch_rules.specs.Waiting.{waiting_after}
+use Rattle.branch_rules.specs.declared.path.Path.{Path}
 use Rattle.tree_transfer.specs.Bounding.{NodeWouldShow, NodesWouldShow}
 use Rattle.tree_transfer.specs.Samples.{AreLight, IsLight, IsTestedTo}
 use Rattle.tree_transfer.specs.Shown.{AreTreeNodes, HasShores, WouldShowSome}

@@ -9,9 +9,9 @@ use Rattle.branch_rules.specs.Trees.{Tree, NodeList, node_at}
 use Rattle.branch_rules.specs.declared.node.Node.{Node}
 use Rattle.branch_rules.specs.declared.node.Node.TheVariants as nodes
 use Rattle.grown_trees.specs.Places.{IsFineNode}
-use Rattle.tree_paths.specs.Paths.{IsFineSplit, IsOpen, IsPath, IsPathIn, branch_of, seconds_of, waits}
-use Rattle.tree_paths.specs.Waiting.{waiting_after}
-use Rattle.tree_paths.specs.declared.path.Path.{Path}
+use Rattle.branch_rules.specs.Paths.{IsFineSplit, IsOpen, IsPath, IsPathIn, branch_of, seconds_of, waits}
+use Rattle.branch_rules.specs.Waiting.{waiting_after}
+use Rattle.branch_rules.specs.declared.path.Path.{Path}
 use Rattle.tree_transfer.specs.Carrying.{CarriesAt, GivesWay, IsCarrying, LiesBehind, forest}
 use Rattle.tree_transfer.specs.Shown.{AreCarried, AreTreeNodes}
 use Rattle.tree_transfer.proofs.Forests.{carried_all, carrying_none, gives_way, keeps}

@@ -11,9 +11,9 @@ use Rattle.branch_rules.specs.declared.node.Node.TheVariants as nodes
 use Rattle.carried_trees.specs.Carried.{WouldShow}
 use Rattle.grown_trees.specs.Growth.{ShowsUpTo}
 use Rattle.grown_trees.specs.Stands.{NodeShows}
-use Rattle.tree_paths.specs.Paths.{IsOpen, IsPath, IsPathIn, branch_of, seconds_of, waits}
-use Rattle.tree_paths.specs.Waiting.{waiting_after}
-use Rattle.tree_paths.specs.declared.path.Path.{Path}
+use Rattle.branch_rules.specs.Paths.{IsOpen, IsPath, IsPathIn, branch_of, seconds_of, waits}
+use Rattle.branch_rules.specs.Waiting.{waiting_after}
+use Rattle.branch_rules.specs.declared.path.Path.{Path}
 use Rattle.tree_transfer.specs.Bounding.{BoundsAt, IsBounding, IsLeastShown, NodeHasValue, NodeWouldShow, NodeWouldShowSome, NodesHaveValues, NodesWouldShow}
 use Rattle.tree_transfer.specs.Shown.{IsGreatestShown, WouldShowSome}
 use Rattle.tree_transfer.proofs.Moving.{is_open, waits_open}

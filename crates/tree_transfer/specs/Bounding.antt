@@ -9,9 +9,9 @@ use Rattle.branch_rules.specs.Trees.{Support, NodesShow, PriceShows, FixedShows}
 use Rattle.branch_rules.specs.declared.node.Node.{Node}
 use Rattle.branch_rules.specs.declared.node.Node.TheVariants as nodes
 use Rattle.carried_trees.specs.Carried.{FixedWouldShow}
-use Rattle.tree_paths.specs.Paths.{IsPath, IsPathIn, waits}
-use Rattle.tree_paths.specs.Waiting.{waiting_after}
-use Rattle.tree_paths.specs.declared.path.Path.{Path}
+use Rattle.branch_rules.specs.Paths.{IsPath, IsPathIn, waits}
+use Rattle.branch_rules.specs.Waiting.{waiting_after}
+use Rattle.branch_rules.specs.declared.path.Path.{Path}
 use Rattle.tree_transfer.specs.Shown.{HasShores}
 use Rattle.tree_transfer.specs.declared.bounding.Given.{Given}
 

@@ -10,8 +10,8 @@ use Rattle.branch_rules.specs.Trees.{Tree, NodeList, preorder}
 use Rattle.branch_rules.specs.declared.node.Node.{Node}
 use Rattle.branch_rules.specs.declared.node.Node.TheVariants as nodes
 use Rattle.grown_trees.specs.Places.{IsFineNode}
-use Rattle.tree_paths.specs.Paths.{IsPath, IsPathIn, waits}
-use Rattle.tree_paths.specs.declared.path.Path.{Path}
+use Rattle.branch_rules.specs.Paths.{IsPath, IsPathIn, waits}
+use Rattle.branch_rules.specs.declared.path.Path.{Path}
 use Rattle.carried_trees.specs.Carried.{IsCarried}
 use Rattle.tree_transfer.specs.Shown.{AreCarried}
 

@@ -6,9 +6,9 @@ use Rattle.branch_rules.specs.declared.node.Node.{Node}
 use Rattle.grown_trees.specs.Growth.{AreNoted}
 use Rattle.grown_trees.specs.Stands.{Stand}
 use Rattle.grown_trees.specs.declared.growing.GrowingNode.{GrowingNode}
-use Rattle.tree_paths.specs.Paths.{IsPath, IsPathIn, waits}
-use Rattle.tree_paths.specs.Waiting.{waiting_after}
-use Rattle.tree_paths.specs.declared.path.Path.{Path}
+use Rattle.branch_rules.specs.Paths.{IsPath, IsPathIn, waits}
+use Rattle.branch_rules.specs.Waiting.{waiting_after}
+use Rattle.branch_rules.specs.declared.path.Path.{Path}
 use Rattle.tree_transfer.specs.Bounding.{NodesWouldShow}
 
 -- nodes, each with the branch that waits for it

@@ -8,8 +8,8 @@ use Rattle.branch_rules.specs.Trees.{Tree, Support, preorder}
 use Rattle.branch_rules.specs.declared.node.Node.{Node}
 use Rattle.branch_rules.specs.declared.node.Node.TheVariants as nodes
 use Rattle.grown_trees.specs.Places.{IsFineNode}
-use Rattle.tree_paths.specs.Paths.{IsPath, IsPathIn, waits}
-use Rattle.tree_paths.specs.declared.path.Path.{Path}
+use Rattle.branch_rules.specs.Paths.{IsPath, IsPathIn, waits}
+use Rattle.branch_rules.specs.declared.path.Path.{Path}
 use Rattle.tree_transfer.specs.Bounding.{NodesWouldShow}
 
 -- a node of an instance, as a tree may have it

@@ -8,14 +8,13 @@ ghost use Rattle.tree_transfer.specs.Shown.{AreTreeNodes};
 
 use crate::greatest_bound;
 use crate::samples::{one_shore, star, tree_of};
-use branch_rules::{Branch, Node, PriceSet, Tree};
+use branch_rules::{Branch, Node, Path, PriceSet, Tree};
 use carp_base::{Instance, Memory};
 use cut_pool::ShorePool;
 use std::alloc::Global;
 use std::process::Abort;
 use std::test::Fail;
 use task_tours::cost_distances;
-use tree_paths::Path;
 
 // The same price for each service of the star.
 fn set_of(alloc: Global, unit: u64, price: i64) -> Result<PriceSet, Memory>

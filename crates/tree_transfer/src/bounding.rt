@@ -11,7 +11,7 @@ ghost use Rattle.grown_trees.specs.Places.{IsFineNode};
 ghost use Rattle.tree_transfer.specs.Bounding.{BoundsAt, FixedShowsUpTo, HasSomeValue, IsGiven, IsLeastShown, NodeHasValue, NodeWouldShowSome, PriceShowsSome, PriceShowsUpTo, support_in};
 ghost use Rattle.tree_transfer.specs.Shown.{AreTreeNodes, HasShores, IsGreatestShown, WouldShowSome};
 
-use branch_rules::{Branch, Node, PriceSet, Tree, nodes_show_their_tree};
+use branch_rules::{Branch, Node, Path, PriceSet, Tree, nodes_show_their_tree};
 use carp_base::{Instance, Memory};
 use decision_chains::fixed_values_compare;
 use cut_pool::ShorePool;
@@ -19,7 +19,6 @@ use deadhead_paths::Distances;
 use grown_trees::shown_under;
 use std::alloc::Global;
 use task_tours::lawful_cost;
-use tree_paths::Path;
 
 // What the nodes of a tree are read against.
 #[derive(Clone, Copy)]

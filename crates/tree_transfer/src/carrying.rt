@@ -7,11 +7,10 @@ ghost use Rattle.grown_trees.specs.Places.{IsFineNode};
 ghost use Rattle.tree_transfer.specs.Carrying.{CarriesAt, GivesWay, LiesBehind, Opens};
 ghost use Rattle.tree_transfer.specs.Shown.{AreCarried, AreTreeNodes};
 
-use branch_rules::{Branch, Node, Tree};
+use branch_rules::{Branch, Node, Path, Tree};
 use carp_base::{Instance, Memory};
 use cut_pool::ShorePool;
 use std::alloc::Global;
-use tree_paths::Path;
 
 /// The tree of an older instance carried over: a node whose pair is excluded under the decisions that are left gives way to its second
 /// child, and so does a cut whose number is below the lower number of its shore. All other nodes stay. The only error is want of memory.

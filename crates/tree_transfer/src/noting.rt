@@ -9,13 +9,12 @@ ghost use Rattle.tree_transfer.specs.Noting.{AreAllNoted, NotesAt};
 ghost use Rattle.tree_transfer.specs.Shown.{AreNotedNodes, AreTreeNodes, HasShores, WouldShowSome};
 
 use crate::bounding::{Given, shown_by};
-use branch_rules::{PriceSet, Tree};
+use branch_rules::{Path, PriceSet, Tree};
 use carp_base::{Instance, Memory};
 use cut_pool::ShorePool;
 use deadhead_paths::Distances;
 use grown_trees::GrowingNode;
 use std::alloc::Global;
-use tree_paths::Path;
 
 /// The nodes of a tree in preorder, each with the greatest bound that it shows by itself, as trees have them that grow at their leaves
 /// (`grown_trees`). What a leaf shows is as in [`greatest_bound`](crate::greatest_bound), and so are the tree and the distances.

@@ -4,7 +4,7 @@ use Rattle.decision_chains.specs.declared.decision.Decision.{Decision}
 use Rattle.cert_checker.specs.Claims.{support_in}
 use Rattle.cert_checker.specs.Leaves.{NodeSays}
 use Rattle.cert_checker.specs.Nodes.{NodeFails, NodeStands}
-use Rattle.tree_paths.specs.Paths.{branch_of}
+use Rattle.branch_rules.specs.Paths.{branch_of}
 use Rattle.cert_checker.proofs.Walking.{both, node_in, walked_fails, walked_stands}
 use Rattle.cert_checker.proofs.checker.Checker.test.Goals as goal
 

@@ -2,8 +2,8 @@
 ghost use Rattle.std.specs.Prelude.{◌≡◌, ◌∷◌, [], Some, None};
 ghost use Rattle.decision_chains.specs.declared.decision.Decision.TheVariants.{Yes, No, Low, High};
 ghost use Rattle.branch_rules.specs.declared.node.Node.TheVariants as nodes;
-ghost use Rattle.tree_paths.specs.Paths.{seconds_wait};
-ghost use Rattle.tree_paths.specs.Waiting.{waiting_after};
+ghost use Rattle.branch_rules.specs.Paths.{seconds_wait};
+ghost use Rattle.branch_rules.specs.Waiting.{waiting_after};
 
 fn branches_that_wait()
     ensures pair { waiting_after [] (nodes.Pair 1 2) [] ≡ (Yes 1 2 ∷ []) ∷ ((No 1 2 ∷ []) ∷ []) }

@@ -6,9 +6,9 @@ use Rattle.decision_chains.specs.declared.decision.Decision.{Decision}
 use Rattle.decision_chains.specs.Pairs.{HasPairWithin}
 use Rattle.branch_rules.specs.Limits.{HasShoreOf, IsFineDecision}
 use Rattle.branch_rules.specs.Trees.{Support}
-use Rattle.tree_paths.specs.declared.path.Path.{Path}
-use Rattle.tree_paths.specs.Paths.{IsDecisionIn, IsPath, IsPathIn, seconds_of, seconds_wait, waits}
-use Rattle.tree_paths.specs.Steps.{Enters, LeavesOne}
+use Rattle.branch_rules.specs.declared.path.Path.{Path}
+use Rattle.branch_rules.specs.Paths.{IsDecisionIn, IsPath, IsPathIn, seconds_of, seconds_wait, waits}
+use Rattle.branch_rules.specs.Steps.{Enters, LeavesOne}
 
 wait_first : (taken : List Decision) (seconds : List (Option Decision)) (d e : Decision) (before : List Decision) (later : List (List Decision)) → length taken ≡ length seconds →
     seconds_wait (taken ++ d ∷ []) (seconds ++ Some e ∷ []) before later ≡ (before ++ (taken ++ e ∷ [])) ∷ seconds_wait taken seconds before later

@@ -1,7 +1,7 @@
 use Rattle.std.proofs.Common.{◌≡◌, false, vec_len}
 use Rattle.branch_rules.specs.Trees.{Support}
-use Rattle.tree_paths.specs.Paths.{IsPath, IsPathIn, seconds_of}
-use Rattle.tree_paths.proofs.path.Path.go_on.Given as goal
+use Rattle.branch_rules.specs.Paths.{IsPath, IsPathIn, seconds_of}
+use Rattle.branch_rules.proofs.path.Path.go_on.Given as goal
 
 abbrev pub invariant-loop-self : goal.invariant-loop-self
 invariant-loop-self l = record {

@@ -1,7 +1,7 @@
 -- One decision on, and one back. No public contract speaks of this.
 use Rattle.std.specs.Prelude.{◌≡◌, Option, [], ◌∷◌, ◌++◌}
 use Rattle.decision_chains.specs.declared.decision.Decision.{Decision}
-use Rattle.tree_paths.specs.declared.path.Path.{Path}
+use Rattle.branch_rules.specs.declared.path.Path.{Path}
 
 -- the path goes on by a decision
 pub record Enters (old new : Path) (decision : Decision) (second : Option Decision) : Type 0 where

@@ -1,6 +1,6 @@
 use Rattle.std.proofs.Common.{refl, arith, ◌<◌, vec_len}
-use Rattle.tree_paths.proofs.Entering.{leaves_one}
-use Rattle.tree_paths.proofs.path.Path.leave.Goals as goal
+use Rattle.branch_rules.proofs.Entering.{leaves_one}
+use Rattle.branch_rules.proofs.path.Path.leave.Goals as goal
 
 pub returns : goal.returns
 returns c =

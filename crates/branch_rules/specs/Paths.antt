@@ -7,7 +7,7 @@ use Rattle.branch_rules.specs.Limits.{HasShoreOf, AreShoresIn, IsFineDecision}
 use Rattle.branch_rules.specs.Trees.{Support}
 use Rattle.branch_rules.specs.declared.node.Node.{Node}
 use Rattle.branch_rules.specs.declared.node.Node.TheVariants as nodes
-use Rattle.tree_paths.specs.declared.path.Path.{Path}
+use Rattle.branch_rules.specs.declared.path.Path.{Path}
 
 -- the decisions on the way to the node that is read next
 abbrev pub branch_of : Path → List Decision

@@ -1,5 +1,5 @@
 use Rattle.std.proofs.lemmas.Result.{on_ok_weaker}
-use Rattle.tree_paths.proofs.path.Path.pass.Goals as goal
+use Rattle.branch_rules.proofs.path.Path.pass.Goals as goal
 
 pub returns-in-Price-clause-inside : goal.returns-in-Price-clause-inside
 returns-in-Price-clause-inside c = on_ok_weaker c.go_on.result (λ kept s path node. kept s path) c.go_on.ensures.inside

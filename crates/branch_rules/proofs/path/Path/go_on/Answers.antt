@@ -1,7 +1,7 @@
 use Rattle.std.proofs.Common.{sym, ◌∙◌, None}
 use Rattle.std.proofs.lemmas.Result.{on_ok_weaker}
-use Rattle.tree_paths.proofs.Entering.{in_after, in_before, path_before, seconds_first, seconds_second, waits_second}
-use Rattle.tree_paths.proofs.path.Path.go_on.Goals as goal
+use Rattle.branch_rules.proofs.Entering.{in_after, in_before, path_before, seconds_first, seconds_second, waits_second}
+use Rattle.branch_rules.proofs.path.Path.go_on.Goals as goal
 
 pub returns-in-Some-clause-inside : goal.returns-in-Some-clause-inside
 returns-in-Some-clause-inside c = on_ok_weaker c.enter.result

@@ -3,11 +3,11 @@ ghost use Rattle.std.specs.Prelude.{◌≡◌, ◌<◌, ◌++◌, ◌∷◌, [],
 ghost use Rattle.decision_chains.specs.declared.decision.Decision.{Decision};
 ghost use Rattle.branch_rules.specs.Limits.{IsFineDecision, IsNodeIn};
 ghost use Rattle.branch_rules.specs.Trees.{Support};
-ghost use Rattle.tree_paths.specs.Paths.{IsDecisionIn, IsFineSplit, IsOpen, IsPath, IsPathIn, branch_of, seconds_of, waits};
-ghost use Rattle.tree_paths.specs.Steps.{Enters, LeavesOne};
-ghost use Rattle.tree_paths.specs.Waiting.{waiting_after};
+ghost use Rattle.branch_rules.specs.Paths.{IsDecisionIn, IsFineSplit, IsOpen, IsPath, IsPathIn, branch_of, seconds_of, waits};
+ghost use Rattle.branch_rules.specs.Steps.{Enters, LeavesOne};
+ghost use Rattle.branch_rules.specs.Waiting.{waiting_after};
 
-use branch_rules::{Branch, Decision, Node};
+use crate::{Branch, Decision, Node};
 use carp_base::Memory;
 use std::alloc::Global;
 
