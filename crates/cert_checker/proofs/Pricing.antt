@@ -13,7 +13,7 @@ use Rattle.branch_rules.specs.Bonds.{GroupWeight, IsSurchargeTable, bond_weight,
 use Rattle.branch_rules.specs.Laws.{SurchargeIsSymmetric, SurchargesAreBondWeights}
 use Rattle.branch_rules.specs.Prices.{Prices, signed_sum, task_adds}
 use Rattle.branch_rules.specs.Trees.{Support, set_at}
-use Rattle.pricing_grid.specs.Pricing.{AreSurcharges, IsSurcharge}
+use Rattle.route_pricing.specs.Pricing.{AreSurcharges, IsSurcharge}
 use Rattle.branch_rules.specs.Limits as limits
 use Rattle.route_pricing.specs.Values as pricing
 use Rattle.route_pricing.specs.Values.{IsAllowed, IsPriced, IsLeastValue, service_adds, services_add, tour_surcharge}

@@ -5,7 +5,7 @@ use Rattle.carp_base.specs.Allowed.{Relation, allows}
 use Rattle.decision_chains.specs.declared.decision.Decision.{Decision}
 use Rattle.decision_chains.specs.Exclusions.{PermitsUnexcluded}
 use Rattle.deadhead_paths.specs.Prices.{Priced, costs_of}
-use Rattle.pricing_grid.specs.Pricing.{AreSurcharges}
+use Rattle.route_pricing.specs.Pricing.{AreSurcharges}
 use Rattle.route_pricing.specs.Tables.{IsRoom, IsFilled}
 use Rattle.route_pricing.specs.declared.table.Table.{Table}
 use Rattle.route_pricing.specs.Values.{Pricing}

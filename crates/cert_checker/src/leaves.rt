@@ -4,7 +4,7 @@ ghost use Rattle.carp_base.specs.Allowed.{allows};
 ghost use Rattle.plan_model.specs.Plans.{IsLawful, plan_cost};
 ghost use Rattle.decision_chains.specs.Pairs.{ArePairsIn};
 ghost use Rattle.decision_chains.specs.FixedValue.{HasFixedValue};
-ghost use Rattle.pricing_grid.specs.Pricing.{AreSurcharges};
+ghost use Rattle.route_pricing.specs.Pricing.{AreSurcharges};
 ghost use Rattle.branch_rules.specs.Bonds.{IsSurchargeTable};
 ghost use Rattle.branch_rules.specs.Decisions.{IsFixed};
 ghost use Rattle.branch_rules.specs.Limits.{AreShoresIn};

@@ -11,7 +11,7 @@ use Rattle.carp_base.specs.declared.edge.Task.{Task}
 use Rattle.carp_base.specs.Problem.{Problem, IsValid, IsRequired}
 use Rattle.deadhead_paths.specs.Prices.{costs_of}
 use Rattle.deadhead_paths.specs.Tours.{IsTaskTour}
-use Rattle.pricing_grid.specs.Pricing.{AreSurcharges, IsSurcharge, Pricing, IsAllowed, IsServicePrice, service_adds}
+use Rattle.route_pricing.specs.Pricing.{AreSurcharges, IsSurcharge, Pricing, IsAllowed, IsServicePrice, service_adds}
 use Rattle.branch_rules.specs.Bonds.{IsSurchargeTable}
 use Rattle.branch_rules.specs.Limits as limits
 use Rattle.route_pricing.specs.Tables.{IsFilled}

@@ -3,7 +3,7 @@ use Rattle.std.proofs.Common.{◌≡◌, ℕ, ℤ, ◌+◌, List, [], ◌∷◌,
 use Rattle.std.specs.List.{All}
 use Rattle.std.proofs.lemmas.List.{length_push}
 use Rattle.std.proofs.lemmas.List.Elements.{All-push}
-use Rattle.pricing_grid.specs.Pricing.{IsServicePrice}
+use Rattle.route_pricing.specs.Pricing.{IsServicePrice}
 
 pub within_push : (after xs : List ℤ) (x : ℤ) → after ≡ xs ++ x ∷ [] → All IsServicePrice xs → IsServicePrice x → All IsServicePrice after
 within_push after xs x is all one = subst (All IsServicePrice) (sym is) (All-push IsServicePrice xs x all one)

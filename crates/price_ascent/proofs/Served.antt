@@ -3,7 +3,7 @@ use Rattle.std.proofs.Common.{◌≡◌, ℕ, List, subst}
 use Rattle.std.proofs.lemmas.List.Elements.{All-from_recursion}
 use Rattle.carp_base.specs.Problem.{Problem, IsRequired}
 use Rattle.carp_base.specs.declared.edge.Task.{Task}
-use Rattle.pricing_grid.specs.Pricing.{Pricing, IsAllowed}
+use Rattle.route_pricing.specs.Pricing.{Pricing, IsAllowed}
 use Rattle.deadhead_paths.specs.Tours.{IsTaskTour}
 use Rattle.route_pricing.specs.declared.table.Rate.{Rate}
 use Rattle.route_pricing.specs.Values.{AttainsRate, AttainsThrough}

@@ -5,7 +5,7 @@ use Rattle.std.specs.List.Sorted.{IsStrictlyIncreasing}
 use Rattle.carp_base.specs.Problem.{Problem, IsRequired, IsValid}
 use Rattle.carp_base.specs.declared.edge.Task.{Task}
 use Rattle.cut_pool.specs.Shores.{Belongs}
-use Rattle.pricing_grid.specs.Pricing.{Pricing, IsServicePrice}
+use Rattle.route_pricing.specs.Pricing.{Pricing, IsServicePrice}
 use Rattle.route_pricing.specs.Tables.{IsFilled}
 use Rattle.route_pricing.specs.declared.table.Table.{Table}
 use Rattle.branch_rules.specs.Limits.{IsFineWeight}

@@ -2,7 +2,7 @@
 ghost use Rattle.std.specs.Prelude.{◌≡◌, ◌≤◌, ◌++◌, All, IfOk, IfSome, OnOk, length};
 ghost use Rattle.cut_pool.specs.Shores.{Belongs};
 ghost use Rattle.edge_components.specs.Parts.{AreParts};
-ghost use Rattle.pricing_grid.specs.Pricing.{IsServicePrice};
+ghost use Rattle.route_pricing.specs.Pricing.{IsServicePrice};
 ghost use Rattle.route_pricing.specs.Tables.{IsRoom};
 ghost use Rattle.price_ascent.specs.Ascents.{IsAscent};
 ghost use Rattle.price_ascent.specs.Points.{AreServicePrices, IsActive, IsPoint, IsTown};

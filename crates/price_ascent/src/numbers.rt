@@ -1,6 +1,6 @@
 // Numbers of a price set, and sums that stay within them.
 ghost use Rattle.std.specs.Prelude.{◌≤◌, ◌<◌, ◌≤ℤ◌, pos, All, length};
-ghost use Rattle.pricing_grid.specs.Pricing.{IsServicePrice};
+ghost use Rattle.route_pricing.specs.Pricing.{IsServicePrice};
 
 /// The denominator of the sets that are proposed.
 pub(crate) const UNIT: u64 = 1_000_000;

@@ -1,7 +1,7 @@
 // Shores with weights that are placed in a pool, and the list of their weights.
 ghost use Rattle.std.specs.Prelude.{◌≡◌, ◌+◌, ◌≤◌, All, IfOk, length};
 ghost use Rattle.cut_pool.specs.Shores.{Belongs};
-ghost use Rattle.pricing_grid.specs.Pricing.{IsServicePrice};
+ghost use Rattle.route_pricing.specs.Pricing.{IsServicePrice};
 ghost use Rattle.shore_prices.specs.Proposals.{IsGrown};
 ghost use Rattle.price_ascent.specs.Points.{AreListed, IsActive};
 

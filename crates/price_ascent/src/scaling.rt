@@ -1,7 +1,7 @@
 // Weights that no street is overloaded by, and the deadhead prices that they leave.
 ghost use Rattle.std.specs.Prelude.{◌≡◌, ◌≤◌, All, IfOk, length};
 ghost use Rattle.deadhead_paths.specs.Prices.{ArePrices};
-ghost use Rattle.pricing_grid.specs.Pricing.{IsServicePrice};
+ghost use Rattle.route_pricing.specs.Pricing.{IsServicePrice};
 
 use crate::active::Active;
 use crate::numbers::{UNIT, held, number_at};

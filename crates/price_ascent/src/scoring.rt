@@ -1,7 +1,7 @@
 // What a point is worth, and how the tours that it leaves least serve and cross.
 ghost use Rattle.std.specs.Prelude.{◌≡◌, ◌≤◌, All, IfOk, IfSome};
 ghost use Rattle.carp_base.specs.Problem.{IsRequired};
-ghost use Rattle.pricing_grid.specs.Pricing.{IsServicePrice};
+ghost use Rattle.route_pricing.specs.Pricing.{IsServicePrice};
 ghost use Rattle.route_pricing.specs.Tables.{IsRoom};
 ghost use Rattle.route_pricing.specs.Values.{IsRate};
 ghost use Rattle.price_ascent.specs.Points.{AreServicePrices, IsFilledOn, IsPoint, IsTown};

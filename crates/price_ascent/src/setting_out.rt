@@ -1,7 +1,7 @@
 // The points where an ascent begins.
 ghost use Rattle.std.specs.Prelude.{◌≡◌, ◌<◌, ◌≤◌, All, IfOk, length};
 ghost use Rattle.carp_base.specs.Problem.{IsRequired};
-ghost use Rattle.pricing_grid.specs.Pricing.{IsServicePrice};
+ghost use Rattle.route_pricing.specs.Pricing.{IsServicePrice};
 ghost use Rattle.price_ascent.specs.Points.{AreServicePrices, IsPoint, IsTown};
 
 use crate::numbers::{UNIT, floor, held, quotient};

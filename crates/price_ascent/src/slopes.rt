@@ -1,6 +1,6 @@
 // In which direction the numbers of a point move, and how far.
 ghost use Rattle.std.specs.Prelude.{◌≡◌, ◌≤ℤ◌, pos, All, IfOk, length};
-ghost use Rattle.pricing_grid.specs.Pricing.{IsServicePrice};
+ghost use Rattle.route_pricing.specs.Pricing.{IsServicePrice};
 ghost use Rattle.price_ascent.specs.Points.{AreServicePrices, IsActive, IsPoint};
 
 use crate::active::Active;

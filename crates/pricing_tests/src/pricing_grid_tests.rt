@@ -1,11 +1,11 @@
 // The rows of small grids.
 ghost use Rattle.std.specs.Prelude.{◌≡◌, ◌+◌, ◌<◌, All, IfOk, IsTrue};
-ghost use Rattle.pricing_grid.specs.Partial.{AreFilled, IsGrid};
-ghost use Rattle.pricing_grid.specs.Pricing.{IsGridRoom, IsServicePrice};
+ghost use Rattle.route_pricing.specs.Partial.{AreFilled, IsGrid};
+ghost use Rattle.route_pricing.specs.Pricing.{IsGridRoom, IsServicePrice};
 
 use carp_base::{Allowed, Instance, RawEdge};
 use deadhead_paths::{Distances, cost_prices, distances};
-use pricing_grid::{Grid, LIFT, NO_LABELS, UNREACHED};
+use route_pricing::{Grid, LIFT, NO_LABELS, UNREACHED};
 use road_network::Network;
 use samples::street;
 use std::alloc::Global;

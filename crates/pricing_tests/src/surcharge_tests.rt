@@ -1,6 +1,6 @@
 // Tables with surcharges, against all relaxed tours of small towns.
 ghost use Rattle.std.specs.Prelude.{◌≡◌, ◌+◌, ◌*◌, ◌<◌, ◌≤◌, ℕ, pos, length, slice_index_or, All, IfOk, IsTrue};
-ghost use Rattle.pricing_grid.specs.Pricing.{AreSurcharges, IsSurcharge};
+ghost use Rattle.route_pricing.specs.Pricing.{AreSurcharges, IsSurcharge};
 ghost use Rattle.route_pricing.specs.Tables.{IsReady, IsRoom};
 ghost use Rattle.route_pricing.specs.Values.{IsRate};
 

@@ -3,12 +3,12 @@ use Rattle.std.proofs.Common.{◌≡◌, ℕ, ◌+◌, ◌-◌, ◌*◌, ◌^◌
 use Rattle.std.proofs.lemmas.Int.{ints}
 use Rattle.carp_base.specs.declared.edge.Task.{Task}
 use Rattle.carp_base.specs.Problem.{IsRequired}
-use Rattle.pricing_grid.specs.Partial.{base, no_value, IsGrid, task_start, demand_of, adds_of, between, Reaches, IsCell}
-use Rattle.pricing_grid.specs.declared.grid.Grid.{Grid}
+use Rattle.route_pricing.specs.Partial.{base, no_value, IsGrid, task_start, demand_of, adds_of, between, Reaches, IsCell}
+use Rattle.route_pricing.specs.declared.grid.Grid.{Grid}
 use Rattle.route_pricing.specs.declared.table.Rate.{Rate}
 use Rattle.route_pricing.specs.declared.through.Pair.{Pair}
 use Rattle.route_pricing.specs.Values.{IsPriced, IsServed, load_of, weighed, IsLeastThrough, AttainsThrough}
-use Rattle.pricing_grid.specs.Pricing.{Pricing, IsGridOf, lift}
+use Rattle.route_pricing.specs.Pricing.{Pricing, IsGridOf, lift}
 use Rattle.route_pricing.specs.Retracing.{turned}
 use Rattle.route_pricing.specs.Through.{weight_of, IsPair, IsOfCells, IsLeastPair, IsPairTour}
 use Rattle.route_pricing.proofs.Partials.{load_one}

@@ -5,7 +5,7 @@ use Rattle.std.proofs.lemmas.List.{length-append}
 use Rattle.plan_model.specs.declared.step.Step.{Step}
 use Rattle.deadhead_paths.specs.Prices.{Deadheads, IsLeastPrice, price_of}
 use Rattle.deadhead_paths.specs.Tours.{IsFollowed, LeastDeadhead}
-use Rattle.pricing_grid.specs.Pricing.{IsAllowed, service_adds}
+use Rattle.route_pricing.specs.Pricing.{IsAllowed, service_adds}
 use Rattle.route_pricing.specs.Examples.{outward, paid_twins, twin_streets, twins_at}
 
 -- each street has the price 5

@@ -3,7 +3,7 @@ use Rattle.std.specs.Prelude.{ℕ, true, false, [], ◌∷◌, List, ℤ, pos, n
 use Rattle.carp_base.specs.declared.edge.Edge.{Edge}
 use Rattle.carp_base.specs.declared.edge.Task.{Task}
 use Rattle.carp_base.specs.Problem.{Problem}
-use Rattle.pricing_grid.specs.Pricing.{Pricing}
+use Rattle.route_pricing.specs.Pricing.{Pricing}
 
 -- a street from the depot 1 to 2, which costs 5 without service
 abbrev pub served_street : ℕ → ℕ → Edge

@@ -1,7 +1,7 @@
 -- What the table says of the tours of a set.
 use Rattle.std.proofs.Common.{◌≡◌, ℕ, zero, suc, ◌+◌, ◌-◌, ◌*◌, ◌≤◌, Bool, true, false, List, [], ◌∷◌, ◌++◌, length, map, refl, sym, ap, ◌∙◌, subst, arith, inl, inr, ◌⊎◌, ℤ, pos, ◌+ℤ◌, ◌-ℤ◌, ◌*ℤ◌, ◌≤ℤ◌, ◌<ℤ◌, Option, Some, None, MatchOption}
 use Rattle.std.specs.List.{All, AllByRecursion}
-use Rattle.pricing_grid.specs.Pricing.{AreSurcharges, IsSurcharge}
+use Rattle.route_pricing.specs.Pricing.{AreSurcharges, IsSurcharge}
 use Rattle.std.proofs.lemmas.Int.{ints}
 use Rattle.std.proofs.lemmas.List.Elements.{All-weaker}
 use Rattle.carp_base.specs.Problem.{Problem, IsRequired}

@@ -1,5 +1,5 @@
 use Rattle.std.proofs.Common.{All, [], sym, subst, ◌∙◌, arith}
-use Rattle.pricing_grid.specs.Pricing.{IsServicePrice}
+use Rattle.route_pricing.specs.Pricing.{IsServicePrice}
 use Rattle.floor_prices.proofs.Packed.{costs_small}
 use Rattle.branch_rules.specs.Bonds.{IsSurchargeTable}
 use Rattle.branch_rules.specs.Limits as limits

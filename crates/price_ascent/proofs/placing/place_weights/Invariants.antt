@@ -1,6 +1,6 @@
 use Rattle.std.proofs.Common.{◌≡◌, All, length}
 use Rattle.cut_pool.specs.Shores.{Belongs}
-use Rattle.pricing_grid.specs.Pricing.{IsServicePrice}
+use Rattle.route_pricing.specs.Pricing.{IsServicePrice}
 use Rattle.shore_prices.specs.Proposals.{IsGrown}
 use Rattle.price_ascent.proofs.placing.place_weights.Given as goal
 

@@ -1,4 +1,4 @@
-use Rattle.pricing_grid.specs.Pricing.{IsServicePrice}
+use Rattle.route_pricing.specs.Pricing.{IsServicePrice}
 use Rattle.price_ascent.proofs.scaling.eased.Given as goal
 
 abbrev pub invariant-loop-place : goal.invariant-loop-place

@@ -1,5 +1,5 @@
 use Rattle.std.proofs.Common.{◌≡◌, All, length}
-use Rattle.pricing_grid.specs.Pricing.{IsServicePrice}
+use Rattle.route_pricing.specs.Pricing.{IsServicePrice}
 use Rattle.price_ascent.proofs.setting_out.first_prices.Given as goal
 
 abbrev pub invariant-loop-place : goal.invariant-loop-place

@@ -1,5 +1,5 @@
 use Rattle.std.proofs.Common.{All}
-use Rattle.pricing_grid.specs.Pricing.{IsServicePrice}
+use Rattle.route_pricing.specs.Pricing.{IsServicePrice}
 use Rattle.price_ascent.proofs.slopes.moved_weights.Given as goal
 
 abbrev pub invariant-loop-place : goal.invariant-loop-place

@@ -1,5 +1,5 @@
 use Rattle.std.proofs.Common.{arith, ap, ◌∙◌, inl}
-use Rattle.pricing_grid.specs.Partial.{column_task, between, task_end}
+use Rattle.route_pricing.specs.Partial.{column_task, between, task_end}
 use Rattle.route_pricing.proofs.Partials.{cell_final}
 use Rattle.route_pricing.proofs.Ending.{home_some, home_below, home_none}
 use Rattle.route_pricing.proofs.ends.home.Goals as goal

@@ -1,5 +1,5 @@
 use Rattle.std.proofs.Common.{◌<◌, arith}
-use Rattle.pricing_grid.specs.Partial.{no_value}
+use Rattle.route_pricing.specs.Partial.{no_value}
 use Rattle.route_pricing.specs.declared.ends.End.{End}
 use Rattle.route_pricing.proofs.Ending.{home_finite}
 use Rattle.route_pricing.proofs.Rating.{rate_more}

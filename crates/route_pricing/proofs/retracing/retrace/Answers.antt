@@ -1,6 +1,6 @@
 use Rattle.std.proofs.Common.{◌≡◌, ◌∷◌, ◌++◌, [], false, ap, ◌∙◌, subst, sym, refl, slice_index}
 use Rattle.carp_base.specs.declared.edge.Task.{Task}
-use Rattle.pricing_grid.specs.Partial.{column_task, cell_place}
+use Rattle.route_pricing.specs.Partial.{column_task, cell_place}
 use Rattle.route_pricing.specs.Retracing.{IsRetraced, IsTraced}
 use Rattle.route_pricing.proofs.Partials.{cell_final}
 use Rattle.route_pricing.proofs.WayBack.{home_reached, traced_tour}

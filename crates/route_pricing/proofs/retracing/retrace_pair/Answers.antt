@@ -1,6 +1,6 @@
 use Rattle.std.proofs.Common.{◌≡◌, ◌+◌, ◌∷◌, ◌++◌, [], true, false, arith, ap, ◌∙◌, subst, sym, refl, slice_index, reverse}
 use Rattle.carp_base.specs.declared.edge.Task.{Task}
-use Rattle.pricing_grid.specs.Partial.{column_task, cell_place}
+use Rattle.route_pricing.specs.Partial.{column_task, cell_place}
 use Rattle.route_pricing.specs.Retracing.{IsTraced}
 use Rattle.route_pricing.specs.Through.{IsPairTour}
 use Rattle.route_pricing.proofs.Partials.{cell_final}

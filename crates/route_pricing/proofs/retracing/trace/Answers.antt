@@ -1,6 +1,6 @@
 use Rattle.std.proofs.Common.{◌-◌, ◌∷◌, ◌++◌, [], arith, ap, ◌∙◌, subst, sym, refl, slice_index}
 use Rattle.carp_base.specs.declared.edge.Task.{Task}
-use Rattle.pricing_grid.specs.Partial.{column_task, cell_place}
+use Rattle.route_pricing.specs.Partial.{column_task, cell_place}
 use Rattle.route_pricing.specs.Retracing.{IsTracing, turned_if}
 use Rattle.route_pricing.proofs.Partials.{filled_less, cell_final}
 use Rattle.route_pricing.proofs.WayBack.{tracing_first, tracing_more, tracing_done}

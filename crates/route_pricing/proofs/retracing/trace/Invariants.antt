@@ -1,5 +1,5 @@
 use Rattle.std.proofs.Common.{slice_index}
-use Rattle.pricing_grid.specs.Partial.{column_task, cell_place}
+use Rattle.route_pricing.specs.Partial.{column_task, cell_place}
 use Rattle.route_pricing.specs.Retracing.{IsTracing}
 use Rattle.route_pricing.proofs.retracing.trace.Given as goal
 

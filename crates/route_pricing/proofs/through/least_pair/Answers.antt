@@ -1,5 +1,5 @@
 use Rattle.std.proofs.Common.{◌≡◌, ◌+◌, ◌-◌, ◌≤◌, arith, subst, refl}
-use Rattle.pricing_grid.specs.Partial.{column_task, demand_of}
+use Rattle.route_pricing.specs.Partial.{column_task, demand_of}
 use Rattle.route_pricing.specs.Retracing.{turned}
 use Rattle.route_pricing.specs.Through.{IsLeastWeight, IsLeastHalf, IsLighterHalf, IsLighterPair}
 use Rattle.route_pricing.proofs.Weighing.{half_none, half_more, pair_none, pair_more, all_pairs}

@@ -1,5 +1,5 @@
 use Rattle.std.proofs.Common.{◌+◌, ◌-◌}
-use Rattle.pricing_grid.specs.Partial.{column_task, demand_of}
+use Rattle.route_pricing.specs.Partial.{column_task, demand_of}
 use Rattle.route_pricing.specs.Retracing.{turned}
 use Rattle.route_pricing.specs.Through.{IsLeastHalf, IsLeastPairAbove}
 use Rattle.route_pricing.proofs.through.least_pair.Given as goal

@@ -1,6 +1,6 @@
 use Rattle.std.proofs.Common.{◌∙◌, sym, subst, List}
 use Rattle.branch_rules.specs.Bonds.{GroupWeight, IsSurchargeTable}
-use Rattle.pricing_grid.specs.Pricing.{AreSurcharges}
+use Rattle.route_pricing.specs.Pricing.{AreSurcharges}
 use Rattle.tight_prices.proofs.Tabled.{are_surcharges, filled_for}
 use Rattle.tight_prices.proofs.probe.fill.Goals as goal
 

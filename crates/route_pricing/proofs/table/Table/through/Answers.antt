@@ -4,7 +4,7 @@ use mir.Syntax.{w128}
 use mir.Val.{SFits, to_z, of_z}
 use Rattle.carp_base.specs.declared.edge.Task.{Task}
 use Rattle.carp_base.specs.Problem.{IsRequired}
-use Rattle.pricing_grid.specs.Partial.{column_task}
+use Rattle.route_pricing.specs.Partial.{column_task}
 use Rattle.route_pricing.specs.Values.{IsLeastThrough}
 use Rattle.route_pricing.specs.Through.{IsLeastPair, overweight_of}
 use Rattle.route_pricing.proofs.Crossing.{pair_reached, least_through}

@@ -1,7 +1,7 @@
 use Rattle.std.proofs.Common.{◌≤◌, arith, ap, subst, sym}
 use Rattle.carp_base.specs.declared.edge.Task.{Task}
 use Rattle.carp_base.specs.Problem.{IsRequired}
-use Rattle.pricing_grid.specs.Partial.{column_task}
+use Rattle.route_pricing.specs.Partial.{column_task}
 use Rattle.route_pricing.specs.Values.{AttainsThrough}
 use Rattle.route_pricing.specs.Through.{IsLeastPair}
 use Rattle.route_pricing.proofs.Crossing.{cells_of, attains_through}

@@ -1,5 +1,0 @@
-use Rattle.pricing_grid.proofs.Marking.{taken_marked}
-use Rattle.pricing_grid.proofs.grid.Grid.visit.Goals as goal
-
-pub returns-clause-marked : goal.returns-clause-marked
-returns-clause-marked c = c.leave.ensures.marked (taken_marked c.args.self.now c.requires.grid c.args.layer.now c.args.marks.now c.args.vertex c.requires.marked)

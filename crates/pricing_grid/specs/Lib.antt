@@ -1,4 +1,0 @@
-pub mod Partial
-pub mod Labels
-pub mod Pricing
-pub mod Charging
