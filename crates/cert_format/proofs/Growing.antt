@@ -5,7 +5,7 @@ use Rattle.std.proofs.lemmas.Bool.{and_parts, ltb-true, ltb-false, lt-ltb, le-lt
 use Rattle.std.proofs.lemmas.List.{append-nil, length-map, take_all, take-append-le}
 use Rattle.std.proofs.lemmas.List.Folds.{list_all-append}
 use Rattle.cert_lines.specs.Numerals.{numeral}
-use Rattle.cert_words.specs.Numbers.{IsNatural, IsNoNatural, limit}
+use Rattle.cert_lines.specs.Numbers.{IsNatural, IsNoNatural, limit}
 use Rattle.cert_format.specs.declared.items.Items.{Items}
 use Rattle.cert_format.specs.declared.line.Context.{Context}
 use Rattle.cert_format.specs.declared.line.LineState.{LineState}

@@ -8,7 +8,7 @@ use Rattle.cert_lines.specs.declared.next.Next.{Next}
 use Rattle.cert_lines.specs.Numerals.{numeral, signed_numeral}
 use Rattle.cert_lines.specs.Lines.{Line, step_word, weight_words, words_of}
 use Rattle.cert_lines.specs.Order.{follows}
-use Rattle.cert_words.specs.Numbers.{IsNoNatural, IsNoWhole, IsNoStep}
+use Rattle.cert_lines.specs.Numbers.{IsNoNatural, IsNoWhole, IsNoStep}
 use Rattle.cert_format.specs.declared.kind.Kind.{Kind}
 use Rattle.cert_format.specs.declared.kind.Kind.TheVariants.{Version, Counts, Cost, Bound, Tours, Tour, Shores, Shore, Sets, Prices, Weights, Nodes, Pair, Cut, Price, Void, Fixed, End}
 use Rattle.cert_format.specs.Kinds.{expected, field_count, keyword, IsOneOf, IsNoneOf, IsOfNoKind}

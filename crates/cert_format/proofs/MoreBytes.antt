@@ -4,7 +4,7 @@ use Rattle.std.specs.List.{All, list_all, slice_split, onto_first, flat_map}
 use Rattle.std.proofs.lemmas.Bool.{and_parts, not-true, cases_Bool, eqb-true}
 use Rattle.std.proofs.lemmas.List.{append-nil}
 use Rattle.std.proofs.lemmas.List.Splits.{slice_split-cons_yes, slice_split-cons_no}
-use Rattle.cert_words.specs.Words.{HoldsWord}
+use Rattle.cert_lines.specs.Words.{HoldsWord}
 use Rattle.cert_lines.specs.Laws.{LineIsCut}
 use Rattle.cert_lines.specs.declared.fault.CertFault.{CertFault}
 use Rattle.cert_lines.specs.declared.fault.CertFault.TheVariants.{Syntax, Limit, Truncated}

@@ -7,7 +7,7 @@ use Rattle.std.proofs.lemmas.Int.{ints}
 use Rattle.branch_rules.specs.Limits.{IsPriceNumber, IsFineWeight}
 use Rattle.plan_model.specs.declared.step.Step.{Step}
 use Rattle.branch_rules.specs.declared.weight.Weight.{Weight}
-use Rattle.cert_words.specs.Numbers.{limit}
+use Rattle.cert_lines.specs.Numbers.{limit}
 use Rattle.cert_lines.specs.Order.{LatestFirst}
 use Rattle.cert_lines.specs.Certificates.{steps_of, shores_of, sets_of}
 use Rattle.cert_lines.specs.Ranges.{IsWithin, IsInRange, IsWeightInRange}

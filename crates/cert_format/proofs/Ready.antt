@@ -4,7 +4,7 @@ use Rattle.std.specs.List.{flat_map, list_all}
 use Rattle.std.specs.Option.{option_map}
 use Rattle.std.proofs.lemmas.Bool.{and_parts, and_from, or_cases, eqb-true, eq-eqb, ltb-false, le-ltb, not-true, cases_Bool}
 use Rattle.std.proofs.lemmas.List.{append-nil, take_all, length-map}
-use Rattle.cert_words.specs.Numbers.{limit}
+use Rattle.cert_lines.specs.Numbers.{limit}
 use Rattle.cert_lines.specs.declared.next.Next.{Next}
 use Rattle.cert_lines.specs.Lines.{Line, words_of, weight_words}
 use Rattle.cert_lines.specs.Numerals.{numeral}

@@ -9,7 +9,7 @@ use Rattle.plan_model.specs.declared.step.Step.{Step}
 use Rattle.branch_rules.specs.declared.weight.Weight.{Weight}
 use Rattle.cert_lines.specs.Numerals.{numeral, signed_numeral}
 use Rattle.cert_lines.specs.Lines.{weight_words}
-use Rattle.cert_words.specs.Numbers.{IsStep, IsNatural, IsNoNatural, IsNoWhole, clamped, limit}
+use Rattle.cert_lines.specs.Numbers.{IsStep, IsNatural, IsNoNatural, IsNoWhole, clamped, limit}
 use Rattle.cert_format.specs.Lists.{is_within, step_ok, vertex_ok, price_ok, weight_ok}
 use Rattle.cert_format.specs.LineStates.{lesser}
 use Rattle.cert_format.specs.Parts.{LineItems, item_words, waiting_words}

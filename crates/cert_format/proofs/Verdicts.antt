@@ -12,7 +12,7 @@ use Rattle.cert_lines.specs.Lines as lines
 use Rattle.cert_lines.specs.Lines.{Line, words_of, weight_words}
 use Rattle.cert_lines.specs.Numerals.{numeral, signed_numeral}
 use Rattle.cert_lines.specs.Order.{LatestFirst, next_of, follows}
-use Rattle.cert_words.specs.Numbers.{limit}
+use Rattle.cert_lines.specs.Numbers.{limit}
 use Rattle.cert_format.specs.declared.line.Context.{Context}
 use Rattle.cert_format.specs.declared.line.Form.{Form}
 use Rattle.cert_format.specs.declared.line.Form.TheVariants.{Start, Shapeless, Shaped}

@@ -3,7 +3,7 @@ use Rattle.std.specs.Prelude.{◌≡◌, ◌≢◌, ℕ, ◌<◌, ◌≤◌, min
 use Rattle.std.specs.Option.{option_map}
 use Rattle.plan_model.specs.declared.step.Step.{Step}
 use Rattle.branch_rules.specs.declared.weight.Weight.{Weight}
-use Rattle.cert_words.specs.Numbers.{limit}
+use Rattle.cert_lines.specs.Numbers.{limit}
 use Rattle.cert_format.specs.declared.items.Items.{Items}
 use Rattle.cert_format.specs.declared.line.Context.{Context}
 use Rattle.cert_format.specs.declared.line.Form.{Form}

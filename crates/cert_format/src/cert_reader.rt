@@ -5,7 +5,7 @@ ghost use Rattle.cert_format.specs.BoundedFacts.{IsBounded-prop};
 use crate::draft::Draft;
 use crate::line::LineState;
 use crate::reader::Standing;
-use cert_words::Word;
+use cert_lines::Word;
 use std::alloc::Global;
 
 /// Reads the text of a certificate in pieces, however it is cut. It holds what stands before the first node, and no node.

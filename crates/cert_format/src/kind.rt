@@ -1,10 +1,9 @@
 // Kinds of lines, by their first words.
 ghost use Rattle.std.specs.Prelude.{◌≡◌, ℕ, List, MatchOption};
-ghost use Rattle.cert_words.specs.Words.{HoldsWord};
+ghost use Rattle.cert_lines.specs.Words.{HoldsWord};
 ghost use Rattle.cert_format.specs.Kinds.{expected, field_count, IsKindOf, IsOfNoKind, keyword};
 
-use cert_lines::Next;
-use cert_words::Word;
+use cert_lines::{Next, Word};
 
 /// What the first word of a line tells. Of a line of the tree it tells the kind of node.
 #[derive(Clone, Copy, Debug, PartialEq, Eq)]

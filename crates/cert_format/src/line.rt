@@ -2,7 +2,7 @@
 ghost use Rattle.std.specs.Prelude.{◌≡◌, ℕ, List, [], ◌++◌, ◌∷◌, ◌<◌, ◌≤◌, ◌&&◌, nat_le, length, OnOk, slice_index, None, Some, IsTrue, ◌↔◌};
 ghost use Rattle.cert_format.specs.Parts.{no_items};
 ghost use Rattle.cert_format.specs.declared.line.Form.TheVariants.{Shaped};
-ghost use Rattle.cert_words.specs.Words.{HoldsWord};
+ghost use Rattle.cert_lines.specs.Words.{HoldsWord};
 ghost use Rattle.cert_format.specs.declared.kind.Kind.TheVariants.{Tour, Shore, Prices, Weights};
 ghost use Rattle.cert_format.specs.Kinds.{field_count};
 ghost use Rattle.cert_format.specs.Lists.{fields_ok, price_ok, step_ok, vertex_ok, is_within};
@@ -13,8 +13,7 @@ use crate::kind::{Kind, kind_of};
 use arrayvec::ArrayVec;
 use branch_rules::Weight;
 use carp_base::Memory;
-use cert_lines::Next;
-use cert_words::Word;
+use cert_lines::{Next, Word};
 use plan_model::Step;
 use std::alloc::Global;
 

@@ -5,7 +5,7 @@ ghost use Rattle.cert_lines.specs.declared.fault.CertFault.{CertFault as Fault};
 ghost use Rattle.cert_lines.specs.declared.next.Next.TheVariants.{Nothing};
 ghost use Rattle.cert_lines.specs.Order.{LatestFirst, next_of};
 ghost use Rattle.std.specs.List.{list_all};
-ghost use Rattle.cert_words.specs.Words.{HoldsWord};
+ghost use Rattle.cert_lines.specs.Words.{HoldsWord};
 ghost use Rattle.cert_lines.specs.Texts.{ReadsAs, BreaksAt, IsFaultOf, IsUnfinished};
 ghost use Rattle.cert_format.specs.Judging.{context_of};
 ghost use Rattle.cert_format.specs.LineStates.{HoldsLine};
@@ -21,8 +21,7 @@ use crate::line::LineState;
 use crate::{Cert, CertHead};
 use branch_rules::Tree;
 use carp_base::{Fail, Memory};
-use cert_lines::{CertFault, Item, Next, lines_are_cut, readings_are_unique};
-use cert_words::Word;
+use cert_lines::{CertFault, Item, Next, Word, lines_are_cut, readings_are_unique};
 use std::alloc::Global;
 
 /// How a reader stands.

@@ -1,3 +1,5 @@
+pub mod Numerals
+pub mod Cuts
 pub mod Digits
 pub mod Words
 pub mod LineWords

@@ -1,3 +1,5 @@
+pub mod Numbers
+pub mod Words
 pub mod Numerals
 pub mod Lines
 pub mod Order

@@ -4,6 +4,11 @@
 //! bad line. What each line says and how it is spelled is defined in `specs/Lines.antt`, which line may follow which in
 //! `specs/Order.antt`, what numbers it may hold in `specs/Ranges.antt`, what has to agree in `specs/Agreement.antt`, and the
 //! text as a whole in `specs/Texts.antt`.
+//!
+//! A word of a certificate's text, what stands between two blanks, that comes in pieces.
+//!
+//! [`Word`] holds a word of any length in a few bytes. At its end it says whether it is a keyword, a number or a step; a number past
+//! 10^18, and an edge of a step past 1,000,000, is told as that.
 #![tactic(auto)]
 
 mod counts;
@@ -12,6 +17,9 @@ mod fault;
 mod item;
 mod laws;
 mod next;
+mod number;
+mod word;
+mod word_examples;
 
 pub use counts::Counts;
 pub use fault::CertFault;
@@ -22,3 +30,4 @@ pub use laws::{
     texts_are_short, texts_are_unique,
 };
 pub use next::Next;
+pub use word::Word;

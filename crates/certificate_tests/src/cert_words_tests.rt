@@ -1,5 +1,5 @@
 // Words in pieces.
-use cert_words::Word;
+use cert_lines::Word;
 use plan_model::Step;
 use std::process::Abort;
 

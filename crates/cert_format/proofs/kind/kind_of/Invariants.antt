@@ -1,5 +1,5 @@
 use Rattle.std.proofs.Common.{List, ℕ, take}
-use Rattle.cert_words.specs.Words.{HoldsWord}
+use Rattle.cert_lines.specs.Words.{HoldsWord}
 use Rattle.cert_format.specs.Kinds.{IsNoneOf}
 use Rattle.cert_format.proofs.kind.kind_of.Given as goal
 

@@ -1,7 +1,7 @@
 use Rattle.std.proofs.Common.{ℕ, List, drop, rules, sym, ap, ◌∙◌, subst}
-use Rattle.cert_words.specs.Words.{IsCut}
-use Rattle.cert_words.proofs.Cuts.{marked_kept, tail_take}
-use Rattle.cert_words.proofs.word.Word.marked.Goals as goal
+use Rattle.cert_lines.specs.Words.{IsCut}
+use Rattle.cert_lines.proofs.Cuts.{marked_kept, tail_take}
+use Rattle.cert_lines.proofs.word.Word.marked.Goals as goal
 
 pub returns-clause-told : goal.returns-clause-told
 returns-clause-told c = λ text held.

@@ -1,6 +1,6 @@
 // Definitions, tried on small data.
 ghost use Rattle.std.specs.Prelude.{◌≡◌, codes, pos, negsuc};
-ghost use Rattle.cert_words.specs.Numbers.{clamped, IsNumeral};
+ghost use Rattle.cert_lines.specs.Numbers.{clamped, IsNumeral};
 
 fn numerals()
     ensures zero { IsNumeral (codes "0") }

@@ -12,9 +12,9 @@ use Rattle.std.proofs.lemmas.Int.Digits.{first_digits_of}
 use Rattle.plan_model.specs.declared.step.Step.{Step}
 use Rattle.cert_lines.specs.Lines.{step_word}
 use Rattle.cert_lines.specs.Numerals.{numeral, signed_numeral}
-use Rattle.cert_words.specs.Numbers.{IsNumeral, IsNatural, IsNoNatural, IsMarked, IsNotMarked, IsWhole, IsNoWhole, IsStep, IsNoStep, mark_with, limit}
-use Rattle.cert_words.specs.Words.{IsCut}
-use Rattle.cert_words.proofs.Numerals.{digit_is, numeral_spells, natural_numeral, natural_short}
+use Rattle.cert_lines.specs.Numbers.{IsNumeral, IsNatural, IsNoNatural, IsMarked, IsNotMarked, IsWhole, IsNoWhole, IsStep, IsNoStep, mark_with, limit}
+use Rattle.cert_lines.specs.Words.{IsCut}
+use Rattle.cert_lines.proofs.Numerals.{digit_is, numeral_spells, natural_numeral, natural_short}
 
 -- a text of which nothing is kept is empty
 pub kept_none : {least : ℕ} {text : List ℕ} {more digits : Bool} → 0 < least → IsCut least [] more digits text → text ≡ []

@@ -1,9 +1,9 @@
 // A word in pieces.
 ghost use Rattle.std.specs.Prelude.{◌≡◌, ℕ, List, [], ◌++◌, ◌∷◌, ◌<◌, ◌↔◌, IsTrue, length, MatchOption, IfSome, ◌≤◌};
-ghost use Rattle.cert_words.specs.Numbers.{IsMarked, IsNatural, IsNoNatural, IsNoStep, IsNoWhole, IsNotMarked, IsStep, IsWhole, limit, mark_with};
+ghost use Rattle.cert_lines.specs.Numbers.{IsMarked, IsNatural, IsNoNatural, IsNoStep, IsNoWhole, IsNotMarked, IsStep, IsWhole, limit, mark_with};
 ghost use Rattle.cert_lines.specs.Lines.{step_word};
 ghost use Rattle.plan_model.specs.declared.step.Step.{Step};
-ghost use Rattle.cert_words.specs.Words.{HoldsWord};
+ghost use Rattle.cert_lines.specs.Words.{HoldsWord};
 
 use crate::number::natural_in;
 use arrayvec::ArrayVec;

@@ -3,8 +3,8 @@ ghost use Rattle.std.specs.Prelude.{◌≡◌, ℕ, List, ◌↔◌, ◌<◌, mi
 ghost use Rattle.std.specs.List.{list_all};
 ghost use Rattle.std.specs.Char.{is_ascii_digit};
 ghost use Rattle.std.specs.Str.Parse.{digits_value};
-ghost use Rattle.cert_words.specs.Numbers.{IsNatural, IsNoNatural, IsNumeral, limit};
-ghost use Rattle.cert_words.specs.Words.{IsCut};
+ghost use Rattle.cert_lines.specs.Numbers.{IsNatural, IsNoNatural, IsNumeral, limit};
+ghost use Rattle.cert_lines.specs.Words.{IsCut};
 
 // 10^18: a number past it is read as this one.
 const LIMIT: u64 = 1_000_000_000_000_000_000;

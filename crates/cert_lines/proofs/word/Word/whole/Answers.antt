@@ -1,8 +1,8 @@
 use Rattle.std.proofs.Common.{◌≡◌, ℕ, ◌<◌, ◌≤◌, pos, neg_ℤ, ◌-ℤ◌, to_z, of_z, subst, sym, arith, w64}
 use Rattle.std.proofs.lemmas.Int.{ints, to_z_pos, to_z-of_z}
-use Rattle.cert_words.specs.Numbers.{IsMarked, IsWhole}
-use Rattle.cert_words.proofs.Cuts.{natural_is_whole, no_whole, no_zero, marked_whole}
-use Rattle.cert_words.proofs.word.Word.whole.Goals as goal
+use Rattle.cert_lines.specs.Numbers.{IsMarked, IsWhole}
+use Rattle.cert_lines.proofs.Cuts.{natural_is_whole, no_whole, no_zero, marked_whole}
+use Rattle.cert_lines.proofs.word.Word.whole.Goals as goal
 
 pub returns-in-Some : goal.returns-in-Some
 returns-in-Some c = λ text held. subst (IsWhole text) (let e : pos c.in-Some.told ≡ to_z w64 c.in-Some.told = grind (arith, ints) in e) (natural_is_whole c.in-Some.told (c.in-Some.ensures.told text held))

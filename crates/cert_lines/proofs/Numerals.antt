@@ -9,7 +9,7 @@ use Rattle.std.proofs.lemmas.List.{append-nil, length-map}
 use Rattle.std.proofs.lemmas.Int.Digits.{digits_of_step, length-digits_of-le, all_below_base_digits_of, first_digits_of, digits_value_is, number_after_ge}
 use Rattle.std.proofs.lemmas.Str.{digit_value_digit}
 use Rattle.cert_lines.specs.Numerals.{numeral}
-use Rattle.cert_words.specs.Numbers.{IsNumeral}
+use Rattle.cert_lines.specs.Numbers.{IsNumeral}
 
 -- a digit by its code
 pub digit_is : (c : ℕ) → is_ascii_digit c ≡ true → (48 ≤ c) × (c ≤ 57) × (digit_value c + 48 ≡ c)

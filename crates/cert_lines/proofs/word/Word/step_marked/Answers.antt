@@ -1,5 +1,5 @@
-use Rattle.cert_words.proofs.Cuts.{marked_step, unmarked_step}
-use Rattle.cert_words.proofs.word.Word.step_marked.Goals as goal
+use Rattle.cert_lines.proofs.Cuts.{marked_step, unmarked_step}
+use Rattle.cert_lines.proofs.word.Word.step_marked.Goals as goal
 
 pub returns-in_default : goal.returns-in_default
 returns-in_default c = λ text held same. unmarked_step c.args.mark c.args.served c.args.forward same (c.in_default.ensures.told text held)

@@ -1,7 +1,7 @@
 use Rattle.std.proofs.Common.{◌≡◌, min, take}
 use Rattle.std.specs.Str.Parse.{digits_value}
-use Rattle.cert_words.specs.Numbers.{limit}
-use Rattle.cert_words.proofs.number.value_of.Given as goal
+use Rattle.cert_lines.specs.Numbers.{limit}
+use Rattle.cert_lines.proofs.number.value_of.Given as goal
 
 abbrev pub invariant-loop-b : goal.invariant-loop-b
 invariant-loop-b l = l.value ≡ min (digits_value 10 (take l.b-index l.digits)) limit

@@ -1,6 +1,6 @@
 use Rattle.std.proofs.Common.{rules}
-use Rattle.cert_words.proofs.Cuts.{no_natural, natural_whole, natural_long}
-use Rattle.cert_words.proofs.number.natural_in.Goals as goal
+use Rattle.cert_lines.proofs.Cuts.{no_natural, natural_whole, natural_long}
+use Rattle.cert_lines.proofs.number.natural_in.Goals as goal
 
 pub returns-then-not-digits-clause-told : goal.returns-then-not-digits-clause-told
 returns-then-not-digits-clause-told c = λ text cut. no_natural cut (λ whole. (let a = whole.digits in let b = c.if-not-digits.true in cc))

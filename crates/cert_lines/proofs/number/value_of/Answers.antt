@@ -1,7 +1,7 @@
 use Rattle.std.proofs.Common.{arith}
 use Rattle.std.proofs.lemmas.Grind.{common_steps}
-use Rattle.cert_words.proofs.Cuts.{value_turn}
-use Rattle.cert_words.proofs.number.value_of.Goals as goal
+use Rattle.cert_lines.proofs.Cuts.{value_turn}
+use Rattle.cert_lines.proofs.number.value_of.Goals as goal
 
 pub loop-b-preserved : goal.loop-b-preserved
 loop-b-preserved c =
