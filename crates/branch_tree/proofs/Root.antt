@@ -12,7 +12,7 @@ use Rattle.branch_rules.specs.Laws.{NoDepot}
 use Rattle.branch_rules.specs.Limits.{HasShoreOf}
 use Rattle.branch_rules.specs.Trees.{price}
 use Rattle.branch_rules.specs.declared.node.Node.TheVariants.{Price}
-use Rattle.floor_prices.specs.Floors.{plain_value}
+use Rattle.dual_master.specs.Floors.{plain_value}
 use Rattle.branch_rules.specs.Prices.{Prices}
 use Rattle.grown_trees.specs.Growth.{AreSound, Growth, turns_in}
 use Rattle.grown_trees.specs.Stands.{stands}

@@ -5,8 +5,8 @@ use Rattle.std.proofs.lemmas.Int.{ints}
 use Rattle.carp_base.specs.Problem.{Problem, IsValid, required_cost}
 use Rattle.branch_rules.specs.Prices.{Prices}
 use Rattle.capacity_cuts.specs.Levels.{needs_below}
-use Rattle.floor_prices.specs.Floors.{ReachesShell, plain_value}
-use Rattle.floor_prices.specs.Laws.{LevelSetsAreThere}
+use Rattle.dual_master.specs.Floors.{ReachesShell, plain_value}
+use Rattle.dual_master.specs.Laws.{LevelSetsAreThere}
 
 pub services_reached : LevelSetsAreThere → (p : Problem) → IsValid p → (pool : List (List ℕ)) (set : Prices) → ReachesShell p pool set → pos (set.unit * required_cost p) ≤ℤ plain_value p pool set
 services_reached there p valid pool set reaches = by 1000000000 (omega arith) where

@@ -8,7 +8,7 @@ use Rattle.route_pricing.specs.Tables.{IsRoom}
 use Rattle.branch_rules.specs.Limits.{IsPriceSet, IsShoreOf}
 use Rattle.branch_rules.specs.declared.node.Node.TheVariants.{Price}
 use Rattle.dual_master.specs.Singles.{IsFloorPool}
-use Rattle.floor_prices.specs.Floors.{FitsAlways, plain_value}
+use Rattle.dual_master.specs.Floors.{FitsAlways, plain_value}
 use Rattle.grown_trees.specs.Growth.{Fraction, Growth}
 use Rattle.branch_tree.specs.declared.beginning.Floor.{Floor}
 use Rattle.branch_tree.specs.declared.beginning.Tools.{Tools}

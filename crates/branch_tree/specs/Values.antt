@@ -5,7 +5,7 @@ use Rattle.plan_model.specs.Plans.{IsLawful, plan_cost}
 use Rattle.plan_model.specs.declared.step.Step.{Step}
 use Rattle.capacity_cuts.specs.Levels.{AreLevelSets, needs_below}
 use Rattle.matching_duals.specs.Joins.{IsLeastJoin}
-use Rattle.floor_prices.specs.Floors.{IsLeastCostRatio}
+use Rattle.dual_master.specs.Floors.{IsLeastCostRatio}
 use Rattle.grown_trees.specs.Growth.{Fraction}
 
 -- The fraction is at least each floor: the service costs and the needs of the level sets of all levels (Shell), the total demand times

@@ -28,7 +28,7 @@ pub fn network_is_fine()
 {}
 
 /// The shells weigh no more over each edge than its cost, and their needs, each times its weight, add up to the needs of all
-/// level sets. With services at cost they show the floor Shell (`floor_prices::shell_prices`).
+/// level sets. With services at cost they show the floor Shell (`dual_master::shell_prices`).
 pub fn shells_are_duals()
     ensures pack { ShellsPack }
     ensures weigh { ShellsWeighTheirNeeds }

@@ -7,7 +7,7 @@ use Rattle.plan_model.specs.Laws.{IsLowerBound}
 use Rattle.plan_model.specs.declared.step.Step.{Step}
 use Rattle.capacity_cuts.specs.Levels.{AreLevelSets, needs_below}
 use Rattle.matching_duals.specs.Joins.{IsLeastJoin}
-use Rattle.floor_prices.specs.Floors.{IsLeastCostRatio}
+use Rattle.dual_master.specs.Floors.{IsLeastCostRatio}
 use Rattle.branch_rules.specs.Trees.{HasTurns, Shows}
 use Rattle.cert_lines.specs.Certificates.{Certificate}
 use Rattle.cert_lines.specs.Spelling.{IsSpellable}

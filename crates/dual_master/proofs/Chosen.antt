@@ -10,8 +10,8 @@ use Rattle.cut_pool.specs.Shores.{Belongs}
 use Rattle.branch_rules.specs.declared.weight.Weight.{Weight}
 use Rattle.branch_rules.specs.Limits.{IsShoreOf}
 use Rattle.branch_rules.specs.Prices.{Prices}
-use Rattle.floor_prices.specs.Floors.{FitsAlways, ReachesJoin, ReachesRatio, ReachesShell, WeighsEach, plain_value}
-use Rattle.floor_prices.specs.Laws.{BetterReachesAsMuch, ReachesAsMuch}
+use Rattle.dual_master.specs.Floors.{FitsAlways, ReachesJoin, ReachesRatio, ReachesShell, WeighsEach, plain_value}
+use Rattle.dual_master.specs.Laws.{BetterReachesAsMuch, ReachesAsMuch}
 use Rattle.dual_master.specs.Candidates.{IsCandidate, IsFloorSet, IsNoMore}
 use Rattle.dual_master.specs.Growth.{GrowthKeepsSets}
 use Rattle.dual_master.specs.Singles.{HasSingles, IsFloorPool}

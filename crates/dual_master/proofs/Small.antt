@@ -11,9 +11,9 @@ use Rattle.carp_base.specs.Problem.{IsVertex}
 use Rattle.cut_pool.specs.Shores.{need}
 use Rattle.cut_pool.specs.declared.shore.Weighted.{Weighted}
 use Rattle.capacity_cuts.specs.Levels.{AreLevelSets, IsBeyond, needs_below, weighted_needs}
-use Rattle.floor_prices.specs.Examples.{bare_prices, no_town}
-use Rattle.floor_prices.specs.Floors.{IsFreeTour, ShowsShell, shores_of}
-use Rattle.floor_prices.specs.Sets.{empty_set}
+use Rattle.dual_master.specs.Examples.{bare_prices, no_town}
+use Rattle.dual_master.specs.Floors.{IsFreeTour, ShowsShell, shores_of}
+use Rattle.dual_master.specs.Sets.{empty_set}
 use Rattle.dual_master.specs.Candidates.{IsFloorBase}
 use Rattle.dual_master.proofs.Chosen.{none_weighed}
 use Rattle.dual_master.specs.Singles.{HasSingles, IsFloorPool, IsTried, IsWanted, one_more, as_before}

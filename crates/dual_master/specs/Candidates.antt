@@ -5,7 +5,7 @@ use Rattle.carp_base.specs.Problem.{Problem}
 use Rattle.cut_pool.specs.Shores.{Belongs}
 use Rattle.branch_rules.specs.Limits.{IsPriceSet, IsShoreOf}
 use Rattle.branch_rules.specs.Prices.{Prices}
-use Rattle.floor_prices.specs.Floors.{FitsAlways, HoldsShells, ShowsJoinShores, ShowsRatio, ShowsShell, WeighsEach, plain_value}
+use Rattle.dual_master.specs.Floors.{FitsAlways, HoldsShells, ShowsJoinShores, ShowsRatio, ShowsShell, WeighsEach, plain_value}
 use Rattle.dual_master.specs.declared.candidate.Candidate.{Candidate}
 
 -- the pool holds the level sets and the set shows exactly Shell, or it holds the shores of Join and the set shows what they need, or it is

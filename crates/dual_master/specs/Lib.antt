@@ -1,3 +1,8 @@
+pub mod Floors
+pub mod Laws
+pub mod Sets
+pub mod Pieces
+pub mod Examples
 pub mod Candidates
 pub mod Growth
 pub mod Raising

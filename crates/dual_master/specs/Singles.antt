@@ -4,7 +4,7 @@ use Rattle.carp_base.specs.Problem.{Problem}
 use Rattle.cut_pool.specs.Shores.{is_in, need}
 use Rattle.cut_pool.specs.Pools.{Holds}
 use Rattle.branch_rules.specs.Prices.{Prices}
-use Rattle.floor_prices.specs.Floors.{WeighsEach, plain_value}
+use Rattle.dual_master.specs.Floors.{WeighsEach, plain_value}
 use Rattle.dual_master.specs.Candidates.{IsFloorBase}
 
 -- the shore of just this vertex is placed: it is not the depot, some deadhead over it is needed, and the pool has room and does not

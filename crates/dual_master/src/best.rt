@@ -4,7 +4,7 @@ ghost use Rattle.cut_pool.specs.Shores.{Belongs};
 ghost use Rattle.deadhead_paths.specs.Prices.{costs_of};
 ghost use Rattle.route_pricing.specs.Tables.{IsRoom};
 ghost use Rattle.branch_rules.specs.Limits.{IsShoreOf};
-ghost use Rattle.floor_prices.specs.Floors.{FitsAlways, ReachesJoin, ReachesRatio, ReachesShell};
+ghost use Rattle.dual_master.specs.Floors.{FitsAlways, ReachesJoin, ReachesRatio, ReachesShell};
 ghost use Rattle.dual_master.specs.Singles.{IsFloorPool};
 
 use crate::candidate::{better, join_candidate, ratio_candidate, shell_candidate};
@@ -14,7 +14,7 @@ use branch_rules::PriceSet;
 use carp_base::{Instance, Memory};
 use cut_pool::ShorePool;
 use deadhead_paths::Distances;
-use floor_prices::better_sets_reach_as_much;
+use crate::better_sets_reach_as_much;
 use road_network::Network;
 use route_pricing::Table;
 use std::alloc::Global;

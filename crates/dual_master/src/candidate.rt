@@ -2,7 +2,7 @@
 ghost use Rattle.std.specs.Prelude.{◌≡◌, ◌⊎◌, ◌≤◌, IfOk};
 ghost use Rattle.deadhead_paths.specs.Prices.{costs_of};
 ghost use Rattle.route_pricing.specs.Tables.{IsRoom};
-ghost use Rattle.floor_prices.specs.Floors.{ReachesJoin, ReachesRatio, ReachesShell, plain_value};
+ghost use Rattle.dual_master.specs.Floors.{ReachesJoin, ReachesRatio, ReachesShell, plain_value};
 ghost use Rattle.dual_master.specs.Candidates.{IsCandidate, IsFloorSet, IsNoMore, IsValueWithin};
 
 use crate::values::{is_no_more, value_under};
@@ -10,7 +10,7 @@ use branch_rules::{Branch, PriceSet};
 use carp_base::{Instance, Memory};
 use cut_pool::ShorePool;
 use deadhead_paths::Distances;
-use floor_prices::{join_prices, ratio_prices, shell_prices};
+use crate::{join_prices, ratio_prices, shell_prices};
 use road_network::Network;
 use route_pricing::Table;
 use std::alloc::Global;

@@ -2,8 +2,8 @@
 ghost use Rattle.std.specs.Prelude.{[]};
 ghost use Rattle.deadhead_paths.specs.Examples.{town};
 ghost use Rattle.branch_rules.specs.Examples.{town_pool};
-ghost use Rattle.floor_prices.specs.Examples.{bare_prices, no_town};
-ghost use Rattle.floor_prices.specs.Sets.{empty_set};
+ghost use Rattle.dual_master.specs.Examples.{bare_prices, no_town};
+ghost use Rattle.dual_master.specs.Sets.{empty_set};
 ghost use Rattle.dual_master.specs.Candidates.{IsFloorBase};
 ghost use Rattle.dual_master.specs.Singles.{HasSingles, IsFloorPool, IsWanted};
 

@@ -3,7 +3,7 @@ use crate::floor_prices_tests::ways;
 use branch_rules::Branch;
 use carp_base::{Instance, RawEdge};
 use cut_pool::ShorePool;
-use floor_prices::shell_prices;
+use dual_master::shell_prices;
 use samples::draw;
 use std::alloc::Global;
 use std::test::Fail;

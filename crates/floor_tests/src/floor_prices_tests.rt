@@ -6,7 +6,7 @@ use branch_rules::Branch;
 use carp_base::Instance;
 use cut_pool::ShorePool;
 use deadhead_paths::{Distances, cost_prices, distances};
-use floor_prices::{join_prices, ratio_prices, shell_prices};
+use dual_master::{join_prices, ratio_prices, shell_prices};
 use road_network::Network;
 use route_pricing::Table;
 use samples::street;

@@ -5,7 +5,7 @@ use Rattle.decision_chains.specs.declared.decision.Decision.{Decision}
 use Rattle.branch_rules.specs.Decisions.{rules_of}
 use Rattle.branch_rules.specs.Laws.{FitsBranch}
 use Rattle.branch_rules.specs.Prices.{value_of}
-use Rattle.floor_prices.specs.Floors.{plain_value}
+use Rattle.dual_master.specs.Floors.{plain_value}
 use Rattle.grown_trees.specs.Growth.{Growth}
 use Rattle.grown_trees.specs.Values.{IsMostShown, IsShown}
 use Rattle.grown_trees.specs.declared.growing.GrowingNode.{GrowingNode}

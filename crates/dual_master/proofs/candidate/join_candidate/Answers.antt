@@ -1,6 +1,6 @@
 use Rattle.std.proofs.Common.{sym, subst, inl, inr}
 use Rattle.branch_rules.specs.Prices.{Prices}
-use Rattle.floor_prices.specs.Floors.{ReachesJoin}
+use Rattle.dual_master.specs.Floors.{ReachesJoin}
 use Rattle.dual_master.proofs.candidate.join_candidate.Goals as goal
 
 pub with_value-requires : goal.with_value-requires

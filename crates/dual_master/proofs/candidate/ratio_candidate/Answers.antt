@@ -5,7 +5,7 @@ use Rattle.cut_pool.specs.Shores.{Belongs}
 use Rattle.branch_rules.specs.Limits.{IsShoreOf}
 use Rattle.branch_rules.specs.Prices.{Prices}
 use Rattle.branch_rules.specs.declared.weight.Weight.{Weight}
-use Rattle.floor_prices.specs.Floors.{ReachesRatio}
+use Rattle.dual_master.specs.Floors.{ReachesRatio}
 use Rattle.dual_master.proofs.Chosen.{none_weighed}
 use Rattle.dual_master.proofs.candidate.ratio_candidate.Goals as goal
 
