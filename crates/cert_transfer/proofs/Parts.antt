@@ -27,8 +27,8 @@ use Rattle.cert_lines.specs.Ranges.{IsWithin}
 use Rattle.cert_lines.specs.Spelling.{IsFine, IsFineNode, IsFineSet, IsSpellable}
 use Rattle.cert_format.specs.Good.{HasPriceEach, IsGood, counts_in, support_of}
 use Rattle.raised_instances.specs.Raised.{IsRaised}
-use Rattle.carried_trees.specs.Carried.{IsCarried}
-use Rattle.carried_trees.specs.Laws.{WouldBeShowing}
+use Rattle.raised_instances.specs.Carried.{IsCarried}
+use Rattle.raised_instances.specs.CarriedLaws.{WouldBeShowing}
 use Rattle.tree_transfer.specs.Shown.{AreCarried, AreTreeNodes, HasShores, IsGreatestShown, WouldShowSome}
 use Rattle.cert_transfer.specs.Known.{Known}
 use Rattle.cert_transfer.specs.Transfer.{IsCarriedOver}

@@ -2,10 +2,9 @@
 ghost use Rattle.cert_transfer.specs.Known.{Known};
 
 use branch_rules::tree_bounds;
-use carried_trees::carried_trees_show;
+use raised_instances::{carried_trees_show, edits_raise_instances, raised_sets_stay_fit};
 use cert_format::{counts_are_in_range, plans_are_on_edges};
 use cert_lines::{fine_is_spellable, spellable_is_fine};
-use raised_instances::{edits_raise_instances, raised_sets_stay_fit};
 use task_tours::{plans_are_tours, short_plans_cost_little};
 
 // What is known of certificates, of plans, and of raised instances.

@@ -1,3 +1,9 @@
+pub mod Numbers
+pub mod Chaining
+pub mod Following
+pub mod Leaves
+pub mod Carrying
+pub mod Small
 pub mod Rising
 pub mod Needs
 pub mod Rooms

@@ -2,11 +2,21 @@
 //!
 //! Costs, service costs and demands rise, and some streets that need no service are closed: laws say which facts about the old instance
 //! are facts about the new one.
+//!
+//! Trees of decisions that are carried over to another instance.
+//!
+//! Where costs and demands rise and streets are closed, the proof of a bound need not be found anew. The tree of the older instance is
+//! read under the new one: a pair that is excluded there gives way to its second child, and so does a cut below the lower number of
+//! its shore; all else stays. What is left shows each bound that the older tree showed ([`carried_trees_show`]), if its fixed branches
+//! have values.
 #![tactic(auto)]
 
+mod carried_examples;
+mod carried_laws;
 mod examples;
 mod laws;
 
+pub use carried_laws::carried_trees_show;
 pub use laws::{
     edits_raise_instances, raised_fixed_values_are_no_less, raised_needs_are_no_less,
     raised_rooms_are_no_more, raised_sets_stay_fit,

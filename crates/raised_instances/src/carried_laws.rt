@@ -1,9 +1,9 @@
 // What a carried tree shows, as a function whose contract is the law.
-ghost use Rattle.carried_trees.specs.Laws.{CarriedTreesShow};
+ghost use Rattle.raised_instances.specs.CarriedLaws.{CarriedTreesShow};
 
 use decision_chains::{excluded_is_symmetric, yes_pairs_join};
 use grown_trees::decisions_keep_exclusions;
-use raised_instances::{
+use crate::{
     raised_fixed_values_are_no_less, raised_needs_are_no_less, raised_rooms_are_no_more,
     raised_sets_stay_fit,
 };

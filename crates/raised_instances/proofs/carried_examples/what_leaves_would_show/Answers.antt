@@ -1,6 +1,6 @@
 use Rattle.std.proofs.Common.{◌≤◌, arith}
-use Rattle.carried_trees.proofs.Small.{crossed_now, fixed_shows_none, high_again_shows, high_shows, not_void, waste_value}
-use Rattle.carried_trees.proofs.examples.what_leaves_would_show.Goals as goal
+use Rattle.raised_instances.proofs.Small.{crossed_now, fixed_shows_none, high_again_shows, high_shows, not_void, waste_value}
+use Rattle.raised_instances.proofs.carried_examples.what_leaves_would_show.Goals as goal
 
 pub returns-clause-price : goal.returns-clause-price
 returns-clause-price c = high_shows

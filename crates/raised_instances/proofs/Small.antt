@@ -14,9 +14,9 @@ use Rattle.decision_chains.specs.FixedValue.{HasFixedValue}
 use Rattle.branch_rules.specs.Decisions.{IsFixed, IsVoid, rules_of, three, cycle, heavy_chain, crossed}
 use Rattle.branch_rules.specs.Prices.{Fits}
 use Rattle.branch_rules.specs.Trees.{price}
-use Rattle.carried_trees.specs.Carried.{FixedWouldShow, WouldShow}
-use Rattle.carried_trees.specs.Examples.{star, waste, waste_prices, waste_support}
-use Rattle.carried_trees.proofs.Chaining.{alone}
+use Rattle.raised_instances.specs.Carried.{FixedWouldShow, WouldShow}
+use Rattle.raised_instances.specs.CarriedExamples.{star, waste, waste_prices, waste_support}
+use Rattle.raised_instances.proofs.Chaining.{alone}
 
 -- Two streets of the star weigh 4.
 

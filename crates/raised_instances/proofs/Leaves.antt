@@ -10,9 +10,9 @@ use Rattle.branch_rules.specs.declared.weight.Weight.{Weight}
 use Rattle.branch_rules.specs.Decisions.{lowest, lower_of, rules_of, IsFixed, IsVoid, three, cycle, heavy_chain, crossed}
 use Rattle.branch_rules.specs.Prices.{Prices, signed_sum, value_of, weigh, weight_value}
 use Rattle.branch_rules.specs.Trees.{Support, PricesShow, PriceShows, FixedShows, set_at}
-use Rattle.carried_trees.specs.Carried.{FixedWouldShow}
-use Rattle.carried_trees.proofs.Chaining.{two_over, detour_over, heavy_over}
-use Rattle.carried_trees.proofs.Following.{Known, Follows}
+use Rattle.raised_instances.specs.Carried.{FixedWouldShow}
+use Rattle.raised_instances.proofs.Chaining.{two_over, detour_over, heavy_over}
+use Rattle.raised_instances.proofs.Following.{Known, Follows}
 
 -- Values.
 

@@ -12,8 +12,8 @@ use Rattle.branch_rules.specs.Decisions.{lowest, lower_of}
 use Rattle.grown_trees.specs.Laws.{DecisionsKeepChainsLight, DecisionsKeepExclusions}
 use Rattle.raised_instances.specs.Laws.{RoomWeightsFall, FixedValuesRise, NeedsRise, SetsStayFit}
 use Rattle.raised_instances.specs.Raised.{IsRaised}
-use Rattle.carried_trees.proofs.Numbers.{NumbersFollow, numbers_root, numbers_old, numbers_both, numbers_low, numbers_high, numbers_left}
-use Rattle.carried_trees.proofs.Chaining.{ChainsFollow, chains_root, chains_both, chains_old, required_now}
+use Rattle.raised_instances.proofs.Numbers.{NumbersFollow, numbers_root, numbers_old, numbers_both, numbers_low, numbers_high, numbers_left}
+use Rattle.raised_instances.proofs.Chaining.{ChainsFollow, chains_root, chains_both, chains_old, required_now}
 
 -- two instances, of which one rose from the other, and the laws over them
 pub record Known (p q : Problem) : Type 0 where

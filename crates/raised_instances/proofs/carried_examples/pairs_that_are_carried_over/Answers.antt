@@ -1,9 +1,9 @@
 use Rattle.std.proofs.Common.{[], refl, inl, inr}
 use Rattle.branch_rules.specs.Trees.{price}
-use Rattle.carried_trees.specs.Carried.{IsCarried}
-use Rattle.carried_trees.specs.Examples.{paired, star}
-use Rattle.carried_trees.proofs.Small.{free, with_second, with_third}
-use Rattle.carried_trees.proofs.examples.pairs_that_are_carried_over.Goals as goal
+use Rattle.raised_instances.specs.Carried.{IsCarried}
+use Rattle.raised_instances.specs.CarriedExamples.{paired, star}
+use Rattle.raised_instances.proofs.Small.{free, with_second, with_third}
+use Rattle.raised_instances.proofs.carried_examples.pairs_that_are_carried_over.Goals as goal
 
 pub returns-clause-gone : goal.returns-clause-gone
 returns-clause-gone c = inl (with_second, refl)

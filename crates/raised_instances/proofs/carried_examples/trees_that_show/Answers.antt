@@ -1,6 +1,6 @@
 use Rattle.std.proofs.Common.{◌≤◌, arith}
-use Rattle.carried_trees.proofs.Small.{fixed_shows_none, root_shows, waste_value}
-use Rattle.carried_trees.proofs.examples.trees_that_show.Goals as goal
+use Rattle.raised_instances.proofs.Small.{fixed_shows_none, root_shows, waste_value}
+use Rattle.raised_instances.proofs.carried_examples.trees_that_show.Goals as goal
 
 pub returns-clause-shows : goal.returns-clause-shows
 returns-clause-shows c = record { pairs = tt; lean = tt; shows = root_shows }

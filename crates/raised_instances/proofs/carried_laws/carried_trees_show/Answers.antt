@@ -1,5 +1,5 @@
-use Rattle.carried_trees.proofs.Carrying.{tree_shows}
-use Rattle.carried_trees.proofs.laws.carried_trees_show.Goals as goal
+use Rattle.raised_instances.proofs.Carrying.{tree_shows}
+use Rattle.raised_instances.proofs.carried_laws.carried_trees_show.Goals as goal
 
 pub returns : goal.returns
 returns c =

@@ -11,11 +11,11 @@ use Rattle.branch_rules.specs.Prices.{Prices}
 use Rattle.branch_rules.specs.Trees.{Tree, pair, cut, price, void, fixed, Support, PairsIn, IsLean, Shows}
 use Rattle.grown_trees.specs.Laws.{DecisionsKeepChainsLight, DecisionsKeepExclusions}
 use Rattle.raised_instances.specs.Laws.{RoomWeightsFall, FixedValuesRise, NeedsRise, SetsStayFit}
-use Rattle.carried_trees.specs.Carried.{IsCarried, WouldShow}
-use Rattle.carried_trees.specs.Laws.{CarriedTreesShow}
-use Rattle.carried_trees.proofs.Chaining.{required_now}
-use Rattle.carried_trees.proofs.Following.{Known, Follows, follows_root, open_yet, follows_yes, follows_no, follows_gone, follows_low, follows_high, follows_past}
-use Rattle.carried_trees.proofs.Leaves.{price_shows, void_stays, fixed_shows}
+use Rattle.raised_instances.specs.Carried.{IsCarried, WouldShow}
+use Rattle.raised_instances.specs.CarriedLaws.{CarriedTreesShow}
+use Rattle.raised_instances.proofs.Chaining.{required_now}
+use Rattle.raised_instances.proofs.Following.{Known, Follows, follows_root, open_yet, follows_yes, follows_no, follows_gone, follows_low, follows_high, follows_past}
+use Rattle.raised_instances.proofs.Leaves.{price_shows, void_stays, fixed_shows}
 
 module _ (p q : Problem) (pool : List (List ℕ)) (sets : List Prices) (bound : ℕ) (known : Known p q) where
   abbrev before : Support

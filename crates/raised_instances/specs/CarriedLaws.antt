@@ -4,7 +4,7 @@ use Rattle.carp_base.specs.Problem.{Problem, IsValid}
 use Rattle.branch_rules.specs.Prices.{Prices}
 use Rattle.branch_rules.specs.Trees.{Tree, Support, PairsIn, IsLean, Shows}
 use Rattle.raised_instances.specs.Raised.{IsRaised}
-use Rattle.carried_trees.specs.Carried.{IsCarried, WouldShow}
+use Rattle.raised_instances.specs.Carried.{IsCarried, WouldShow}
 
 -- a lean tree of pairs of required edges that shows the bound
 pub record IsShowing (c : Support) (bound : ℕ) (tree : Tree) : Type 0 where

@@ -2,9 +2,9 @@
 ghost use Rattle.std.specs.Prelude.{[], ◌∷◌};
 ghost use Rattle.decision_chains.specs.declared.decision.Decision.TheVariants.{High, Low, No};
 ghost use Rattle.branch_rules.specs.Trees.{cut, fixed, pair, price, void};
-ghost use Rattle.carried_trees.specs.Carried.{IsCarried, WouldShow};
-ghost use Rattle.carried_trees.specs.Examples.{cut_at, paired, paired_twice, star, star_pool, waste_support};
-ghost use Rattle.carried_trees.specs.Laws.{IsShowing, WouldBeShowing};
+ghost use Rattle.raised_instances.specs.Carried.{IsCarried, WouldShow};
+ghost use Rattle.raised_instances.specs.CarriedExamples.{cut_at, paired, paired_twice, star, star_pool, waste_support};
+ghost use Rattle.raised_instances.specs.CarriedLaws.{IsShowing, WouldBeShowing};
 
 use decision_chains::distinct_edges_sum_to_no_more;
 
