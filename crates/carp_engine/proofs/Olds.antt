@@ -24,7 +24,7 @@ use Rattle.cert_lines.specs.Certificates.{Certificate}
 use Rattle.cert_lines.specs.Laws.{SpellableIsFine}
 use Rattle.cert_lines.specs.Spelling.{IsFine, IsFineNode, IsFineSet, IsSpellable}
 use Rattle.cert_format.specs.Good.{HasPriceEach, IsGood, support_of}
-use Rattle.raised_instances.specs.Carried.{WouldShow}
+use Rattle.tree_transfer.specs.Carried.{WouldShow}
 use Rattle.carp_engine.specs.Improved.{HaveTurns}
 use Rattle.tree_transfer.specs.Shown.{AreNotedNodes, AreTreeNodes, HasShores, WouldShowSome}
 

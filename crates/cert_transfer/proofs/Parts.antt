@@ -26,9 +26,9 @@ use Rattle.cert_lines.specs.Certificates.{Certificate}
 use Rattle.cert_lines.specs.Ranges.{IsWithin}
 use Rattle.cert_lines.specs.Spelling.{IsFine, IsFineNode, IsFineSet, IsSpellable}
 use Rattle.cert_format.specs.Good.{HasPriceEach, IsGood, counts_in, support_of}
-use Rattle.raised_instances.specs.Raised.{IsRaised}
-use Rattle.raised_instances.specs.Carried.{IsCarried}
-use Rattle.raised_instances.specs.CarriedLaws.{WouldBeShowing}
+use Rattle.tree_transfer.specs.Raised.{IsRaised}
+use Rattle.tree_transfer.specs.Carried.{IsCarried}
+use Rattle.tree_transfer.specs.CarriedLaws.{WouldBeShowing}
 use Rattle.tree_transfer.specs.Shown.{AreCarried, AreTreeNodes, HasShores, IsGreatestShown, WouldShowSome}
 use Rattle.cert_transfer.specs.Known.{Known}
 use Rattle.cert_transfer.specs.Transfer.{IsCarriedOver}

@@ -16,7 +16,7 @@ use Rattle.branch_rules.specs.Trees.{Tree, pair, cut, price, void, fixed, Suppor
 use Rattle.branch_rules.specs.declared.node.Node.{Node}
 use Rattle.branch_rules.specs.declared.node.Node.TheVariants as nodes
 use Rattle.branch_rules.specs.declared.weight.Weight.{Weight}
-use Rattle.raised_instances.specs.Carried.{FixedWouldShow, WouldShow}
+use Rattle.tree_transfer.specs.Carried.{FixedWouldShow, WouldShow}
 use Rattle.branch_rules.specs.Paths.{IsOpen, IsPath, IsPathIn, branch_of, seconds_of, waits}
 use Rattle.branch_rules.specs.Waiting.{waiting_after}
 use Rattle.branch_rules.specs.declared.path.Path.{Path}

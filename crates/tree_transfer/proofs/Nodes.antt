@@ -8,7 +8,7 @@ use Rattle.branch_rules.specs.Laws.{NodesShowTree}
 use Rattle.branch_rules.specs.Trees.{Tree, pair, cut, price, void, fixed, Support, NodesShow, node_at, preorder}
 use Rattle.branch_rules.specs.declared.node.Node.{Node}
 use Rattle.branch_rules.specs.declared.node.Node.TheVariants as nodes
-use Rattle.raised_instances.specs.Carried.{WouldShow}
+use Rattle.tree_transfer.specs.Carried.{WouldShow}
 use Rattle.grown_trees.specs.Growth.{ShowsUpTo}
 use Rattle.grown_trees.specs.Stands.{NodeShows}
 use Rattle.branch_rules.specs.Paths.{IsOpen, IsPath, IsPathIn, branch_of, seconds_of, waits}

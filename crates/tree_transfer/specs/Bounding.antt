@@ -8,7 +8,7 @@ use Rattle.branch_rules.specs.Decisions.{IsVoid}
 use Rattle.branch_rules.specs.Trees.{Support, NodesShow, PriceShows, FixedShows}
 use Rattle.branch_rules.specs.declared.node.Node.{Node}
 use Rattle.branch_rules.specs.declared.node.Node.TheVariants as nodes
-use Rattle.raised_instances.specs.Carried.{FixedWouldShow}
+use Rattle.tree_transfer.specs.Carried.{FixedWouldShow}
 use Rattle.branch_rules.specs.Paths.{IsPath, IsPathIn, waits}
 use Rattle.branch_rules.specs.Waiting.{waiting_after}
 use Rattle.branch_rules.specs.declared.path.Path.{Path}

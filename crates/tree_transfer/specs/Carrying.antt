@@ -12,7 +12,7 @@ use Rattle.branch_rules.specs.declared.node.Node.TheVariants as nodes
 use Rattle.grown_trees.specs.Places.{IsFineNode}
 use Rattle.branch_rules.specs.Paths.{IsPath, IsPathIn, waits}
 use Rattle.branch_rules.specs.declared.path.Path.{Path}
-use Rattle.raised_instances.specs.Carried.{IsCarried}
+use Rattle.tree_transfer.specs.Carried.{IsCarried}
 use Rattle.tree_transfer.specs.Shown.{AreCarried}
 
 -- the nodes of some trees, one tree after another

@@ -1,3 +1,9 @@
+pub mod Carried
+pub mod CarriedLaws
+pub mod CarriedExamples
+pub mod Raised
+pub mod Laws
+pub mod Examples
 pub mod Shown
 pub mod Carrying
 pub mod Bounding

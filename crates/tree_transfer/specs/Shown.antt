@@ -5,7 +5,7 @@ use Rattle.carp_base.specs.Problem.{Problem}
 use Rattle.branch_rules.specs.Limits.{IsNodeIn, IsShoreOf}
 use Rattle.branch_rules.specs.Trees.{Tree, preorder, Support, Shows}
 use Rattle.branch_rules.specs.declared.node.Node.{Node}
-use Rattle.raised_instances.specs.Carried.{IsCarried, WouldShow}
+use Rattle.tree_transfer.specs.Carried.{IsCarried, WouldShow}
 use Rattle.grown_trees.specs.Growth.{AreNoted}
 use Rattle.grown_trees.specs.Places.{IsFineNode}
 use Rattle.grown_trees.specs.Stands.{stands}

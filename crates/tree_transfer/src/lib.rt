@@ -2,12 +2,28 @@
 //!
 //! [`carry_tree`] carries the tree of an older instance over: a node that does not split there gives way to its second child.
 //! [`greatest_bound`] says what such a tree shows there with the price sets that it names, and [`note_nodes`] what each of its nodes shows.
+//!
+//! What holds in an instance and stays when its numbers rise.
+//!
+//! Costs, service costs and demands rise, and some streets that need no service are closed: laws say which facts about the old instance
+//! are facts about the new one.
+//!
+//! Trees of decisions that are carried over to another instance.
+//!
+//! Where costs and demands rise and streets are closed, the proof of a bound need not be found anew. The tree of the older instance is
+//! read under the new one: a pair that is excluded there gives way to its second child, and so does a cut below the lower number of
+//! its shore; all else stays. What is left shows each bound that the older tree showed ([`carried_trees_show`]), if its fixed branches
+//! have values.
 #![tactic(auto)]
 
 #[cfg(test)]
 mod bound_tests;
 mod bounding;
+mod carried_examples;
+mod carried_laws;
 mod carrying;
+mod examples;
+mod laws;
 mod noting;
 #[cfg(test)]
 mod samples;
@@ -15,5 +31,10 @@ mod samples;
 mod tests;
 
 pub use bounding::greatest_bound;
+pub use carried_laws::carried_trees_show;
 pub use carrying::carry_tree;
+pub use laws::{
+    edits_raise_instances, raised_fixed_values_are_no_less, raised_needs_are_no_less,
+    raised_rooms_are_no_more, raised_sets_stay_fit,
+};
 pub use noting::note_nodes;

@@ -1,7 +1,7 @@
 use Rattle.std.proofs.Common.{◌≡◌, List, sym, subst, ◌∙◌}
 use Rattle.branch_rules.specs.Prices.{Prices}
 use Rattle.cert_format.specs.Certs.{certificate_in}
-use Rattle.raised_instances.specs.Raised.{IsRaised}
+use Rattle.tree_transfer.specs.Raised.{IsRaised}
 use Rattle.tree_transfer.specs.Shown.{AreCarried, AreTreeNodes}
 use Rattle.cert_transfer.proofs.Parts.{carried_over, served, shores, tree_nodes, would_show}
 use Rattle.cert_transfer.proofs.carrying.carry.Goals as goal

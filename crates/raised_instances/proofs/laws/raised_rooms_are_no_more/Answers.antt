@@ -1,8 +1,0 @@
-use Rattle.raised_instances.proofs.Rooms.{room_weights_fall, rooms_fall}
-use Rattle.raised_instances.proofs.laws.raised_rooms_are_no_more.Goals as goal
-
-pub returns-clause-rooms : goal.returns-clause-rooms
-returns-clause-rooms c = rooms_fall
-
-pub returns-clause-weights : goal.returns-clause-weights
-returns-clause-weights c = room_weights_fall
