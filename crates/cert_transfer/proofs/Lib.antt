@@ -1,3 +1,8 @@
+pub mod Ranges
+pub mod Counting
+pub mod TourParts
+pub mod Whole
+pub mod SameServices
 mod Preorders
 mod Parts
 mod Copying

@@ -10,7 +10,7 @@ use Rattle.plan_model.specs.declared.step.Step.{Step}
 use Rattle.plan_model.specs.Plans.{IsLawful, plan_cost, steps_of}
 use Rattle.plan_model.specs.Laws.{IsLowerBound}
 use Rattle.task_tours.specs.Tours.{AreServedOnce, PlanGoesByLeastPaths, all_tasks, plan_tours}
-use Rattle.tour_transfer.specs.Cutting.{cut_tours}
+use Rattle.cert_transfer.specs.Cutting.{cut_tours}
 use Rattle.cut_pool.specs.Pools.{IsShoreNumber, shore_at}
 use Rattle.cut_pool.specs.Shores.{Belongs, is_in}
 use Rattle.branch_rules.specs.Limits.{IsNodeIn, IsShoreOf}

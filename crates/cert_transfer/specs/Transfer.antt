@@ -2,7 +2,7 @@
 use Rattle.std.specs.Prelude.{◌≡◌, ℕ, ◌≤◌, [], Some}
 use Rattle.carp_base.specs.Problem.{Problem}
 use Rattle.task_tours.specs.Tours.{PlanGoesByLeastPaths, plan_tours}
-use Rattle.tour_transfer.specs.Cutting.{cut_tours}
+use Rattle.cert_transfer.specs.Cutting.{cut_tours}
 use Rattle.branch_rules.specs.Trees.{Tree, preorder, Shows}
 use Rattle.tree_transfer.specs.Shown.{AreCarried}
 use Rattle.cert_lines.specs.Certificates.{Certificate}

@@ -13,7 +13,7 @@ use cert_format::{Cert, counts_of};
 use instance_edits::Edit;
 use std::alloc::Global;
 use task_tours::{cost_distances, lawful_cost};
-use tour_transfer::carry_plan;
+use crate::carry_plan;
 use tree_transfer::{carry_tree, greatest_bound};
 
 /// A certificate that is good for an instance before edits, carried over to the instance `after` them, with the numbers of that one.

@@ -4,11 +4,24 @@
 //! it: each price set that fitted still fits, and what decisions excluded they still exclude. So [`carry`] makes of a certificate that was good for the
 //! instance before the edits one that is good for the instance after them, with a bound that is no lower, without any search. The edits, their text and
 //! the edited instance are those of [`instance_edits`].
+//!
+//! The plan of an older instance, carried over to an edited one.
+//!
+//! Where demands rose, a tour of the old plan can be too heavy for a vehicle, and where streets were closed its way may be gone.
+//! [`carry_plan`] keeps the services of each tour in their order and direction, cuts the tour where the vehicle would be too full, and
+//! joins the services again by least paths.
 #![tactic(auto)]
 
 mod carrying;
+mod carrying_tours;
 mod copies;
+mod cutting;
+mod examples;
 mod laws;
+mod reading;
+#[cfg(test)]
+mod tests;
 
 pub use carrying::carry;
+pub use carrying_tours::carry_plan;
 pub use instance_edits::{Edit, EditFault, edited, read_edits};

@@ -7,9 +7,9 @@ use Rattle.std.proofs.lemmas.List.Sums.{sum_by-append}
 use Rattle.carp_base.specs.declared.edge.Task.{Task}
 use Rattle.carp_base.specs.Problem.{Problem, edge_at}
 use Rattle.task_tours.specs.Tours.{tour_load}
-use Rattle.tour_transfer.specs.Cutting.{cut_from, cut_tour}
-use Rattle.tour_transfer.specs.Parts.{IsPartSoFar, no_task, task_at}
-use Rattle.tour_transfer.proofs.Ranges.{range_more}
+use Rattle.cert_transfer.specs.Cutting.{cut_from, cut_tour}
+use Rattle.cert_transfer.specs.TourParts.{IsPartSoFar, no_task, task_at}
+use Rattle.cert_transfer.proofs.Ranges.{range_more}
 
 fits_test : (m n : ℕ) → m ≤ n → nat_le m n ≡ true
 fits_test m n fits = grind (arith, nat_tests)

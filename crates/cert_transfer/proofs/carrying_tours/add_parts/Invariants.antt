@@ -1,6 +1,6 @@
 use Rattle.std.proofs.Common.{length, ◌-◌}
-use Rattle.tour_transfer.specs.Parts.{IsCutUpTo}
-use Rattle.tour_transfer.proofs.carrying.add_parts.Given as goal
+use Rattle.cert_transfer.specs.TourParts.{IsCutUpTo}
+use Rattle.cert_transfer.proofs.carrying_tours.add_parts.Given as goal
 
 abbrev pub invariant-loop-start : goal.invariant-loop-start
 invariant-loop-start l = IsCutUpTo l.inst l.fn.plan l.tasks l.start l.plan

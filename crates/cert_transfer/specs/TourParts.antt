@@ -4,7 +4,7 @@ use Rattle.carp_base.specs.declared.edge.Task.{Task}
 use Rattle.carp_base.specs.Problem.{Problem}
 use Rattle.plan_model.specs.declared.step.Step.{Step}
 use Rattle.task_tours.specs.Tours.{PlanGoesByLeastPaths, all_tasks, plan_tours, tour_load}
-use Rattle.tour_transfer.specs.Cutting.{cut_from, cut_tour, cut_tours}
+use Rattle.cert_transfer.specs.Cutting.{cut_from, cut_tour, cut_tours}
 
 abbrev pub no_task : Task
 no_task = record { edge = 0; forward = true }

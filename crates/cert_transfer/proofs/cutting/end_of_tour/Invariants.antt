@@ -1,5 +1,5 @@
-use Rattle.tour_transfer.specs.Parts.{IsPartSoFar}
-use Rattle.tour_transfer.proofs.cutting.end_of_tour.Given as goal
+use Rattle.cert_transfer.specs.TourParts.{IsPartSoFar}
+use Rattle.cert_transfer.proofs.cutting.end_of_tour.Given as goal
 
 abbrev pub invariant-loop-end : goal.invariant-loop-end
 invariant-loop-end l = IsPartSoFar l.inst l.tasks l.start l.end l.load

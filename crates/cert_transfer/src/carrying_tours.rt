@@ -6,7 +6,7 @@ ghost use Rattle.plan_model.specs.Plans.{IsLawful, steps_of};
 ghost use Rattle.deadhead_paths.specs.Prices.{costs_of};
 ghost use Rattle.deadhead_paths.specs.Tours.{tasks_of};
 ghost use Rattle.task_tours.specs.Tours.{AreServedOnce, PlanGoesByLeastPaths, all_tasks, plan_tours};
-ghost use Rattle.tour_transfer.specs.Cutting.{cut_tour, cut_tours};
+ghost use Rattle.cert_transfer.specs.Cutting.{cut_tour, cut_tours};
 
 use crate::cutting::end_of_tour;
 use crate::reading::services;

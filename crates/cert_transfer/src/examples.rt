@@ -1,7 +1,7 @@
 // Small data on which a fact that no call decides holds, and on which it does not.
 ghost use Rattle.std.specs.Prelude.{◌≡◌, ◌≢◌, [], ◌∷◌};
-ghost use Rattle.tour_transfer.specs.Cutting.{cut_from, cut_tour, cut_tours};
-ghost use Rattle.tour_transfer.specs.Examples.{home, out, star};
+ghost use Rattle.cert_transfer.specs.Cutting.{cut_from, cut_tour, cut_tours};
+ghost use Rattle.cert_transfer.specs.Examples.{home, out, star};
 
 fn how_a_tour_is_cut()
     ensures fits { cut_tour star (out 1 ∷ home 2 ∷ []) ≡ (out 1 ∷ home 2 ∷ []) ∷ [] }

@@ -1,6 +1,6 @@
 use Rattle.std.proofs.Common.{◌≤◌, length, arith}
-use Rattle.tour_transfer.proofs.Whole.{walk_few, walk_required, whole_few, whole_lawful, whole_short}
-use Rattle.tour_transfer.proofs.carrying.carry_plan.Goals as goal
+use Rattle.cert_transfer.proofs.Whole.{walk_few, walk_required, whole_few, whole_lawful, whole_short}
+use Rattle.cert_transfer.proofs.carrying_tours.carry_plan.Goals as goal
 
 pub add_walk-requires-clause-required : goal.add_walk-requires-clause-required
 add_walk-requires-clause-required c =

@@ -1,7 +1,7 @@
 use Rattle.std.proofs.Common.{◌≡◌, sym, ◌∙◌}
 use Rattle.task_tours.specs.Tours.{all_tasks, plan_tours}
-use Rattle.tour_transfer.proofs.SameServices.{served_as_well}
-use Rattle.tour_transfer.proofs.tests.carried.Goals as goal
+use Rattle.cert_transfer.proofs.SameServices.{served_as_well}
+use Rattle.cert_transfer.proofs.tests.carried.Goals as goal
 
 pub carry_plan-requires-clause-services : goal.carry_plan-requires-clause-services
 carry_plan-requires-clause-services g c =

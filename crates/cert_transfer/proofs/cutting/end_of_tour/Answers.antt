@@ -1,6 +1,6 @@
 use Rattle.std.proofs.Common.{◌+◌, ap, arith}
-use Rattle.tour_transfer.proofs.Parts.{longer_part}
-use Rattle.tour_transfer.proofs.cutting.end_of_tour.Goals as goal
+use Rattle.cert_transfer.proofs.TourParts.{longer_part}
+use Rattle.cert_transfer.proofs.cutting.end_of_tour.Goals as goal
 
 pub loop-end-preserved : goal.loop-end-preserved
 loop-end-preserved c =

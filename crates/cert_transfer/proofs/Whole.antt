@@ -14,10 +14,10 @@ use Rattle.deadhead_paths.specs.Tidy.{GoByLeastPaths, served_steps}
 use Rattle.deadhead_paths.specs.Tours.{task_of, tasks_of}
 use Rattle.task_tours.specs.Laws.{LawfulToursMakeLawfulPlans}
 use Rattle.task_tours.specs.Tours.{AreLawfulTours, AreServedOnce, PlanGoesByLeastPaths, all_tasks, plan_tours, tour_load}
-use Rattle.tour_transfer.specs.Cutting.{cut_from, cut_tour, cut_tours}
-use Rattle.tour_transfer.specs.Parts.{IsCarriedUpTo}
-use Rattle.tour_transfer.proofs.Counting.{few_tasks}
-use Rattle.tour_transfer.proofs.Ranges.{all_joined, all_left, all_right}
+use Rattle.cert_transfer.specs.Cutting.{cut_from, cut_tour, cut_tours}
+use Rattle.cert_transfer.specs.TourParts.{IsCarriedUpTo}
+use Rattle.cert_transfer.proofs.Counting.{few_tasks}
+use Rattle.cert_transfer.proofs.Ranges.{all_joined, all_left, all_right}
 
 module _ (p : Problem) where
   abbrev demand : Task → ℕ
