@@ -4,7 +4,7 @@ ghost use Rattle.carp_cli.specs.Refusals.{apart_line, limit_line, refusal_text, 
 
 use carp_base::Memory;
 use command_files::Status;
-use number_texts::push_words;
+use plan_print::push_words;
 use refusal_texts::{certificate_fault_line, edit_fault_line, instance_fault_line, rejection_line};
 use std::alloc::Global;
 

@@ -11,7 +11,7 @@ use Rattle.packing_trees.specs.declared.node.PackNode.TheVariants.{Pair, Share, 
 use Rattle.packing_trees.specs.declared.packing.Packing.{Packing}
 use Rattle.fleet_pack.specs.Packed.{IsPacked, all_turns}
 use Rattle.group_plans.specs.Groups.{ServesGroups, serving_walks}
-use Rattle.number_texts.specs.Lines.{number_line}
+use Rattle.plan_print.specs.NumberLines.{number_line}
 use Rattle.command_works.specs.Works.{Work}
 use Rattle.command_files.specs.declared.status.Status.{Status}
 use Rattle.command_files.specs.declared.status.Status.TheVariants.{Proven, Gap}

@@ -4,7 +4,7 @@ use Rattle.carp_base.specs.Problem.{Problem}
 use Rattle.plan_model.specs.declared.step.Step.{Step}
 use Rattle.plan_print.specs.Report.{route_text}
 use Rattle.postman.specs.Rounds.{deadheads_in}
-use Rattle.number_texts.specs.Lines.{number_line}
+use Rattle.plan_print.specs.NumberLines.{number_line}
 
 -- the cost of a round, how many of its steps are deadheads, and its route
 unfoldable pub round_text : Problem → List Step → (cost : ℕ) → List ℕ

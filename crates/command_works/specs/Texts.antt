@@ -1,7 +1,7 @@
 -- What `check`, `upgrade`, `make`, `drill` and `edit` write.
 use Rattle.std.specs.Prelude.{ℕ, ◌++◌, List, length, codes, decimal}
 use Rattle.carp_base.specs.Problem.{Problem, total_demand}
-use Rattle.number_texts.specs.Lines.{number_line}
+use Rattle.plan_print.specs.NumberLines.{number_line}
 use Rattle.plan_print.specs.Report.{gap_line}
 
 -- a word, and the cost and the bound that are stated

@@ -16,9 +16,8 @@ use carp_base::{Instance, Memory};
 use cert_format::{Cert, write_cert};
 use command_files::Status;
 use dat_text::write_dat;
-use number_texts::{push_line, push_words};
+use plan_print::{push_line, push_words, sheet};
 use plan_model::Plan;
-use plan_print::sheet;
 use std::alloc::Global;
 use town_maker::town;
 

@@ -14,7 +14,7 @@ use carp_engine::{Solved, solve};
 use cert_checker::{Answer, check, good_has_no_reason};
 use cert_format::Cert;
 use command_files::Status;
-use number_texts::{push_line, push_words};
+use plan_print::{push_line, push_words};
 use plan_model::Proposer;
 use std::alloc::Global;
 use town_maker::town;

@@ -13,8 +13,7 @@ use cert_transfer::carry;
 use command_files::Status;
 use dat_text::write_dat;
 use edit_files::Edited;
-use number_texts::{push_line, push_words};
-use plan_print::push_gap;
+use plan_print::{push_gap, push_line, push_words};
 use std::alloc::Global;
 
 /// The edited instance, to be kept under the first name, and the certificate that is carried over to it, to be kept under the second.

@@ -1,4 +1,4 @@
-use number_texts::{push_line, push_number, push_words};
+use plan_print::{push_line, push_number, push_words};
 use std::test::Fail;
 
 #[test]

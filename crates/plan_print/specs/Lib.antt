@@ -1,2 +1,3 @@
+pub mod NumberLines
 pub mod Report
 pub mod Sheet

@@ -5,7 +5,7 @@ use Rattle.carp_base.specs.Problem.{Problem, edge_at, head_of, total_demand}
 use Rattle.plan_model.specs.declared.step.Step.{Step}
 use Rattle.plan_model.specs.Plans.{walk_cost, walk_load}
 use Rattle.cert_lines.specs.Certificates.{Certificate}
-use Rattle.number_texts.specs.Lines.{number_line}
+use Rattle.plan_print.specs.NumberLines.{number_line}
 
 -- `=` for a step that serves and `-` for one that does not, and the vertex that it reaches
 abbrev pub crossing_text : Problem → Step → List ℕ

@@ -3,7 +3,7 @@ use Rattle.std.specs.Prelude.{ℕ, ◌+◌, ◌++◌, ◌∷◌, [], List, lengt
 use Rattle.carp_base.specs.Problem.{Problem, edge_at, tail_of, head_of}
 use Rattle.plan_model.specs.declared.step.Step.{Step}
 use Rattle.plan_model.specs.Plans.{step_cost, step_load, walk_cost, walk_load, plan_cost}
-use Rattle.number_texts.specs.Lines.{number_line}
+use Rattle.plan_print.specs.NumberLines.{number_line}
 
 -- where a step starts, where it ends, and what it costs
 unfoldable pub crossing_words : Problem → Step → List ℕ

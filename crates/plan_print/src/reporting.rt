@@ -4,12 +4,12 @@ ghost use Rattle.std.specs.List.{flat_map};
 ghost use Rattle.carp_base.specs.Problem.{IsEdgeNumber};
 ghost use Rattle.plan_model.specs.Plans.{IsLawful, IsOnEdges};
 ghost use Rattle.cert_format.specs.Certs.{certificate_in};
-ghost use Rattle.number_texts.specs.Lines.{number_line};
+ghost use Rattle.plan_print.specs.NumberLines.{number_line};
 ghost use Rattle.plan_print.specs.Report.{report_text, instance_line, result_lines, gap_line, tour_lines, tours_text, tour_line, route_text, crossing_text};
 
 use carp_base::{Instance, Memory};
 use cert_format::Cert;
-use number_texts::{push_line, push_number, push_words};
+use crate::{push_line, push_number, push_words};
 use plan_model::{Plan, Step, Walk, cost_of, load_of};
 use std::alloc::Global;
 

@@ -1,6 +1,6 @@
 // Numbers in a growing text.
 ghost use Rattle.std.specs.Prelude.{◌≡◌, ◌++◌, OnOk};
-ghost use Rattle.number_texts.specs.Lines.{number_line};
+ghost use Rattle.plan_print.specs.NumberLines.{number_line};
 
 use carp_base::Memory;
 use itoa::{Buffer, Integer};
@@ -23,7 +23,7 @@ pub fn push_words<I: Integer>(text: &mut Vec<u8>, words: &[u8], number: I) -> Re
 }
 
 /// Adds words, a number in plain decimals, and the end of the line.
-#[tactic(auto, unfolding(crate::specs::Lines::number_line))]
+#[tactic(auto, unfolding(crate::specs::NumberLines::number_line))]
 pub fn push_line(text: &mut Vec<u8>, words: &[u8], number: u128) -> Result<(), Memory>
     ensures { OnOk result (text.new.items ≡ text.old.items ++ number_line words.now number) }
 {
