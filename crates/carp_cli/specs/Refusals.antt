@@ -1,6 +1,6 @@
 -- What is written for an answer that has no report.
 use Rattle.std.specs.Prelude.{ℕ, ◌++◌, List, [], codes, decimal}
-use Rattle.refusal_texts.specs.Lines.{instance_fault_line, certificate_fault_line, edit_fault_line, rejection_line}
+use Rattle.plan_print.specs.RefusalLines.{instance_fault_line, certificate_fault_line, edit_fault_line, rejection_line}
 use Rattle.command_files.specs.declared.status.Status.{Status}
 use Rattle.command_files.specs.declared.status.Status.TheVariants.{Proven, Gap, Accepted, Done, Rejected, BadUsage, BadInstance, BadCertificate, ReadFault, WriteFault, Memory, TooLong, NotJoined, BadEdit}
 

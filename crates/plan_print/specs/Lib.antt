@@ -1,3 +1,4 @@
+pub mod RefusalLines
 pub mod NumberLines
 pub mod Report
 pub mod Sheet

@@ -5,7 +5,7 @@ use cert_lines::CertFault;
 use dat_text::{DatFault, Key};
 use instance_edits::EditFault;
 use plan_model::Verdict;
-use refusal_texts::{certificate_fault_line, edit_fault_line, instance_fault_line, rejection_line};
+use plan_print::{certificate_fault_line, edit_fault_line, instance_fault_line, rejection_line};
 use std::alloc::Global;
 use std::test::Fail;
 

@@ -1,6 +1,6 @@
 // The lines that are written where an input is refused.
 ghost use Rattle.std.specs.Prelude.{◌≡◌, ◌++◌, IfOk, OnOk, string_bytes};
-ghost use Rattle.refusal_texts.specs.Lines.{around, fault_words, instance_words, instance_fault_line, certificate_words, certificate_fault_line, edit_fault_line, edit_words, reason_words, verdict_words, misfit_words, rejection_line};
+ghost use Rattle.plan_print.specs.RefusalLines.{around, fault_words, instance_words, instance_fault_line, certificate_words, certificate_fault_line, edit_fault_line, edit_words, reason_words, verdict_words, misfit_words, rejection_line};
 
 use carp_base::{InstanceFault, Memory};
 use cert_checker::{Part, Reason};
@@ -15,7 +15,7 @@ use std::fmt::Write;
 ///
 /// Lines of the file and edges are counted from 1, as in the fault, and a key is spelled in capitals. Its error says
 /// only that memory was not to be had. A line has at most 100 bytes, so it takes constant time.
-#[tactic(auto, unfolding(crate::specs::Lines::instance_fault_line))]
+#[tactic(auto, unfolding(crate::specs::RefusalLines::instance_fault_line))]
 pub fn instance_fault_line(alloc: Global, fault: &DatFault) -> Result<Vec<u8>, Memory>
     ensures { IfOk result (λ text. text.items ≡ instance_fault_line fault.now) }
 {
@@ -29,7 +29,7 @@ pub fn instance_fault_line(alloc: Global, fault: &DatFault) -> Result<Vec<u8>, M
 ///
 /// Lines of the text are counted from 1, as in the fault. Its error says only that memory was not to be had. A line has
 /// fewer than 100 bytes, so it takes constant time.
-#[tactic(auto, unfolding(crate::specs::Lines::certificate_fault_line))]
+#[tactic(auto, unfolding(crate::specs::RefusalLines::certificate_fault_line))]
 pub fn certificate_fault_line(alloc: Global, fault: &CertFault) -> Result<Vec<u8>, Memory>
     ensures { IfOk result (λ text. text.items ≡ certificate_fault_line fault.now) }
 {
@@ -43,7 +43,7 @@ pub fn certificate_fault_line(alloc: Global, fault: &CertFault) -> Result<Vec<u8
 ///
 /// Lines of the edits and edges of the edited instance are counted from 1, as in the fault. Its error says only that memory was not to be had. A line has
 /// fewer than 100 bytes, so it takes constant time.
-#[tactic(auto, unfolding(crate::specs::Lines::edit_fault_line))]
+#[tactic(auto, unfolding(crate::specs::RefusalLines::edit_fault_line))]
 pub fn edit_fault_line(alloc: Global, fault: &EditFault) -> Result<Vec<u8>, Memory>
     ensures { IfOk result (λ text. text.items ≡ edit_fault_line fault.now) }
 {
@@ -58,7 +58,7 @@ pub fn edit_fault_line(alloc: Global, fault: &EditFault) -> Result<Vec<u8>, Memo
 /// Tours, steps, edges, shores, sets, nodes and places are counted from 1, as in the reason. There are no words for a
 /// lawful plan, which is the reason of no answer of [`cert_checker::check`]. Its error says only that memory was not to
 /// be had. A line has fewer than 200 bytes, so it takes constant time.
-#[tactic(auto, unfolding(crate::specs::Lines::rejection_line))]
+#[tactic(auto, unfolding(crate::specs::RefusalLines::rejection_line))]
 pub fn rejection_line(alloc: Global, reason: &Reason) -> Result<Vec<u8>, Memory>
     ensures { IfOk result (λ text. text.items ≡ rejection_line reason.now) }
 {

@@ -1,4 +1,4 @@
-use Rattle.refusal_texts.proofs.lines.push_reason.Goals as goal
+use Rattle.plan_print.proofs.lines.push_reason.Goals as goal
 
 pub returns-in-WeightTooLarge : goal.returns-in-WeightTooLarge
 returns-in-WeightTooLarge c = rw c.in-WeightTooLarge.is c.write-in-WeightTooLarge.ensures.bytes

@@ -1,4 +1,4 @@
-use Rattle.refusal_texts.proofs.lines.push_fault.Goals as goal
+use Rattle.plan_print.proofs.lines.push_fault.Goals as goal
 
 pub returns-in-CountDiffers : goal.returns-in-CountDiffers
 returns-in-CountDiffers c = rw c.in-CountDiffers.is c.write-in-CountDiffers.ensures.bytes
