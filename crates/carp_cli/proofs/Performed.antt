@@ -22,8 +22,8 @@ use Rattle.cert_format.specs.Certs.{certificate_in}
 use Rattle.cert_format.specs.Good.{IsProof}
 use Rattle.carp_base.specs.Problem.{Problem, IsValid}
 use Rattle.cert_transfer.specs.Transfer.{IsCarriedOver}
-use Rattle.edit_files.specs.Edited.{IsEditedFrom}
-use Rattle.edit_files.specs.declared.edited.Edited.{Edited}
+use Rattle.command_jobs.specs.Edited.{IsEditedFrom}
+use Rattle.command_jobs.specs.declared.edited.Edited.{Edited}
 use Rattle.carp_cli.specs.Editing.{AreEdited}
 use Rattle.command_works.specs.Texts.{answer_text}
 use Rattle.command_works.specs.Works.{Kept, Work}

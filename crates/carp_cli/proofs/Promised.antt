@@ -8,7 +8,7 @@ use Rattle.command_files.specs.Files.{HeldIn, IsBadFile, IsBadInstance, IsBadCer
 use Rattle.command_files.specs.declared.status.Status.{Status}
 use Rattle.command_jobs.specs.Inputs.{IsBadPair, IsRefused}
 use Rattle.command_works.specs.Works.{Work}
-use Rattle.edit_files.specs.Edited.{AreBadFiles, AreBadTexts, IsBadEdits}
+use Rattle.command_jobs.specs.Edited.{AreBadFiles, AreBadTexts, IsBadEdits}
 use Rattle.carp_cli.specs.Outside.{Outside, Finding, found, AreKept}
 use Rattle.carp_cli.specs.Answers.{IsDone, IsRight}
 use Rattle.carp_cli.specs.Refusals.{HasReport}

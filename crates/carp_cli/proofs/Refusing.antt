@@ -6,7 +6,7 @@ use Rattle.command_files.specs.Files.{HeldIn, OfSomeBytes}
 use Rattle.command_files.specs.Reads.{IsOfBytes, IsOfCertificate, IsOfFile, IsOfInstance, IsOfRound}
 use Rattle.command_files.specs.declared.status.Status.{Status}
 use Rattle.command_files.specs.declared.status.Status.TheVariants.{Proven, Gap, Accepted, Done, Rejected, BadInstance, BadCertificate, ReadFault, TooLong, NotJoined, BadEdit}
-use Rattle.edit_files.specs.Edited.{IsOfEdits}
+use Rattle.command_jobs.specs.Edited.{IsOfEdits}
 use Rattle.command_jobs.specs.Inputs.{IsOfPair, IsRefusalOf, IsRefused}
 use Rattle.command_jobs.specs.Jobs.{WasRead}
 use Rattle.command_jobs.specs.declared.job.Job.{Job}

@@ -7,7 +7,7 @@ use Rattle.command_words.specs.Commands.{Command, Solve, Check, Sheet, Make, Dri
 use Rattle.command_files.specs.Files.{Holds, IsInstance, IsBadInstance, IsGoodText, IsBadCertificate, IsBadFile, IsBadRound, IsJoinedText}
 use Rattle.command_files.specs.Reads.{IsOfCertificate, IsOfFile, IsOfInstance, IsOfRound}
 use Rattle.command_files.specs.declared.status.Status.{Status}
-use Rattle.edit_files.specs.Edited.{AreBadFiles, AreGoodFiles, AreUnread, IsOfTexts}
+use Rattle.command_jobs.specs.Edited.{AreBadFiles, AreGoodFiles, AreUnread, IsOfTexts}
 
 -- the first file is the text of an instance, and the second is refused so for it
 pub record IsBadSecond (file cert : List ℕ) (contents : List ℕ → Option (List ℕ)) (status : Status) : Type 0 where

@@ -14,7 +14,7 @@ use Rattle.command_words.specs.Commands.{Command, Source, Solve, Check, Sheet, M
 use Rattle.postman.specs.Rounds.{IsShownRound}
 use Rattle.command_words.specs.Laws.{HasBudget}
 use Rattle.command_files.specs.Files.{HeldIn, OfSomeBytes}
-use Rattle.edit_files.specs.Edited.{IsEdited, IsEditedFrom}
+use Rattle.command_jobs.specs.Edited.{IsEdited, IsEditedFrom}
 use Rattle.command_jobs.specs.declared.job.Job.{Job}
 use Rattle.command_jobs.specs.declared.job.Job.TheVariants as jobs
 

@@ -1,2 +1,4 @@
+pub mod Edited
+pub mod Stages
 pub mod Inputs
 pub mod Jobs

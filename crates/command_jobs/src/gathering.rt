@@ -17,7 +17,7 @@ use cert_format::{Cert, counts_keep_good, counts_of, good_is_proof};
 use command_files::{Status, check_file, read_good, read_instance, read_round};
 use command_words::Command;
 use dat_text::readings_are_unique;
-use edit_files::read_edited;
+use crate::read_edited;
 use std::alloc::Global;
 
 /// Reads the files of a command, each of them whole before the next, and makes its job of them: the first file that can't be read, is too long or

@@ -2,7 +2,7 @@
 use carp_base::{Fail as Stop, Instance};
 use carp_outside::MemShelf;
 use command_files::Status;
-use edit_files::{Edited, read_edited};
+use command_jobs::{Edited, read_edited};
 use std::alloc::Global;
 use std::process::Abort;
 use std::test::Fail;

@@ -7,7 +7,7 @@ use Rattle.cert_lines.specs.Texts as certificates
 use Rattle.cert_format.specs.Certs.{certificate_in}
 use Rattle.cert_format.specs.Good.{IsProof}
 use Rattle.cert_transfer.specs.Transfer.{IsCarriedOver}
-use Rattle.edit_files.specs.declared.edited.Edited.{Edited}
+use Rattle.command_jobs.specs.declared.edited.Edited.{Edited}
 use Rattle.command_works.specs.Texts.{edit_text}
 use Rattle.command_works.specs.Works.{Work}
 

@@ -1,6 +1,6 @@
 // What an edit makes.
 ghost use Rattle.std.specs.Prelude.{◌≡◌, ◌≤◌, ◌-◌, [], ◌∷◌, IfOk, length};
-ghost use Rattle.edit_files.specs.Edited.{IsEdited};
+ghost use Rattle.command_jobs.specs.Edited.{IsEdited};
 ghost use Rattle.command_works.specs.Carried.{AreBothKept};
 ghost use Rattle.command_works.specs.Texts.{edit_text, edited_line};
 ghost use Rattle.command_works.specs.Works.{work_in};
@@ -12,7 +12,7 @@ use cert_format::{good_is_proof, write_cert};
 use cert_transfer::carry;
 use command_files::Status;
 use dat_text::write_dat;
-use edit_files::Edited;
+use command_jobs::Edited;
 use plan_print::{push_gap, push_line, push_words};
 use std::alloc::Global;
 

@@ -1,0 +1,29 @@
+use Rattle.std.proofs.Common.{inl}
+use Rattle.std.proofs.Math.Path.{fun_ext}
+use Rattle.command_files.specs.Files.{HeldIn}
+use Rattle.command_jobs.specs.Stages.{AreBadTwo, AreGoodTwo, AreOfTwo}
+use Rattle.command_jobs.proofs.Order.{unread_later}
+use Rattle.command_jobs.proofs.Several.{first_stops, made_of, of_ok, others_decide, same_tried}
+use Rattle.command_jobs.proofs.edit_reading.read_edited.Goals as goal
+
+pub returns-in-Ok-clause-made : goal.returns-in-Ok-clause-made
+returns-in-Ok-clause-made g c = λ told.
+    made_of (λ contents a x. AreOfTwo a c.args.cert.now c.args.edits.now (HeldIn contents) x) c.in-Ok.text c.read_two.result c.in-Ok.ensures.read told (fun_ext (c.in-Ok.ensures.contents told)) (c.read_two.ensures.made told)
+
+pub returns-in-Ok-clause-some : goal.returns-in-Ok-clause-some
+returns-in-Ok-clause-some g c = of_ok c.read_two.result c.read_two.ensures.some (λ x is. (c.in-Ok.text.items, is))
+
+pub returns-in-Ok-clause-tried : goal.returns-in-Ok-clause-tried
+returns-in-Ok-clause-tried g c =
+    let contents = g.H.Shelf.contents c.args.shelf.now in
+    let text = c.in-Ok.text.items in
+    let others = same_tried (λ contents status. AreBadTwo text c.args.cert.now c.args.edits.now contents status) (λ contents. AreGoodTwo text c.args.cert.now c.args.edits.now contents) c.read_two.result
+    (λ told. fun_ext (c.in-Ok.ensures.contents told))
+    (λ told unread. unread_later c.args.cert.now c.args.edits.now _ _ (g.H.Shelf.failed_looks c.read_two.new.shelf) (fun_ext (c.in-Ok.ensures.contents told)) c.in-Ok.ensures.looks unread) c.read_two.ensures.tried in
+    others_decide (λ a. AreBadTwo a c.args.cert.now c.args.edits.now contents) (λ a. AreGoodTwo a c.args.cert.now c.args.edits.now contents) c.in-Ok.text c.read_two.result
+    c.in-Ok.ensures.read others c.in-Ok.ensures.looks c.read_two.ensures.looks c.in-Ok.ensures.given
+
+pub returns-in-Err-clause-tried : goal.returns-in-Err-clause-tried
+returns-in-Err-clause-tried g c =
+    let contents = g.H.Shelf.contents c.args.shelf.now in
+    first_stops (λ a. AreBadTwo a c.args.cert.now c.args.edits.now contents) (λ a. AreGoodTwo a c.args.cert.now c.args.edits.now contents) (λ status is. inl is) c.in-Err.fail c.in-Err.ensures.read

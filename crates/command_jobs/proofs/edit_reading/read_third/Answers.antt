@@ -1,0 +1,27 @@
+use Rattle.std.proofs.Common.{arith, inl, inr, refl}
+use Rattle.command_jobs.specs.Edited.{AreBadTexts, AreGoodTexts, IsEditedBy}
+use Rattle.command_jobs.proofs.Several.{first_stops, made_of, of_ok, others_decide, parsed_of, tried_alone, tried_none}
+use Rattle.command_jobs.proofs.ThreeTexts.{of_texts}
+use Rattle.command_jobs.proofs.edit_reading.read_third.Goals as goal
+
+pub returns-in-Ok-clause-made : goal.returns-in-Ok-clause-made
+returns-in-Ok-clause-made g c = λ told.
+    let parsed = parsed_of c.deref.ensures.value c.parse_texts.ensures in
+    made_of (λ contents b x. IsEditedBy c.args.text.items c.args.cert.items b x) c.in-Ok.bytes c.parse_texts.result c.in-Ok.ensures.read told refl parsed.made
+
+pub returns-in-Ok-clause-some : goal.returns-in-Ok-clause-some
+returns-in-Ok-clause-some g c = of_ok c.parse_texts.result c.parse_texts.ensures.made (λ x is. (c.deref.result.now, is))
+
+pub returns-in-Ok-clause-sound : goal.returns-in-Ok-clause-sound
+returns-in-Ok-clause-sound g c = of_ok c.parse_texts.result c.parse_texts.ensures.made (λ x is. is.is)
+
+pub returns-in-Ok-clause-tried : goal.returns-in-Ok-clause-tried
+returns-in-Ok-clause-tried g c =
+    let parsed = parsed_of c.deref.ensures.value c.parse_texts.ensures in
+    tried_alone c.parse_texts.result
+    (others_decide (AreBadTexts c.args.text.items c.args.cert.items) (AreGoodTexts c.args.text.items c.args.cert.items) c.in-Ok.bytes c.parse_texts.result
+    c.in-Ok.ensures.read (tried_none (λ status bad. inr (of_texts c.args.text.items c.args.cert.items c.in-Ok.bytes.items status bad)) c.parse_texts.result parsed) c.in-Ok.ensures.looks (λ name. omega arith) c.in-Ok.ensures.given)
+
+pub returns-in-Err-clause-tried : goal.returns-in-Err-clause-tried
+returns-in-Err-clause-tried g c =
+    tried_alone {H = ⊥} _ (first_stops (AreBadTexts c.args.text.items c.args.cert.items) (AreGoodTexts c.args.text.items c.args.cert.items) (λ status is. inl is) c.in-Err.fail c.in-Err.ensures.read)

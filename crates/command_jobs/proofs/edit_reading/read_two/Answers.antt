@@ -1,0 +1,30 @@
+use Rattle.std.proofs.Common.{inl}
+use Rattle.std.proofs.Math.Path.{fun_ext}
+use Rattle.command_files.specs.Files.{HeldIn}
+use Rattle.command_jobs.specs.Stages.{AreOfThird, IsBadThird, IsGoodThird}
+use Rattle.command_jobs.proofs.Order.{rose_later}
+use Rattle.command_jobs.proofs.Several.{first_stops, made_of, of_ok, others_decide, same_tried}
+use Rattle.command_jobs.proofs.edit_reading.read_two.Goals as goal
+
+pub returns-in-Ok-clause-made : goal.returns-in-Ok-clause-made
+returns-in-Ok-clause-made g c = λ told.
+    made_of (λ contents b x. AreOfThird c.args.text.items b c.args.edits.now (HeldIn contents) x) c.in-Ok.cert c.read_third.result c.in-Ok.ensures.read told (fun_ext (c.in-Ok.ensures.contents told)) (c.read_third.ensures.made told)
+
+pub returns-in-Ok-clause-some : goal.returns-in-Ok-clause-some
+returns-in-Ok-clause-some g c = of_ok c.read_third.result c.read_third.ensures.some (λ x is. (c.in-Ok.cert.items, is))
+
+pub returns-in-Ok-clause-tried : goal.returns-in-Ok-clause-tried
+returns-in-Ok-clause-tried g c =
+    let contents = g.H.Shelf.contents c.args.shelf.now in
+    let file = c.args.text.items in
+    let cert = c.in-Ok.cert.items in
+    let others = same_tried (λ contents status. IsBadThird file cert c.args.edits.now contents status) (λ contents. IsGoodThird file cert c.args.edits.now contents) c.read_third.result
+    (λ told. fun_ext (c.in-Ok.ensures.contents told)) (λ told rose. rose_later _ _ _ (c.in-Ok.ensures.looks c.args.edits.now) rose) c.read_third.ensures.tried in
+    others_decide (λ b. IsBadThird file b c.args.edits.now contents) (λ b. IsGoodThird file b c.args.edits.now contents) c.in-Ok.cert c.read_third.result
+    c.in-Ok.ensures.read others c.in-Ok.ensures.looks c.read_third.ensures.looks c.in-Ok.ensures.given
+
+pub returns-in-Err-clause-tried : goal.returns-in-Err-clause-tried
+returns-in-Err-clause-tried g c =
+    let contents = g.H.Shelf.contents c.args.shelf.now in
+    let file = c.args.text.items in
+    first_stops (λ b. IsBadThird file b c.args.edits.now contents) (λ b. IsGoodThird file b c.args.edits.now contents) (λ status is. inl is) c.in-Err.fail c.in-Err.ensures.read

@@ -1,0 +1,92 @@
+// Reads the three files of an edit.
+ghost use Rattle.std.specs.Prelude.{◌≡◌, ℕ, ◌≤◌, ◌<◌, ◌^◌, ◌⊎◌, List, length, IfOk, IsTrue, ◌∷◌, []};
+ghost use Rattle.carp_outside.specs.Causes.{Rose};
+ghost use Rattle.carp_outside.specs.Told.{SameContents};
+ghost use Rattle.command_words.specs.Commands.{instance_at, certificate_at, edits_at};
+ghost use Rattle.command_files.specs.Files.{HeldIn, OfSomeBytes};
+ghost use Rattle.command_files.specs.Reads.{IsOfFile, IsTried};
+ghost use Rattle.command_jobs.specs.Edited.{AreBadFiles, AreGoodFiles, AreUnread, AreUnreadTwo, IsEdited, IsEditedFrom, IsOfTexts};
+ghost use Rattle.command_jobs.specs.Stages.{AreOfThird, AreOfTwo, IsBadThird, IsGoodThird, AreBadTwo, AreGoodTwo};
+
+use crate::edited::Edited;
+use crate::texts::parse_texts;
+use carp_base::Fail;
+use carp_outside::Shelf;
+use command_files::{CERTIFICATE_LIMIT, INSTANCE_LIMIT, Status, read_file};
+use std::alloc::Global;
+
+/// The most bytes of a file of edits; contracts have the number from `edits_at`.
+pub const EDITS_LIMIT: u64 = 1_048_576;
+
+/// Reads an instance, a certificate and edits from three files, all of them before it looks at what they hold. The first file that can't be read or is too long
+/// is refused; then the instance, the certificate for it, and the edits, where they are bad or the edited instance is.
+///
+/// A refusal is [`Status::ReadFault`], [`Status::TooLong`] with the limit of the file, [`Status::BadInstance`], [`Status::BadCertificate`] or
+/// [`Status::Rejected`], or [`Status::BadEdit`]. `Fail::Memory` says only that memory was not to be had.
+///
+/// The time is that of reading the files, checking the certificate and building both instances; the memory grows with the bytes of the files.
+pub fn read_edited<H: Shelf>(
+    alloc: Global,
+    shelf: &mut H,
+    file: &str,
+    cert: &str,
+    edits: &str,
+) -> Result<Edited, Fail<Status>>
+    ensures made { IsTrue H.tells → IfOk result (IsEditedFrom file.now cert.now edits.now (HeldIn (H.contents shelf.old))) }
+    ensures some { IfOk result (IsEditedFrom file.now cert.now edits.now OfSomeBytes) }
+    ensures sound { IfOk result IsEdited }
+    ensures tried { IsTried H.tells (instance_at file.now ∷ certificate_at cert.now ∷ edits_at edits.now ∷ []) (H.failed_looks shelf.old) (H.failed_looks shelf.new) (H.given shelf.old) (H.given shelf.new) (λ status. IsOfFile status ⊎ IsOfTexts status) (AreUnread file.now cert.now edits.now (H.contents shelf.old) (H.failed_looks shelf.old) (H.failed_looks shelf.new)) (AreBadFiles file.now cert.now edits.now (H.contents shelf.old)) (AreGoodFiles file.now cert.now edits.now (H.contents shelf.old)) result }
+    ensures contents { IsTrue H.tells → SameContents (H.contents shelf.old) (H.contents shelf.new) }
+    ensures keeps { H.failed_keeps shelf.new ≡ H.failed_keeps shelf.old }
+{
+    match read_file(alloc, shelf, file, INSTANCE_LIMIT) {
+        Ok(text) => read_two(alloc, shelf, text, cert, edits),
+        Err(fail) => Err(fail),
+    }
+}
+
+// Reads the two other files, with the bytes of the instance's file at hand.
+fn read_two<H: Shelf>(
+    alloc: Global,
+    shelf: &mut H,
+    text: Vec<u8>,
+    cert: &str,
+    edits: &str,
+) -> Result<Edited, Fail<Status>>
+    requires { length text.items < 2 ^ 32 }
+    ensures made { IsTrue H.tells → IfOk result (AreOfTwo text.items cert.now edits.now (HeldIn (H.contents shelf.old))) }
+    ensures some { IfOk result (AreOfTwo text.items cert.now edits.now OfSomeBytes) }
+    ensures sound { IfOk result IsEdited }
+    ensures tried { IsTried H.tells (certificate_at cert.now ∷ edits_at edits.now ∷ []) (H.failed_looks shelf.old) (H.failed_looks shelf.new) (H.given shelf.old) (H.given shelf.new) (λ status. IsOfFile status ⊎ IsOfTexts status) (AreUnreadTwo cert.now edits.now (H.contents shelf.old) (H.failed_looks shelf.old) (H.failed_looks shelf.new)) (AreBadTwo text.items cert.now edits.now (H.contents shelf.old)) (AreGoodTwo text.items cert.now edits.now (H.contents shelf.old)) result }
+    ensures contents { IsTrue H.tells → SameContents (H.contents shelf.old) (H.contents shelf.new) }
+    ensures keeps { H.failed_keeps shelf.new ≡ H.failed_keeps shelf.old }
+    ensures looks { (other : List ℕ) → H.failed_looks shelf.old other ≤ H.failed_looks shelf.new other }
+{
+    match read_file(alloc, shelf, cert, CERTIFICATE_LIMIT) {
+        Ok(cert) => read_third(alloc, shelf, text, cert, edits),
+        Err(fail) => Err(fail),
+    }
+}
+
+// Reads the file of edits, with the bytes of both other files at hand.
+fn read_third<H: Shelf>(
+    alloc: Global,
+    shelf: &mut H,
+    text: Vec<u8>,
+    cert: Vec<u8>,
+    edits: &str,
+) -> Result<Edited, Fail<Status>>
+    requires { length text.items < 2 ^ 32 }
+    ensures made { IsTrue H.tells → IfOk result (AreOfThird text.items cert.items edits.now (HeldIn (H.contents shelf.old))) }
+    ensures some { IfOk result (AreOfThird text.items cert.items edits.now OfSomeBytes) }
+    ensures sound { IfOk result IsEdited }
+    ensures tried { IsTried H.tells (edits_at edits.now ∷ []) (H.failed_looks shelf.old) (H.failed_looks shelf.new) (H.given shelf.old) (H.given shelf.new) (λ status. IsOfFile status ⊎ IsOfTexts status) (Rose (H.failed_looks shelf.old edits.now) (H.failed_looks shelf.new edits.now)) (IsBadThird text.items cert.items edits.now (H.contents shelf.old)) (IsGoodThird text.items cert.items edits.now (H.contents shelf.old)) result }
+    ensures contents { IsTrue H.tells → SameContents (H.contents shelf.old) (H.contents shelf.new) }
+    ensures keeps { H.failed_keeps shelf.new ≡ H.failed_keeps shelf.old }
+    ensures looks { (other : List ℕ) → H.failed_looks shelf.old other ≤ H.failed_looks shelf.new other }
+{
+    match read_file(alloc, shelf, edits, EDITS_LIMIT) {
+        Ok(bytes) => parse_texts(alloc, text, cert, &bytes),
+        Err(fail) => Err(fail),
+    }
+}

@@ -1,5 +1,0 @@
-pub mod Several
-pub mod FirstFaults
-pub mod Lines
-pub mod Order
-pub mod ThreeTexts
