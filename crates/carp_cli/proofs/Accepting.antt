@@ -13,9 +13,9 @@ use Rattle.instance_edits.specs.Edits.{edited}
 use Rattle.town_maker.specs.Laws.{TownsAreValid}
 use Rattle.town_maker.specs.Towns.{town_of}
 use Rattle.command_words.specs.Commands.{Command, Solve, Check, Make, Upgrade, Edit, instance_at, certificate_at}
-use Rattle.command_files.specs.Files.{Holds, IsInstance, IsGoodText}
-use Rattle.command_files.specs.declared.status.Status.{Status}
-use Rattle.command_files.specs.declared.status.Status.TheVariants.{Proven, Gap, Accepted}
+use Rattle.command_jobs.specs.Files.{Holds, IsInstance, IsGoodText}
+use Rattle.command_jobs.specs.declared.status.Status.{Status}
+use Rattle.command_jobs.specs.declared.status.Status.TheVariants.{Proven, Gap, Accepted}
 use Rattle.command_jobs.specs.Inputs.{CanBeDone, IsUnread}
 use Rattle.command_works.specs.Texts.{answer_text}
 use Rattle.command_works.specs.Works.{Kept, Work}

@@ -6,10 +6,10 @@ use Rattle.carp_base.specs.declared.fail.Fail.{Fail}
 use Rattle.carp_base.specs.declared.fail.Fail.TheVariants.{Refused}
 use Rattle.cert_lines.specs.Texts as certificates
 use Rattle.command_words.specs.Commands.{Command, Solve, Check, Sheet, Make, Drill, Upgrade, Postman, Fleet, Edit, Source, asks_helpers, keeps, reads, seed_of}
-use Rattle.command_files.specs.Files.{HeldIn, OfSomeBytes}
-use Rattle.command_files.specs.Reads.{IsTried}
-use Rattle.command_files.specs.declared.status.Status.{Status}
-use Rattle.command_files.specs.declared.status.Status.TheVariants.{BadUsage}
+use Rattle.command_jobs.specs.Files.{HeldIn, OfSomeBytes}
+use Rattle.command_jobs.specs.Reads.{IsTried}
+use Rattle.command_jobs.specs.declared.status.Status.{Status}
+use Rattle.command_jobs.specs.declared.status.Status.TheVariants.{BadUsage}
 use Rattle.command_jobs.specs.Inputs.{IsRefusalOf, IsRefused, CanBeDone, IsUnread}
 use Rattle.command_jobs.specs.Jobs.{IsFor, IsJobOf, IsSoundJob, WasRead}
 use Rattle.command_jobs.specs.declared.job.Job.{Job}

@@ -4,8 +4,8 @@ use Rattle.std.specs.Prelude.{IsSomeAnd}
 use Rattle.carp_base.specs.Problem.{Problem}
 use Rattle.carp_outside.specs.Told.{HoldsExactly}
 use Rattle.command_words.specs.Commands.{Command, Source, instance_at, certificate_at, edits_at}
-use Rattle.command_files.specs.Files.{HeldIn, IsBadFile, IsBadInstance, IsBadCertificate}
-use Rattle.command_files.specs.declared.status.Status.{Status}
+use Rattle.command_jobs.specs.Files.{HeldIn, IsBadFile, IsBadInstance, IsBadCertificate}
+use Rattle.command_jobs.specs.declared.status.Status.{Status}
 use Rattle.command_jobs.specs.Inputs.{IsBadPair, IsRefused}
 use Rattle.command_works.specs.Works.{Work}
 use Rattle.command_jobs.specs.Edited.{AreBadFiles, AreBadTexts, IsBadEdits}

@@ -2,10 +2,10 @@
 use Rattle.std.proofs.Common.{◌≡◌, List, [], ℕ, Option, Some, inl, inr, IsTrue, Bool}
 use Rattle.std.specs.Prelude.{◌⊎◌}
 use Rattle.command_words.specs.Commands.{Command, Solve, Check, Sheet, Make, Drill, Upgrade, Postman, Fleet, Edit, reads}
-use Rattle.command_files.specs.Files.{HeldIn, OfSomeBytes}
-use Rattle.command_files.specs.Reads.{IsOfBytes, IsOfCertificate, IsOfFile, IsOfInstance, IsOfRound}
-use Rattle.command_files.specs.declared.status.Status.{Status}
-use Rattle.command_files.specs.declared.status.Status.TheVariants.{Proven, Gap, Accepted, Done, Rejected, BadInstance, BadCertificate, ReadFault, TooLong, NotJoined, BadEdit}
+use Rattle.command_jobs.specs.Files.{HeldIn, OfSomeBytes}
+use Rattle.command_jobs.specs.Reads.{IsOfBytes, IsOfCertificate, IsOfFile, IsOfInstance, IsOfRound}
+use Rattle.command_jobs.specs.declared.status.Status.{Status}
+use Rattle.command_jobs.specs.declared.status.Status.TheVariants.{Proven, Gap, Accepted, Done, Rejected, BadInstance, BadCertificate, ReadFault, TooLong, NotJoined, BadEdit}
 use Rattle.command_jobs.specs.Edited.{IsOfEdits}
 use Rattle.command_jobs.specs.Inputs.{IsOfPair, IsRefusalOf, IsRefused}
 use Rattle.command_jobs.specs.Jobs.{WasRead}

@@ -1,12 +1,12 @@
 -- What an answer rests on, whether or not contents are told.
 use Rattle.std.specs.Prelude.{◌≡◌, ℕ, List, Option, None, Some, ◌⊎◌}
 use Rattle.command_words.specs.Commands.{Command}
-use Rattle.command_files.specs.Files.{OfSomeBytes}
+use Rattle.command_jobs.specs.Files.{OfSomeBytes}
 use Rattle.command_jobs.specs.Inputs.{IsRefusalOf}
 use Rattle.command_works.specs.Works.{Work}
 use Rattle.carp_cli.specs.Answers.{IsDone, IsDoneStatus, refusal_work}
-use Rattle.command_files.specs.declared.status.Status.{Status}
-use Rattle.command_files.specs.declared.status.Status.TheVariants.{BadUsage}
+use Rattle.command_jobs.specs.declared.status.Status.{Status}
+use Rattle.command_jobs.specs.declared.status.Status.TheVariants.{BadUsage}
 
 -- A command answers so: by an answer with which it can be refused, or it is done, and all that this says of its files is so of some bytes. Thus a certificate is accepted only if
 -- there is one that is good for some instance, and what is kept and written is that of a plan or a proof of such an instance.

@@ -6,9 +6,9 @@ use Rattle.cert_lines.specs.Certificates.{Certificate}
 use Rattle.plan_print.specs.Report.{report_text}
 use Rattle.town_maker.specs.Towns.{town_of}
 use Rattle.command_words.specs.Commands.{Command, Solve, Check, Make, Upgrade, Edit, instance_at}
-use Rattle.command_files.specs.Files.{Holds}
-use Rattle.command_files.specs.declared.status.Status.{Status}
-use Rattle.command_files.specs.declared.status.Status.TheVariants.{Proven, Gap, Accepted, Done}
+use Rattle.command_jobs.specs.Files.{Holds}
+use Rattle.command_jobs.specs.declared.status.Status.{Status}
+use Rattle.command_jobs.specs.declared.status.Status.TheVariants.{Proven, Gap, Accepted, Done}
 use Rattle.command_jobs.specs.Inputs.{IsUnread}
 use Rattle.command_works.specs.Texts.{answer_text, edit_text}
 use Rattle.carp_cli.specs.Outside.{Outside}

@@ -6,7 +6,7 @@ use Rattle.cut_pool.specs.declared.shore.Weighted.{Weighted}
 use Rattle.dat_text.specs.Text.{IsTextOf}
 use Rattle.postman.specs.Rounds.{IsShownRound}
 use Rattle.command_words.specs.Commands.{Source, instance_at}
-use Rattle.command_files.specs.declared.status.Status.{Status}
+use Rattle.command_jobs.specs.declared.status.Status.{Status}
 use Rattle.command_works.specs.Fleets.{IsFleetFound}
 use Rattle.command_works.specs.Rounds.{round_text}
 use Rattle.command_works.specs.Works.{Work}

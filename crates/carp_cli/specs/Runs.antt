@@ -4,15 +4,15 @@ use Rattle.std.specs.List.{AllByRecursion}
 use Rattle.carp_outside.specs.Causes.{Rose, RoseBy}
 use Rattle.carp_outside.specs.Told.{SameContents, WroteFront}
 use Rattle.command_words.specs.Commands.{Command, asks_helpers, sources_of, kept_by}
-use Rattle.command_files.specs.Files.{RoseAtSome, HasLimit}
+use Rattle.command_jobs.specs.Files.{RoseAtSome, HasLimit}
 use Rattle.command_jobs.specs.Inputs.{IsRefused, CanBeDone, IsUnread}
 use Rattle.command_works.specs.Works.{Work}
 use Rattle.carp_cli.specs.Outside.{Outside, found, AreKept, AreKeptInPart}
 use Rattle.carp_cli.specs.Answers.{IsDoneStatus, IsKnown, IsRightOf, refusal_work}
 use Rattle.carp_cli.specs.Founded.{IsFoundedOf}
 use Rattle.carp_cli.specs.Refusals.{HasReport}
-use Rattle.command_files.specs.declared.status.Status.{Status}
-use Rattle.command_files.specs.declared.status.Status.TheVariants.{BadUsage, ReadFault, WriteFault, Memory, TooLong}
+use Rattle.command_jobs.specs.declared.status.Status.{Status}
+use Rattle.command_jobs.specs.declared.status.Status.TheVariants.{BadUsage, ReadFault, WriteFault, Memory, TooLong}
 
 -- an answer with its work: it is founded, whatever is told; and if what the command reads is told, it is right for what was found
 pub record IsAnswer (held : Bool) (command : Option Command) (before now : Outside) (status : Status) (work : Work) : Type 0 where

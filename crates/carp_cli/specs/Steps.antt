@@ -3,15 +3,15 @@ use Rattle.std.specs.Prelude.{◌≡◌, ◌≢◌, ℕ, ◌+◌, List, Bool, Op
 use Rattle.std.specs.List.{AllByRecursion}
 use Rattle.carp_outside.specs.Causes.{RoseBy}
 use Rattle.command_words.specs.Commands.{Command, sources_of, kept_by}
-use Rattle.command_files.specs.Files.{RoseAtSome, HasLimit}
+use Rattle.command_jobs.specs.Files.{RoseAtSome, HasLimit}
 use Rattle.command_jobs.specs.Inputs.{IsRefused, CanBeDone, IsUnread}
 use Rattle.command_works.specs.Works.{Work}
 use Rattle.carp_cli.specs.Outside.{Finding}
 use Rattle.carp_cli.specs.Answers.{IsDoneStatus, IsKnown, IsRightOf, refusal_work}
 use Rattle.carp_cli.specs.Founded.{IsFoundedOf}
 use Rattle.carp_cli.specs.Refusals.{HasReport}
-use Rattle.command_files.specs.declared.status.Status.{Status}
-use Rattle.command_files.specs.declared.status.Status.TheVariants.{BadUsage, ReadFault, WriteFault, Memory, TooLong}
+use Rattle.command_jobs.specs.declared.status.Status.{Status}
+use Rattle.command_jobs.specs.declared.status.Status.TheVariants.{BadUsage, ReadFault, WriteFault, Memory, TooLong}
 
 -- what is to be answered, and what for
 pub record IsPrepared (held : Bool) (command : Option Command) (found : Finding) (given_before given_now : ℕ) (status : Status) (work : Work) : Type 0 where

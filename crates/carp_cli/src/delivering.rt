@@ -6,7 +6,7 @@ ghost use Rattle.carp_cli.specs.Outside.{AreKept, AreKeptInPart};
 ghost use Rattle.command_works.specs.Works.{kept_in, work_in};
 
 use carp_outside::{Shelf, ShelfFault, Sink, put_all};
-use command_files::Status;
+use command_jobs::Status;
 use command_works::{Delivery, Kept};
 
 /// Keeps what is to be kept, and then writes the text: the answer, or the first failure.

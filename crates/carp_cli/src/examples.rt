@@ -1,8 +1,8 @@
 // Small data at which the facts of a run hold, and small data at which they do not.
 ghost use Rattle.std.specs.Prelude.{ℕ, ◌≡◌, ◌≢◌, [], ◌∷◌, None, Some, false, true, codes};
 ghost use Rattle.carp_engine.specs.Solutions.{IsSound};
-ghost use Rattle.command_files.specs.Files.{HeldIn, HasLimit, OfSomeBytes, RoseAtSome};
-ghost use Rattle.command_files.specs.Reads.{IsOfBytes, IsOfCertificate, IsOfFile, IsOfInstance, IsOfNone, IsOfRound};
+ghost use Rattle.command_jobs.specs.Files.{HeldIn, HasLimit, OfSomeBytes, RoseAtSome};
+ghost use Rattle.command_jobs.specs.Reads.{IsOfBytes, IsOfCertificate, IsOfFile, IsOfInstance, IsOfNone, IsOfRound};
 ghost use Rattle.command_jobs.specs.Inputs.{IsRefusalOf};
 ghost use Rattle.command_words.specs.Commands.{Drill, instance_at, reads};
 ghost use Rattle.command_words.specs.Laws.{HasBudget};

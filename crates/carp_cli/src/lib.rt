@@ -18,7 +18,7 @@ mod refusals;
 mod running;
 mod std_sink;
 
-pub use command_files::Status;
+pub use command_jobs::Status;
 pub use dir_shelf::DirShelf;
 pub use laws::kept_is_accepted;
 pub use running::run;

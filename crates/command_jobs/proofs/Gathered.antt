@@ -11,9 +11,9 @@ use Rattle.cert_format.specs.Certs.{certificate_in}
 use Rattle.cert_format.specs.Good.{CountsKeepGood, GoodIsProof, IsGood, with_counts}
 use Rattle.cert_format.specs.declared.cert.Cert.{Cert}
 use Rattle.command_words.specs.Commands.{Source, instance_at, certificate_at}
-use Rattle.command_files.specs.Files.{HeldIn, Holds, OfSomeBytes}
-use Rattle.command_files.specs.Reads.{IsAcceptedText, IsGoodCert}
-use Rattle.command_files.specs.declared.reading.Stated.{Stated}
+use Rattle.command_jobs.specs.Files.{HeldIn, Holds, OfSomeBytes}
+use Rattle.command_jobs.specs.Reads.{IsAcceptedText, IsGoodCert}
+use Rattle.command_jobs.specs.declared.reading.Stated.{Stated}
 use Rattle.command_jobs.specs.Jobs.{AreCertified, WasChecked, HasPlan, WasRenewed}
 
 -- what is there, and that it is

@@ -1,3 +1,6 @@
+pub mod FileReads
+pub mod Certificates
+pub mod LaidRounds
 pub mod Several
 pub mod FirstFaults
 pub mod Lines

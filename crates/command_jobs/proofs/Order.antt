@@ -3,8 +3,8 @@ use Rattle.std.proofs.Common.{ℕ, ◌≤◌, List, subst, inl, inr, arith, Opti
 use Rattle.std.specs.Prelude.{◌≡◌}
 use Rattle.carp_outside.specs.Causes.{Rose}
 use Rattle.command_words.specs.Commands.{certificate_at}
-use Rattle.command_files.specs.Files.{Holds}
-use Rattle.command_files.specs.Reads.{EachIsGood}
+use Rattle.command_jobs.specs.Files.{Holds}
+use Rattle.command_jobs.specs.Reads.{EachIsGood}
 use Rattle.command_jobs.specs.Edited.{AreUnreadTwo}
 
 pub rose_later : (before mid now : ℕ) → before ≤ mid → Rose mid now → Rose before now

@@ -8,10 +8,10 @@ use Rattle.carp_outside.specs.Causes.{Rose, RoseBy}
 use Rattle.dat_text.specs.Text.{IsTextOf}
 use Rattle.dat_text.specs.Laws.{InstanceIsUnique}
 use Rattle.command_words.specs.Commands.{Source, instance_at, certificate_at}
-use Rattle.command_files.specs.Files.{HeldIn, Holds, IsInstance, IsBadInstance, IsGoodText, IsBadCertificate, IsBadFile}
-use Rattle.command_files.specs.Reads.{IsFileRead, IsOfCertificate, IsOfFile, IsOfInstance, IsTried}
-use Rattle.command_files.specs.declared.status.Status.{Status}
-use Rattle.command_files.specs.declared.status.Status.TheVariants.{ReadFault}
+use Rattle.command_jobs.specs.Files.{HeldIn, Holds, IsInstance, IsBadInstance, IsGoodText, IsBadCertificate, IsBadFile}
+use Rattle.command_jobs.specs.Reads.{IsFileRead, IsOfCertificate, IsOfFile, IsOfInstance, IsTried}
+use Rattle.command_jobs.specs.declared.status.Status.{Status}
+use Rattle.command_jobs.specs.declared.status.Status.TheVariants.{ReadFault}
 use Rattle.command_jobs.specs.Inputs.{IsBadPair, IsGoodPair, IsOfPair, IsUnreadPair}
 use Rattle.command_jobs.proofs.Results.{again, failed, made, of_both, of_some}
 

@@ -2,7 +2,7 @@
 use Rattle.std.proofs.Common.{◌≡◌, ap}
 use Rattle.std.specs.Prelude.{Option, None, Some, Result, Err, Ok, IsSomeAnd}
 use Rattle.carp_base.specs.declared.fail.Fail.{Fail}
-use Rattle.command_files.specs.declared.status.Status.{Status}
+use Rattle.command_jobs.specs.declared.status.Status.{Status}
 
 pub of_some : {X : Type 0} {P Q : X → Type 0} (o : Option X) → IsSomeAnd o P → ((x : X) → P x → Q x) → IsSomeAnd o Q
 of_some None none f = none

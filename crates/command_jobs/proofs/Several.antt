@@ -7,10 +7,10 @@ use Rattle.carp_base.specs.declared.fail.Fail.{Fail}
 use Rattle.carp_base.specs.declared.fail.Fail.TheVariants.{Refused, Memory as NoMemory}
 use Rattle.carp_outside.specs.Causes.{Rose, RoseBy}
 use Rattle.command_words.specs.Commands.{Source}
-use Rattle.command_files.specs.Files.{HasLimit, HeldIn, Holds, IsBadFile, RoseAtSome}
-use Rattle.command_files.specs.Reads.{AreBytes, EachIsGood, IsFileRead, IsOfFile, IsOfNone, IsParsed, IsTried, NoneIsBad}
-use Rattle.command_files.specs.declared.status.Status.{Status}
-use Rattle.command_files.specs.declared.status.Status.TheVariants.{ReadFault, TooLong}
+use Rattle.command_jobs.specs.Files.{HasLimit, HeldIn, Holds, IsBadFile, RoseAtSome}
+use Rattle.command_jobs.specs.Reads.{AreBytes, EachIsGood, IsFileRead, IsOfFile, IsOfNone, IsParsed, IsTried, NoneIsBad}
+use Rattle.command_jobs.specs.declared.status.Status.{Status}
+use Rattle.command_jobs.specs.declared.status.Status.TheVariants.{ReadFault, TooLong}
 
 pub of_some : {X : Type 0} {P Q : X → Type 0} (o : Option X) → IsSomeAnd o P → ((x : X) → P x → Q x) → IsSomeAnd o Q
 of_some None none f = none

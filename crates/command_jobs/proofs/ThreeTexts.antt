@@ -19,10 +19,10 @@ use Rattle.instance_edits.specs.Texts.{IsEditsText, IsFirstBad, RefusesFirstBad}
 use Rattle.instance_edits.specs.declared.edit.Edit.{Edit}
 use Rattle.instance_edits.specs.declared.edit.EditFault.{EditFault}
 use Rattle.instance_edits.specs.declared.edit.EditFault.TheVariants as faults
-use Rattle.command_files.specs.Files.{IsBadCertificate, IsBadInstance, IsGoodText, IsInstance}
-use Rattle.command_files.specs.Reads.{IsGoodCert, IsOfBytes, IsOfCertificate, IsOfInstance, IsParsed}
-use Rattle.command_files.specs.declared.status.Status.{Status}
-use Rattle.command_files.specs.declared.status.Status.TheVariants.{BadEdit}
+use Rattle.command_jobs.specs.Files.{IsBadCertificate, IsBadInstance, IsGoodText, IsInstance}
+use Rattle.command_jobs.specs.Reads.{IsGoodCert, IsOfBytes, IsOfCertificate, IsOfInstance, IsParsed}
+use Rattle.command_jobs.specs.declared.status.Status.{Status}
+use Rattle.command_jobs.specs.declared.status.Status.TheVariants.{BadEdit}
 use Rattle.command_jobs.specs.Edited.{AreBadTexts, AreGoodTexts, IsBadEdits, IsEditedBy, IsGoodEdits, IsOfEdits, IsOfTexts}
 use Rattle.command_jobs.specs.Stages.{IsChangedBy, IsReadCert, IsReadInstance}
 use Rattle.command_jobs.specs.declared.edited.Edited.{Edited}

@@ -16,10 +16,10 @@ use Rattle.instance_edits.specs.Edits.{AreKnown, edited}
 use Rattle.instance_edits.specs.Texts.{IsEditsText, IsFirstBad}
 use Rattle.command_words.specs.Commands.{instance_at, certificate_at, edits_at}
 use Rattle.command_words.specs.Commands.{Source}
-use Rattle.command_files.specs.Files.{Holds, IsBadInstance, IsGoodText, IsBadCertificate, IsBadFile}
-use Rattle.command_files.specs.Reads.{EachIsGood, IsOfCertificate, IsOfInstance}
-use Rattle.command_files.specs.declared.status.Status.{Status}
-use Rattle.command_files.specs.declared.status.Status.TheVariants.{BadEdit}
+use Rattle.command_jobs.specs.Files.{Holds, IsBadInstance, IsGoodText, IsBadCertificate, IsBadFile}
+use Rattle.command_jobs.specs.Reads.{EachIsGood, IsOfCertificate, IsOfInstance}
+use Rattle.command_jobs.specs.declared.status.Status.{Status}
+use Rattle.command_jobs.specs.declared.status.Status.TheVariants.{BadEdit}
 use Rattle.command_jobs.specs.declared.edited.Edited.{Edited}
 
 -- the bytes are no text of edits of the instance, for this first bad line

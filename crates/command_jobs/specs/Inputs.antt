@@ -4,9 +4,9 @@ use Rattle.carp_base.specs.Problem.{Problem}
 use Rattle.carp_outside.specs.Causes.{Rose}
 use Rattle.dat_text.specs.Text.{IsTextOf}
 use Rattle.command_words.specs.Commands.{Command, Solve, Check, Sheet, Make, Drill, Upgrade, Postman, Fleet, Edit, instance_at, certificate_at}
-use Rattle.command_files.specs.Files.{Holds, IsInstance, IsBadInstance, IsGoodText, IsBadCertificate, IsBadFile, IsBadRound, IsJoinedText}
-use Rattle.command_files.specs.Reads.{IsOfCertificate, IsOfFile, IsOfInstance, IsOfRound}
-use Rattle.command_files.specs.declared.status.Status.{Status}
+use Rattle.command_jobs.specs.Files.{Holds, IsInstance, IsBadInstance, IsGoodText, IsBadCertificate, IsBadFile, IsBadRound, IsJoinedText}
+use Rattle.command_jobs.specs.Reads.{IsOfCertificate, IsOfFile, IsOfInstance, IsOfRound}
+use Rattle.command_jobs.specs.declared.status.Status.{Status}
 use Rattle.command_jobs.specs.Edited.{AreBadFiles, AreGoodFiles, AreUnread, IsOfTexts}
 
 -- the first file is the text of an instance, and the second is refused so for it

@@ -13,7 +13,7 @@ use Rattle.cert_format.specs.declared.cert.Cert.{Cert}
 use Rattle.command_words.specs.Commands.{Command, Source, Solve, Check, Sheet, Make, Drill, Upgrade, Postman, Fleet, Edit, instance_at, certificate_at}
 use Rattle.postman.specs.Rounds.{IsShownRound}
 use Rattle.command_words.specs.Laws.{HasBudget}
-use Rattle.command_files.specs.Files.{HeldIn, OfSomeBytes}
+use Rattle.command_jobs.specs.Files.{HeldIn, OfSomeBytes}
 use Rattle.command_jobs.specs.Edited.{IsEdited, IsEditedFrom}
 use Rattle.command_jobs.specs.declared.job.Job.{Job}
 use Rattle.command_jobs.specs.declared.job.Job.TheVariants as jobs

@@ -1,3 +1,6 @@
+pub mod Files
+pub mod Codes
+pub mod Reads
 pub mod Edited
 pub mod Stages
 pub mod Inputs

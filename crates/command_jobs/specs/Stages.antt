@@ -6,9 +6,9 @@ use Rattle.cert_format.specs.declared.cert.Cert.{Cert}
 use Rattle.instance_edits.specs.Edits.{edited}
 use Rattle.instance_edits.specs.Texts.{IsEditsText}
 use Rattle.command_words.specs.Commands.{Source, certificate_at, edits_at}
-use Rattle.command_files.specs.Files.{Holds, IsBadCertificate, IsBadFile, IsBadInstance, IsGoodText, IsInstance}
-use Rattle.command_files.specs.Reads.{IsGoodCert, IsParsed}
-use Rattle.command_files.specs.declared.status.Status.{Status}
+use Rattle.command_jobs.specs.Files.{Holds, IsBadCertificate, IsBadFile, IsBadInstance, IsGoodText, IsInstance}
+use Rattle.command_jobs.specs.Reads.{IsGoodCert, IsParsed}
+use Rattle.command_jobs.specs.declared.status.Status.{Status}
 use Rattle.command_jobs.specs.Edited.{AreBadTexts, AreGoodTexts, IsEditedBy}
 use Rattle.command_jobs.specs.declared.edited.Edited.{Edited}
 use Rattle.command_jobs.specs.declared.texts.Changed.{Changed}

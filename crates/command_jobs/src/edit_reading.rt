@@ -3,8 +3,8 @@ ghost use Rattle.std.specs.Prelude.{◌≡◌, ℕ, ◌≤◌, ◌<◌, ◌^◌,
 ghost use Rattle.carp_outside.specs.Causes.{Rose};
 ghost use Rattle.carp_outside.specs.Told.{SameContents};
 ghost use Rattle.command_words.specs.Commands.{instance_at, certificate_at, edits_at};
-ghost use Rattle.command_files.specs.Files.{HeldIn, OfSomeBytes};
-ghost use Rattle.command_files.specs.Reads.{IsOfFile, IsTried};
+ghost use Rattle.command_jobs.specs.Files.{HeldIn, OfSomeBytes};
+ghost use Rattle.command_jobs.specs.Reads.{IsOfFile, IsTried};
 ghost use Rattle.command_jobs.specs.Edited.{AreBadFiles, AreGoodFiles, AreUnread, AreUnreadTwo, IsEdited, IsEditedFrom, IsOfTexts};
 ghost use Rattle.command_jobs.specs.Stages.{AreOfThird, AreOfTwo, IsBadThird, IsGoodThird, AreBadTwo, AreGoodTwo};
 
@@ -12,7 +12,7 @@ use crate::edited::Edited;
 use crate::texts::parse_texts;
 use carp_base::Fail;
 use carp_outside::Shelf;
-use command_files::{CERTIFICATE_LIMIT, INSTANCE_LIMIT, Status, read_file};
+use crate::{CERTIFICATE_LIMIT, INSTANCE_LIMIT, Status, read_file};
 use std::alloc::Global;
 
 /// The most bytes of a file of edits; contracts have the number from `edits_at`.

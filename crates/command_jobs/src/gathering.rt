@@ -6,7 +6,7 @@ ghost use Rattle.cert_format.specs.Good.{with_counts};
 ghost use Rattle.command_words.specs.Commands.{Solve, Check, Sheet, Upgrade, Postman, Fleet, Edit, reads};
 ghost use Rattle.command_words.specs.Forms.{command_in};
 ghost use Rattle.command_words.specs.Laws.{HasBudget};
-ghost use Rattle.command_files.specs.Reads.{IsTried};
+ghost use Rattle.command_jobs.specs.Reads.{IsTried};
 ghost use Rattle.command_jobs.specs.Inputs.{IsRefusalOf, IsRefused, CanBeDone, IsUnread};
 ghost use Rattle.command_jobs.specs.Jobs.{IsJobOf};
 
@@ -14,10 +14,9 @@ use crate::job::Job;
 use carp_base::{Fail, Instance};
 use carp_outside::Shelf;
 use cert_format::{Cert, counts_keep_good, counts_of, good_is_proof};
-use command_files::{Status, check_file, read_good, read_instance, read_round};
+use crate::{Status, check_file, read_edited, read_good, read_instance, read_round};
 use command_words::Command;
 use dat_text::readings_are_unique;
-use crate::read_edited;
 use std::alloc::Global;
 
 /// Reads the files of a command, each of them whole before the next, and makes its job of them: the first file that can't be read, is too long or

@@ -2,8 +2,7 @@
 
 use carp_base::Instance;
 use cert_format::Cert;
-use command_files::Laid;
-use crate::Edited;
+use crate::{Edited, Laid};
 use plan_model::Plan;
 
 /// What a command has to do: its names and its numbers, and what was read of its files.

@@ -3,15 +3,15 @@ ghost use Rattle.std.specs.Prelude.{◌≡◌, ℕ, ◌≤◌, ◌<◌, ◌^◌,
 ghost use Rattle.std.specs.List.{All};
 ghost use Rattle.dat_text.specs.Text.{IsTextOf};
 ghost use Rattle.instance_edits.specs.Texts.{IsEditsText};
-ghost use Rattle.command_files.specs.Files.{IsBadCertificate, IsBadInstance, IsGoodText, IsInstance};
-ghost use Rattle.command_files.specs.Reads.{IsGoodCert, IsParsed};
+ghost use Rattle.command_jobs.specs.Files.{IsBadCertificate, IsBadInstance, IsGoodText, IsInstance};
+ghost use Rattle.command_jobs.specs.Reads.{IsGoodCert, IsParsed};
 ghost use Rattle.command_jobs.specs.Edited.{AreBadTexts, AreGoodTexts, IsBadEdits, IsEditedBy, IsGoodEdits};
 ghost use Rattle.command_jobs.specs.Stages.{IsChangedBy, IsReadCert, IsReadInstance};
 
 use crate::edited::Edited;
 use carp_base::{Fail, Instance, valid_where_no_fault};
 use cert_format::Cert;
-use command_files::{Status, parse_good, parse_instance};
+use crate::{Status, parse_good, parse_instance};
 use dat_text::readings_are_unique;
 use instance_edits::{Edit, EditFault, edited, edits_are_unique, read_edits};
 use std::alloc::Global;

@@ -3,7 +3,7 @@ use carp_base::{Fail as Stop, Instance};
 use carp_outside::MemShelf;
 use cert_checker::Reason;
 use cert_format::CertFault;
-use command_files::{Status, check_file, read_good, read_instance, read_round};
+use command_jobs::{Status, check_file, read_good, read_instance, read_round};
 use dat_text::DatFault;
 use instance_edits::EditFault;
 use std::alloc::Global;

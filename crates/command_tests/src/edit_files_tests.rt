@@ -1,8 +1,7 @@
 // Files in memory, read as an instance, a certificate and edits.
 use carp_base::{Fail as Stop, Instance};
 use carp_outside::MemShelf;
-use command_files::Status;
-use command_jobs::{Edited, read_edited};
+use command_jobs::{Edited, Status, read_edited};
 use std::alloc::Global;
 use std::process::Abort;
 use std::test::Fail;

@@ -13,8 +13,8 @@ use Rattle.packing_trees.specs.declared.packing.Packing.{Packing}
 use Rattle.fleet_pack.specs.Packed.{IsPacked, all_turns}
 use Rattle.group_plans.specs.Groups.{ServesGroups, serving_walks}
 use Rattle.group_plans.specs.Laws.{PlansArePackings}
-use Rattle.command_files.specs.declared.status.Status.{Status}
-use Rattle.command_files.specs.declared.status.Status.TheVariants.{Proven, Gap}
+use Rattle.command_jobs.specs.declared.status.Status.{Status}
+use Rattle.command_jobs.specs.declared.status.Status.TheVariants.{Proven, Gap}
 use Rattle.command_works.specs.Fleets.{IsCountEnding, IsFleetFound, fleet_text}
 use Rattle.command_works.specs.Works.{Work}
 

@@ -7,8 +7,8 @@ use Rattle.cert_lines.specs.Texts as certificates
 use Rattle.helper_rounds.specs.Helpers.{IsAtMost}
 use Rattle.carp_engine.specs.Solutions.{IsSound}
 use Rattle.plan_print.specs.Report.{report_text}
-use Rattle.command_files.specs.declared.status.Status.{Status}
-use Rattle.command_files.specs.declared.status.Status.TheVariants.{Proven, Gap}
+use Rattle.command_jobs.specs.declared.status.Status.{Status}
+use Rattle.command_jobs.specs.declared.status.Status.TheVariants.{Proven, Gap}
 use Rattle.command_works.specs.Solving.{IsEnding, IsSolvedBy}
 use Rattle.command_works.specs.Works.{Work, work_in}
 use Rattle.command_works.specs.declared.delivery.Delivery.{Delivery}

@@ -13,8 +13,8 @@ use Rattle.fleet_pack.specs.Packed.{IsPacked, all_turns}
 use Rattle.group_plans.specs.Groups.{ServesGroups, serving_walks}
 use Rattle.plan_print.specs.NumberLines.{number_line}
 use Rattle.command_works.specs.Works.{Work}
-use Rattle.command_files.specs.declared.status.Status.{Status}
-use Rattle.command_files.specs.declared.status.Status.TheVariants.{Proven, Gap}
+use Rattle.command_jobs.specs.declared.status.Status.{Status}
+use Rattle.command_jobs.specs.declared.status.Status.TheVariants.{Proven, Gap}
 
 -- the line of a node
 unfoldable pub node_line : PackNode → List ℕ

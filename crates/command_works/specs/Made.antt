@@ -8,8 +8,8 @@ use Rattle.plan_print.specs.Sheet.{sheet_text}
 use Rattle.town_maker.specs.Towns.{town_of}
 use Rattle.command_jobs.specs.declared.job.Job.{Job}
 use Rattle.command_jobs.specs.declared.job.Job.TheVariants.{Solve, Check, Sheet, Make, Drill, Upgrade, Postman, Fleet, Edit}
-use Rattle.command_files.specs.declared.status.Status.{Status}
-use Rattle.command_files.specs.declared.status.Status.TheVariants.{Proven, Gap, Accepted, Done}
+use Rattle.command_jobs.specs.declared.status.Status.{Status}
+use Rattle.command_jobs.specs.declared.status.Status.TheVariants.{Proven, Gap, Accepted, Done}
 use Rattle.command_works.specs.Works.{Work}
 use Rattle.command_works.specs.Solving.{IsSolvedBy}
 use Rattle.command_works.specs.Drills.{IsDrilled}

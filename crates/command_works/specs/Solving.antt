@@ -7,8 +7,8 @@ use Rattle.plan_print.specs.Report.{report_text}
 use Rattle.helper_rounds.specs.Helpers.{IsAtMost}
 use Rattle.carp_engine.specs.Solutions.{IsSound}
 use Rattle.command_works.specs.Works.{Work}
-use Rattle.command_files.specs.declared.status.Status.{Status}
-use Rattle.command_files.specs.declared.status.Status.TheVariants.{Proven, Gap}
+use Rattle.command_jobs.specs.declared.status.Status.{Status}
+use Rattle.command_jobs.specs.declared.status.Status.TheVariants.{Proven, Gap}
 
 -- `Proven` only where the bound is the cost, and `Gap` only where it is not and the turns of the tree are at least the turns that were
 -- asked for

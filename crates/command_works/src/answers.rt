@@ -14,7 +14,7 @@ use crate::delivery::Delivery;
 use crate::solving::deliver_one;
 use carp_base::{Instance, Memory};
 use cert_format::{Cert, write_cert};
-use command_files::Status;
+use command_jobs::Status;
 use dat_text::write_dat;
 use plan_print::{push_line, push_words, sheet};
 use plan_model::Plan;

@@ -1,6 +1,6 @@
 // What an answer keeps and writes.
 
-use command_files::Status;
+use command_jobs::Status;
 
 /// A name, and the bytes that are to be kept there.
 #[derive(Drop)]

@@ -13,7 +13,7 @@ use carp_base::{Instance, Memory};
 use carp_engine::{Solved, solve};
 use cert_checker::{Answer, check, good_has_no_reason};
 use cert_format::Cert;
-use command_files::Status;
+use command_jobs::Status;
 use plan_print::{push_line, push_words};
 use plan_model::Proposer;
 use std::alloc::Global;

@@ -10,9 +10,8 @@ use crate::delivery::{Delivery, Kept};
 use carp_base::Memory;
 use cert_format::{good_is_proof, write_cert};
 use cert_transfer::carry;
-use command_files::Status;
+use command_jobs::{Edited, Status};
 use dat_text::write_dat;
-use command_jobs::Edited;
 use plan_print::{push_gap, push_line, push_words};
 use std::alloc::Global;
 

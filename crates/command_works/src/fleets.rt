@@ -11,7 +11,7 @@ ghost use Rattle.command_works.specs.Works.{work_in};
 use crate::delivery::Delivery;
 use crate::solving::ending;
 use carp_base::{Instance, Memory};
-use command_files::Status;
+use command_jobs::Status;
 use fleet_pack::pack;
 use group_plans::{plan_of_groups, plans_are_packings};
 use plan_print::{push_gap, push_line, push_tours, push_words};

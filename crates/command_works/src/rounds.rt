@@ -7,7 +7,7 @@ ghost use Rattle.command_works.specs.Works.{work_in};
 
 use crate::delivery::Delivery;
 use carp_base::{Instance, Memory};
-use command_files::{Laid, Status};
+use command_jobs::{Laid, Status};
 use plan_print::{push_line, push_route};
 use plan_model::Walk;
 use std::alloc::Global;

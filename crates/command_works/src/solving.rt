@@ -7,7 +7,7 @@ use crate::delivery::{Delivery, Kept};
 use carp_base::{Instance, Memory};
 use carp_engine::solve;
 use cert_format::write_cert;
-use command_files::Status;
+use command_jobs::Status;
 use plan_model::Proposer;
 use plan_print::report;
 use std::alloc::Global;

@@ -1,6 +1,6 @@
 use Rattle.std.proofs.Common.{inl}
 use Rattle.std.proofs.Math.Path.{fun_ext}
-use Rattle.command_files.specs.Files.{HeldIn}
+use Rattle.command_jobs.specs.Files.{HeldIn}
 use Rattle.command_jobs.specs.Stages.{AreBadTwo, AreGoodTwo, AreOfTwo}
 use Rattle.command_jobs.proofs.Order.{unread_later}
 use Rattle.command_jobs.proofs.Several.{first_stops, made_of, of_ok, others_decide, same_tried}

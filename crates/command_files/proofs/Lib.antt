@@ -1,3 +1,0 @@
-pub mod FileReads
-pub mod Certificates
-pub mod LaidRounds
