@@ -1,14 +1,14 @@
 //! What the text of a certificate says, line by line, and how each line is spelled.
 //!
-//! A certificate is written for people who do not trust its maker, so it has one spelling, and a text that is none has a first
-//! bad line. What each line says and how it is spelled is defined in `specs/Lines.antt`, which line may follow which in
-//! `specs/Order.antt`, what numbers it may hold in `specs/Ranges.antt`, what has to agree in `specs/Agreement.antt`, and the
-//! text as a whole in `specs/Texts.antt`.
+//! A certificate is written for people who do not trust its maker. So it has one spelling, and a
+//! text that is none has a first bad line. `specs/Lines.antt` defines what each line says and how
+//! it is spelled, `specs/Order.antt` which line may follow which, `specs/Ranges.antt` what numbers
+//! it may hold, `specs/Agreement.antt` what has to agree, and `specs/Texts.antt` the text as a
+//! whole.
 //!
-//! A word of a certificate's text, what stands between two blanks, that comes in pieces.
-//!
-//! [`Word`] holds a word of any length in a few bytes. At its end it says whether it is a keyword, a number or a step; a number past
-//! 10^18, and an edge of a step past 1,000,000, is told as that.
+//! A [`Word`] is what stands between two blanks, and comes in pieces. It takes a few bytes whatever
+//! its length. At its end it says whether it is a keyword, a number or a step; a number past 10^18,
+//! and an edge of a step past 1,000,000, is told as that.
 #![tactic(auto)]
 
 mod counts;

@@ -1,15 +1,16 @@
 //! Certificates that stay good when an instance is edited.
 //!
-//! Where costs, service costs and demands rise and streets that need no service are closed, what showed that no plan costs less than a bound still shows
-//! it: each price set that fitted still fits, and what decisions excluded they still exclude. So [`carry`] makes of a certificate that was good for the
-//! instance before the edits one that is good for the instance after them, with a bound that is no lower, without any search. The edits, their text and
-//! the edited instance are those of [`instance_edits`].
+//! If costs, service costs and demands rise, and streets that need no service are closed, what
+//! showed that no plan costs less than a bound still shows it: each price set that fitted still
+//! fits, and what decisions excluded they still exclude. [`carry`] makes of a certificate that was
+//! good for the instance before the edits one that is good for the instance after them, with a
+//! bound that is no lower, without any search. The edits, their text and the edited instance are
+//! those of [`instance_edits`].
 //!
-//! The plan of an older instance, carried over to an edited one.
-//!
-//! Where demands rose, a tour of the old plan can be too heavy for a vehicle, and where streets were closed its way may be gone.
-//! [`carry_plan`] keeps the services of each tour in their order and direction, cuts the tour where the vehicle would be too full, and
-//! joins the services again by least paths.
+//! If demands rose, a tour of the old plan can be too heavy for a vehicle, and if streets were
+//! closed its way may be gone. [`carry_plan`] keeps the services of each tour in their order and
+//! direction, cuts the tour if the vehicle would be too full, and joins the services again by least
+//! paths.
 #![tactic(auto)]
 
 mod carrying;

@@ -12,7 +12,8 @@ use crate::edited::Edited;
 use crate::texts::parse_texts;
 use carp_base::Fail;
 use carp_outside::Shelf;
-use crate::{CERTIFICATE_LIMIT, INSTANCE_LIMIT, Status, read_file};
+use crate::Status;
+use crate::reading::{CERTIFICATE_LIMIT, INSTANCE_LIMIT, read_file};
 use std::alloc::Global;
 
 /// The most bytes of a file of edits; contracts have the number from `edits_at`.

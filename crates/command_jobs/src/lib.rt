@@ -1,18 +1,14 @@
-//! What a command has to do, once its files are read.
+//! The files that a command reads, and what it has to do once they are read.
 //!
-//! [`gather`] reads the files of a command, in their order, and makes of them a [`Job`]: all that the command needs to be done. Or it answers the
-//! status by which the first bad file ends it.
+//! [`read_instance`], [`check_file`], [`read_good`] and [`read_round`] read a file from a
+//! [`carp_outside::Shelf`] and make something of its bytes. If the file cannot be read, is too
+//! long, or its bytes are bad, they answer the [`Status`] by which the command ends.
+//! [`read_edited`] reads an instance, a certificate of it and edits, all three before it looks at
+//! what they hold. What becomes of a file is said as one record (`IsFileRead` of
+//! `specs/Reads.antt`), so that a command that reads two files composes two of them.
 //!
-//! The files of an edit.
-//!
-//! [`read_edited`] reads an instance, a certificate of it and edits from three files of a [`carp_outside::Shelf`], all of them before it looks at what they
-//! hold, and gives them together with the edited instance; or the [`crate::Status`] by which the command ends.
-//!
-//! The files that a command reads.
-//!
-//! [`read_instance`], [`check_file`], [`read_good`] and [`read_round`] read a file from a [`carp_outside::Shelf`] and make something of its bytes, or answer
-//! the [`Status`] by which the command ends: the file could not be read, it is too long, or its bytes are bad. [`read_file`], [`parse_instance`] and [`parse_good`] are the parts of these that `edit_files` needs. [`Status`] stands here since files are refused with it. What becomes of a file is said as one
-//! record (`IsFileRead` of `specs/Reads.antt`), so that a command that reads two files composes two of them.
+//! [`gather`] reads the files of a command, in their order, and makes of them a [`Job`]: all that
+//! the command needs to be done. Or it answers the status by which the first bad file ends it.
 #![tactic(auto)]
 
 mod edit_reading;
@@ -29,8 +25,7 @@ pub use edited::Edited;
 pub use gathering::gather;
 pub use job::Job;
 pub use reading::{
-    CERTIFICATE_LIMIT, INSTANCE_LIMIT, Stated, check_file, parse_good, parse_instance, read_file,
-    read_good, read_instance,
+    CERTIFICATE_LIMIT, INSTANCE_LIMIT, Stated, check_file, read_good, read_instance,
 };
 pub use rounds::{Laid, read_round};
 pub use status::Status;

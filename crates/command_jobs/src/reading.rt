@@ -128,7 +128,7 @@ pub fn read_good<H: Shelf>(
 /// All bytes of a file.
 ///
 /// It is refused with [`Status::ReadFault`], or [`Status::TooLong`] with the limit. It takes time and memory in proportion to the bytes.
-pub fn read_file<H: Shelf>(
+pub(crate) fn read_file<H: Shelf>(
     alloc: Global,
     shelf: &mut H,
     file: &str,
@@ -151,7 +151,7 @@ pub fn read_file<H: Shelf>(
 }
 
 /// The instance that the bytes of a file describe. It is refused with [`Status::BadInstance`].
-pub fn parse_instance(alloc: Global, bytes: &[u8]) -> Result<Instance, Fail<Status>>
+pub(crate) fn parse_instance(alloc: Global, bytes: &[u8]) -> Result<Instance, Fail<Status>>
     requires { length bytes.now < 2 ^ 32 }
     ensures { IsParsed bytes.now IsTextOf IsBadInstance IsInstance result }
 {
@@ -164,7 +164,7 @@ pub fn parse_instance(alloc: Global, bytes: &[u8]) -> Result<Instance, Fail<Stat
 }
 
 /// The certificate of the bytes of a file, which is good for the instance. It is refused with [`Status::BadCertificate`] or [`Status::Rejected`].
-pub fn parse_good(alloc: Global, inst: &Instance, bytes: &[u8]) -> Result<Cert, Fail<Status>>
+pub(crate) fn parse_good(alloc: Global, inst: &Instance, bytes: &[u8]) -> Result<Cert, Fail<Status>>
     ensures { IsParsed bytes.now (IsGoodCert inst.now) (IsBadCertificate inst.now) (IsGoodText inst.now) result }
 {
     texts_are_unique();

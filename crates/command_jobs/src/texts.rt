@@ -11,7 +11,8 @@ ghost use Rattle.command_jobs.specs.Stages.{IsChangedBy, IsReadCert, IsReadInsta
 use crate::edited::Edited;
 use carp_base::{Fail, Instance, valid_where_no_fault};
 use cert_format::Cert;
-use crate::{Status, parse_good, parse_instance};
+use crate::Status;
+use crate::reading::{parse_good, parse_instance};
 use dat_text::readings_are_unique;
 use instance_edits::{Edit, EditFault, edited, edits_are_unique, read_edits};
 use std::alloc::Global;

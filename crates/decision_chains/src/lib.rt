@@ -1,13 +1,13 @@
-//! Decisions on the way to a node of a tree, the chains that their yes pairs make, and the pairs of edges that these exclude.
+//! Decisions on the way to a node of a tree, the chains that their yes pairs make, and plans that
+//! drive these chains.
 //!
-//! A [`Decision`] is what a plan must do to meet a branch. [`Chains`] keeps which required edges the yes pairs of a list of
-//! decisions join, and answers which pairs are excluded, which are determined, and whether a chain is too heavy.
+//! A [`Decision`] is what a plan must do to meet a branch. [`Chains`] keeps which required edges
+//! the yes pairs of a list of decisions join. It answers which pairs are excluded, which are
+//! determined, and whether a chain is too heavy.
 //!
-//! The plan of a cheapest tour along each chain that yes pairs make of the required edges.
-//!
-//! [`plan`] drives each chain as it stands, each edge in the better direction, and costs the fixed value of the decisions.
-//!
-//! The cheapest directions of a tour whose edges have an order.
+//! [`plan`] drives each chain as a tour, each edge in the better direction, and costs the fixed
+//! value of the decisions. [`direct`] finds the cheapest directions of a tour whose edges have an
+//! order.
 #![tactic(auto)]
 
 mod chains;

@@ -1,19 +1,20 @@
-//! The best of the floors: the price set that the search for better prices begins with.
+//! Price sets that need no decisions, and better ones under a branch (in the field's terms: the
+//! master problem's dual solutions).
 //!
-//! `floor_prices` gives a price set for each simple floor of the bound. [`floors`] takes the one of the greatest value, so that
-//! the set reaches all three floors, and places the shores of one vertex behind those of the floor. That a pool may grow without
-//! any change of the sets whose shores it held is the law [`growth_keeps_sets`]. [`raise`] looks for a better set under a branch, and
-//! raises each number of it to its limit.
+//! A price set that fits shows its value as a lower bound of every lawful plan (`branch_rules`).
+//! Three sets can be read off the instance, one for each simple floor of the bound:
+//! [`shell_prices`] weighs the sets of the vertices beyond each distance from the depot,
+//! [`ratio_prices`] shares the least deadhead per unit of load out over the demands, and
+//! [`join_prices`] weighs the shores that show the least cost of making every vertex even. Each set
+//! fits under every branch. Its value divided by its denominator is its floor, or above it in the
+//! one case of Join. Services at cost and weights that pack fit ([`packing_weights_fit`]), level
+//! sets are there ([`level_sets_are_there`]), and the best of such sets reaches all their floors
+//! ([`better_sets_reach_as_much`]).
 //!
-//! Price sets that need no search for decisions: one for each simple floor of the bound.
-//!
-//! A price set that fits shows its value as a lower bound of every lawful plan (`branch_rules`). Here stand the sets of the
-//! floors that can be read off the instance: [`shell_prices`] weighs the sets of the vertices beyond each distance from the
-//! depot, [`ratio_prices`] shares the least deadhead per unit of load out over the demands, and [`join_prices`] weighs the
-//! shores that show the least cost of making every vertex even. Each set fits under every branch. Its value divided by its denominator is
-//! exactly its floor, or above it in the one case of Join. That services at cost and weights that pack fit is the
-//! law [`packing_weights_fit`], that there are level sets the law [`level_sets_are_there`], and that the best of such sets reaches all
-//! their floors the law [`better_sets_reach_as_much`].
+//! [`floors`] takes the set of greatest value, and places the shores of one vertex behind those of
+//! the floor. A pool may grow without any change of the sets whose shores it held
+//! ([`growth_keeps_sets`]). [`raise`] looks for a better set under a branch, and raises each number
+//! of it to its limit.
 #![tactic(auto)]
 
 mod best;

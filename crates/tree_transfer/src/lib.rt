@@ -1,19 +1,12 @@
-//! Trees of decisions that are handed on to another instance.
-//!
-//! [`carry_tree`] carries the tree of an older instance over: a node that does not split there gives way to its second child.
-//! [`greatest_bound`] says what such a tree shows there with the price sets that it names, and [`note_nodes`] what each of its nodes shows.
-//!
-//! What holds in an instance and stays when its numbers rise.
-//!
-//! Costs, service costs and demands rise, and some streets that need no service are closed: laws say which facts about the old instance
-//! are facts about the new one.
-//!
 //! Trees of decisions that are carried over to another instance.
 //!
-//! Where costs and demands rise and streets are closed, the proof of a bound need not be found anew. The tree of the older instance is
-//! read under the new one: a pair that is excluded there gives way to its second child, and so does a cut below the lower number of
-//! its shore; all else stays. What is left shows each bound that the older tree showed ([`carried_trees_show`]), if its fixed branches
-//! have values.
+//! If costs, service costs and demands rise, and streets that need no service are closed, the proof
+//! of a bound need not be found anew. [`carry_tree`] reads the tree of the older instance under the
+//! new one: a pair that is excluded there gives way to its second child, and so does a cut below
+//! the lower number of its shore; all else stays. What is left shows each bound that the older tree
+//! showed ([`carried_trees_show`]), if its fixed branches have values. [`greatest_bound`] says what
+//! such a tree shows with the price sets that it names, and [`note_nodes`] what each of its nodes
+//! shows. Laws say which facts about the old instance are facts about the new one.
 #![tactic(auto)]
 
 #[cfg(test)]
