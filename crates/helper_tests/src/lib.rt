@@ -1,12 +1,12 @@
-//! Tests of the searches that change tours, and of the rounds in which helpers are asked (crates `ruin_recreate`, `local_moves` and
-//! `helper_rounds`).
+//! Tests of the helpers that make tours one after another or cut them from one order (crates `path_scanning`, `augment_merge` and
+//! `giant_split`).
 //!
 //! They stand in a crate of their own, since a crate with tests is proved twice.
 #![tactic(auto)]
 
 #[cfg(test)]
-mod helper_rounds_tests;
+mod augment_merge_tests;
 #[cfg(test)]
-mod local_moves_tests;
+mod giant_split_tests;
 #[cfg(test)]
-mod ruin_recreate_tests;
+mod path_scanning_tests;
