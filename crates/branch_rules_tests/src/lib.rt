@@ -10,5 +10,9 @@ mod branch_rules_deciding_tests;
 #[cfg(test)]
 mod branch_rules_group_tests;
 #[cfg(test)]
+mod branch_rules_number_tests;
+#[cfg(test)]
+mod branch_rules_path_tests;
+#[cfg(test)]
 mod branch_rules_tree_tests;
 pub mod signs;

@@ -8,4 +8,4 @@ mod cert_format_reading_tests;
 #[cfg(test)]
 mod cert_format_writing_tests;
 #[cfg(test)]
-mod cert_words_tests;
+mod cert_lines_word_tests;

@@ -5,12 +5,12 @@
 #![tactic(auto)]
 
 #[cfg(test)]
-mod command_files_tests;
+mod command_jobs_edit_tests;
+#[cfg(test)]
+mod command_jobs_file_tests;
 #[cfg(test)]
 mod command_jobs_tests;
 #[cfg(test)]
 mod command_words_tests;
 #[cfg(test)]
 mod command_works_tests;
-#[cfg(test)]
-mod edit_files_tests;

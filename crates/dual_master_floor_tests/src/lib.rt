@@ -4,6 +4,6 @@
 #![tactic(auto)]
 
 #[cfg(test)]
-mod floor_prices_brute_tests;
+mod dual_master_floor_brute_tests;
 #[cfg(test)]
-mod floor_prices_tests;
+mod dual_master_floor_tests;

@@ -9,4 +9,6 @@ mod augment_merge_tests;
 #[cfg(test)]
 mod giant_split_tests;
 #[cfg(test)]
+mod helper_rounds_tests;
+#[cfg(test)]
 mod path_scanning_tests;

@@ -11,6 +11,4 @@ mod dat_text_tests;
 #[cfg(test)]
 mod instance_edits_tests;
 #[cfg(test)]
-mod number_texts_tests;
-#[cfg(test)]
 mod town_maker_tests;

@@ -5,8 +5,6 @@
 #![tactic(auto)]
 
 #[cfg(test)]
-mod helper_rounds_tests;
-#[cfg(test)]
 mod local_moves_tests;
 #[cfg(test)]
 mod ruin_recreate_tests;

@@ -4,8 +4,10 @@
 #![tactic(auto)]
 
 #[cfg(test)]
+mod plan_print_number_tests;
+#[cfg(test)]
+mod plan_print_refusal_tests;
+#[cfg(test)]
 mod plan_print_sheet_tests;
 #[cfg(test)]
 mod plan_print_tests;
-#[cfg(test)]
-mod refusal_texts_tests;

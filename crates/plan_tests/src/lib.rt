@@ -4,12 +4,8 @@
 #![tactic(auto)]
 
 #[cfg(test)]
-mod chain_plans_tests;
-#[cfg(test)]
 mod plan_model_proposer_tests;
 #[cfg(test)]
 mod plan_model_tests;
 #[cfg(test)]
 mod task_tours_tests;
-#[cfg(test)]
-mod tour_directions_tests;

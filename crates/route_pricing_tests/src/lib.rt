@@ -4,8 +4,8 @@
 #![tactic(auto)]
 
 #[cfg(test)]
-mod pricing_grid_tests;
+mod route_pricing_grid_tests;
+#[cfg(test)]
+mod route_pricing_surcharge_tests;
 #[cfg(test)]
 mod route_pricing_tests;
-#[cfg(test)]
-mod surcharge_tests;

@@ -5,8 +5,8 @@
 #![tactic(auto)]
 
 #[cfg(test)]
-mod branch_rules_tests;
+mod decision_chains_direct_tests;
+#[cfg(test)]
+mod decision_chains_plan_tests;
 #[cfg(test)]
 mod decision_chains_tests;
-#[cfg(test)]
-mod tree_paths_tests;

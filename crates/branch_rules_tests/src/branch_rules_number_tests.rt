@@ -3,7 +3,7 @@ ghost use Rattle.branch_rules.specs.Limits.{IsPriceNumber, IsShoreOf};
 ghost use Rattle.cut_pool.specs.Pools.{IsShoreNumber};
 
 use branch_rules::{Branch, NoUpper, Node, PriceSet, TooHeavy, Tree, Weight};
-use branch_rules_tests::signs::{branch_of, is_shore_of, one_street, other_vertex, triangle};
+use crate::signs::{branch_of, is_shore_of, one_street, other_vertex, triangle};
 use carp_base::{Fail as Refusal, Instance, Memory, RawEdge};
 use cut_pool::{Shore, ShorePool};
 use std::alloc::Global;
