@@ -1,4 +1,5 @@
-//! Tests of what decisions exclude and settle, and of the trees that they make (crate `branch_rules`).
+//! Tests of what decisions exclude and settle, of price sets and groups, of trees and of the ways
+//! through them (crate `branch_rules`).
 //!
 //! They stand in a crate of their own, since a crate with tests is proved twice.
 #![tactic(auto)]

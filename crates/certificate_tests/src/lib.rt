@@ -1,4 +1,5 @@
-//! Tests of the text of a certificate, its reader and its writer (crates `cert_words` and `cert_format`).
+//! Tests of the text of a certificate, its reader and its writer (crates `cert_lines` and
+//! `cert_format`).
 //!
 //! They stand in a crate of their own, since a crate with tests is proved twice.
 #![tactic(auto)]

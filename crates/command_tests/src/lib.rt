@@ -1,5 +1,5 @@
-//! Tests of the parts of a command: its words, its files, and what it makes (crates `command_words`, `command_files`,
-//! `edit_files`, `command_jobs` and `command_works`).
+//! Tests of the parts of a command: its words, its files, and what it makes (crates
+//! `command_words`, `command_jobs` and `command_works`).
 //!
 //! They stand in a crate of their own, since a crate with tests is proved twice.
 #![tactic(auto)]

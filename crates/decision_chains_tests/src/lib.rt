@@ -1,5 +1,5 @@
-//! Tests of decisions, of the numbers and values that they leave, and of the ways through trees (crates `decision_chains`,
-//! `branch_rules` and `tree_paths`).
+//! Tests of decisions, of the plans of their chains, and of the cheapest directions of a tour
+//! (crate `decision_chains`).
 //!
 //! They stand in a crate of their own, since a crate with tests is proved twice.
 #![tactic(auto)]

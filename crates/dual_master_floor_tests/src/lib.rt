@@ -1,4 +1,4 @@
-//! Tests of the floors of the bound (crate `floor_prices`).
+//! Tests of the floors of the bound (crate `dual_master`).
 //!
 //! They stand in a crate of their own, since a crate with tests is proved twice.
 #![tactic(auto)]

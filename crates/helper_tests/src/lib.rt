@@ -1,5 +1,6 @@
-//! Tests of the helpers that make tours one after another or cut them from one order (crates `path_scanning`, `augment_merge` and
-//! `giant_split`).
+//! Tests of the helpers that make tours one after another or cut them from one order, and of the
+//! rounds in which helpers are asked (crates `path_scanning`, `augment_merge`, `giant_split` and
+//! `helper_rounds`).
 //!
 //! They stand in a crate of their own, since a crate with tests is proved twice.
 #![tactic(auto)]

@@ -1,5 +1,5 @@
-//! Tests of instances, their texts and edits, and of made towns (crates `carp_base`, `dat_text`, `town_maker`,
-//! `number_texts` and `instance_edits`).
+//! Tests of instances, their texts and edits, and of made towns (crates `carp_base`, `dat_text`,
+//! `town_maker` and `instance_edits`).
 //!
 //! They stand in a crate of their own, since a crate with tests is proved twice.
 #![tactic(auto)]

@@ -1,5 +1,4 @@
-//! Tests of the searches that change tours, and of the rounds in which helpers are asked (crates `ruin_recreate`, `local_moves` and
-//! `helper_rounds`).
+//! Tests of the searches that change tours (crates `ruin_recreate` and `local_moves`).
 //!
 //! They stand in a crate of their own, since a crate with tests is proved twice.
 #![tactic(auto)]

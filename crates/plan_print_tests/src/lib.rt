@@ -1,4 +1,4 @@
-//! Tests of the texts that are printed (crates `refusal_texts` and `plan_print`).
+//! Tests of the texts that are printed (crate `plan_print`).
 //!
 //! They stand in a crate of their own, since a crate with tests is proved twice.
 #![tactic(auto)]

@@ -1,4 +1,4 @@
-//! Tests of plans, tours and chains (crates `plan_model`, `task_tours`, `tour_directions` and `chain_plans`).
+//! Tests of plans and of tours as lists of tasks (crates `plan_model` and `task_tours`).
 //!
 //! They stand in a crate of their own, since a crate with tests is proved twice.
 #![tactic(auto)]

@@ -1,4 +1,4 @@
-//! Tests of least relaxed tours (crates `pricing_grid` and `route_pricing`).
+//! Tests of least relaxed tours (crate `route_pricing`).
 //!
 //! They stand in a crate of their own, since a crate with tests is proved twice.
 #![tactic(auto)]
