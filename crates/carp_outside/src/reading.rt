@@ -22,7 +22,8 @@ pub enum ReadFault {
 const PIECE: usize = 65_536;
 
 /// Reads all bytes of a name, where these are at most `limit`. It looks for pieces of 64 KiB at most until a look finds
-/// the end, and answers `Fault` at the first look that fails. Whatever it answers, no count of the shelf falls. It takes time and memory in proportion to the bytes.
+/// the end, and answers `Fault` at the first look that fails. The shelf gave at least as many bytes in this call as are answered. Whatever it answers, no
+/// count of the shelf falls. It takes time and memory in proportion to the bytes.
 ///
 /// Where the shelf tells its contents, these are all bytes of the name, `TooLong` comes exactly where there are more than
 /// `limit` and no look failed, and the shelf holds what it held.
@@ -35,6 +36,7 @@ pub fn read_whole<H: Shelf>(
     requires { limit < 2 ^ 40 }
     ensures whole { IsTrue H.tells → IfOk result (λ bytes. H.contents shelf.old name.now ≡ Some bytes.items) }
     ensures within { IfOk result (λ bytes. length bytes.items ≤ limit) }
+    ensures read { IfOk result (λ bytes. RoseBy (length bytes.items) (H.given shelf.old) (H.given shelf.new)) }
 
     // Each refusal has its cause.
     ensures fault { IsErrOf result (Refused Fault) → Rose (H.failed_looks shelf.old name.now) (H.failed_looks shelf.new name.now) }
