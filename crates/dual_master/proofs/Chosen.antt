@@ -17,7 +17,7 @@ use Rattle.dual_master.specs.Growth.{GrowthKeepsSets}
 use Rattle.dual_master.specs.Singles.{HasSingles, IsFloorPool}
 use Rattle.dual_master.specs.declared.candidate.Candidate.{Candidate}
 use Rattle.dual_master.proofs.Growing.{grown_at}
-use Rattle.dual_master.proofs.Placing.{singles_grow}
+use Rattle.dual_master.proofs.PlacedSingles.{singles_grow}
 
 -- a candidate that is no less reaches what the other one reaches
 pub candidate_reaches : BetterReachesAsMuch → (p : Problem) (one other : Candidate) → IsCandidate p one → IsCandidate p other → IsNoMore one other →

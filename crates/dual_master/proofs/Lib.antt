@@ -15,7 +15,7 @@ pub mod Weighed
 pub mod Levels
 pub mod Growing
 pub mod Sizes
-pub mod Placing
+pub mod PlacedSingles
 pub mod Chosen
 pub mod Raised
 pub mod Small

@@ -7,7 +7,7 @@ use Rattle.std.proofs.lemmas.List.Sums.{sum_by-cons, sum_by-append, sum_by-le}
 use Rattle.carp_base.specs.Problem.{Problem, IsValid, IsEdgeNumber, edge_at}
 use Rattle.plan_model.specs.declared.step.Step.{Step}
 use Rattle.plan_model.specs.Plans.{IsLawful, IsOnEdges, walk_at, steps_of, step_cost, walk_cost}
-use Rattle.plan_print.proofs.Lines.{lawful_on_edges}
+use Rattle.plan_print.proofs.TourLines.{lawful_on_edges}
 
 -- a sum over all steps of a plan is the sum over its walks
 pub sum_by_walks : (f : Step → ℕ) (plan : List (List Step)) → sum_by f (steps_of plan) ≡ sum_by (λ walk. sum_by f walk) plan

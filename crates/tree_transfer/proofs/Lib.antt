@@ -2,7 +2,7 @@ pub mod Numbers
 pub mod Chaining
 pub mod Following
 pub mod Leaves
-pub mod Carrying
+pub mod CarriedTrees
 pub mod Small
 pub mod Rising
 pub mod Needs

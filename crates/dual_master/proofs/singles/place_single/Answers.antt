@@ -1,5 +1,5 @@
 use Rattle.std.proofs.Common.{rules, ◌≢◌, ◌<◌, length}
-use Rattle.dual_master.proofs.Placing.{tried_by_add}
+use Rattle.dual_master.proofs.PlacedSingles.{tried_by_add}
 use Rattle.dual_master.proofs.singles.place_single.Goals as goal
 
 pub returns-in-Ok-clause-ok : goal.returns-in-Ok-clause-ok

@@ -1,6 +1,6 @@
 use Rattle.std.proofs.Common.{rules}
 use Rattle.carp_base.specs.Problem.{IsVertex}
-use Rattle.dual_master.proofs.Placing.{one_vertex_more, tried_belongs}
+use Rattle.dual_master.proofs.PlacedSingles.{one_vertex_more, tried_belongs}
 use Rattle.dual_master.proofs.singles.place_singles.Goals as goal
 
 pub loop-v-preserved : goal.loop-v-preserved

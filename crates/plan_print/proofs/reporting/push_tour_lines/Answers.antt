@@ -1,5 +1,5 @@
 use Rattle.std.proofs.Common.{append_assoc, arith, ◌≡◌, ◌+◌}
-use Rattle.plan_print.proofs.Lines.{tour_lines-take, lawful_on_edges}
+use Rattle.plan_print.proofs.TourLines.{tour_lines-take, lawful_on_edges}
 use Rattle.plan_print.proofs.reporting.push_tour_lines.Goals as goal
 
 pub push_tour_line-requires : goal.push_tour_line-requires

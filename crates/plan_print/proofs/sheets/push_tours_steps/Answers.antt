@@ -1,5 +1,5 @@
 use Rattle.std.proofs.Common.{append_assoc, arith}
-use Rattle.plan_print.proofs.Lines.{lawful_on_edges}
+use Rattle.plan_print.proofs.TourLines.{lawful_on_edges}
 use Rattle.plan_print.proofs.StepLines.{tours_steps-take}
 use Rattle.plan_print.proofs.sheets.push_tours_steps.Goals as goal
 

@@ -4,7 +4,7 @@ use Rattle.std.proofs.lemmas.List.{take_all}
 use Rattle.std.proofs.lemmas.List.Sums.{sum_by_more}
 use Rattle.plan_model.specs.Plans.{walk_cost, step_cost}
 use Rattle.plan_print.proofs.Costs.{small_walk_at, sum_by_walks}
-use Rattle.plan_print.proofs.Lines.{lawful_on_edges}
+use Rattle.plan_print.proofs.TourLines.{lawful_on_edges}
 use Rattle.plan_print.proofs.sheets.total_cost.Goals as goal
 
 pub cost_of-sum-requires : goal.cost_of-sum-requires

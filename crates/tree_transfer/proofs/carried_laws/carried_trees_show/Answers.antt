@@ -1,4 +1,4 @@
-use Rattle.tree_transfer.proofs.Carrying.{tree_shows}
+use Rattle.tree_transfer.proofs.CarriedTrees.{tree_shows}
 use Rattle.tree_transfer.proofs.carried_laws.carried_trees_show.Goals as goal
 
 pub returns : goal.returns
