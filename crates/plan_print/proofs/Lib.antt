@@ -1,3 +1,3 @@
-mod Lines
+mod TourLines
 mod Costs
 mod StepLines
