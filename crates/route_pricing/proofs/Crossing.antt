@@ -11,7 +11,7 @@ use Rattle.route_pricing.specs.Values.{IsPriced, IsServed, load_of, weighed, IsL
 use Rattle.route_pricing.specs.Pricing.{Pricing, IsGridOf, lift}
 use Rattle.route_pricing.specs.Retracing.{turned}
 use Rattle.route_pricing.specs.Through.{weight_of, IsPair, IsOfCells, IsLeastPair, IsPairTour}
-use Rattle.route_pricing.proofs.Partials.{load_one}
+use Rattle.route_pricing.proofs.PartialTours.{load_one}
 use Rattle.route_pricing.proofs.Turning.{turn}
 use Rattle.route_pricing.proofs.Least.{sub_times, comes_home, load_same}
 use Rattle.route_pricing.proofs.Serving.{serving_pair, pair_serving}

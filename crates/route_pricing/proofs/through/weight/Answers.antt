@@ -1,6 +1,7 @@
 use Rattle.std.proofs.Common.{◌+◌, ◌-◌, ◌*◌, ◌<◌, arith, ap, ◌∙◌, slice_index_or}
 use Rattle.route_pricing.specs.Partial.{no_value, column_task}
-use Rattle.route_pricing.proofs.Partials.{cell_final, cell_small}
+use Rattle.route_pricing.proofs.PartialTours.{cell_small}
+use Rattle.route_pricing.proofs.Partials.{cell_final}
 use Rattle.route_pricing.proofs.Weighing.{weight_none, weight_some}
 use Rattle.route_pricing.proofs.through.weight.Goals as goal
 
