@@ -125,7 +125,7 @@ fn offers_a_settled_plan(rt: HostRuntime) -> Result<(), Fail> {
     let Verdict::Lawful { .. } = judge(&inst, &best, &mut room) else {
         panic!(rt; "it is lawful");
     };
-    let mut helper = Mover::new(alloc, 5);
+    let mut helper = Mover::new(5);
     assert_eq!(rt; (helper.id(), helper.fouls()), (5, 0));
     match helper.propose(alloc, &inst, &best)? {
         Some(plan) => {
@@ -165,7 +165,7 @@ fn stirs_what_is_settled(rt: HostRuntime) -> Result<(), Fail> {
     let Verdict::Lawful { .. } = judge(&inst, &best, &mut room) else {
         panic!(rt; "it is lawful");
     };
-    let mut helper = Mover::new(alloc, 5);
+    let mut helper = Mover::new(5);
     match helper.propose(alloc, &inst, &best)? {
         Some(plan) => {
             assert_eq!(rt;
@@ -188,7 +188,7 @@ fn first_offer(
     requires { IsLawful inst.now best.now }
 {
     let mut room = JudgeRoom::new(alloc, inst)?;
-    let mut helper = Mover::new(alloc, 1);
+    let mut helper = Mover::new(1);
     helper.reseed(seed);
     match helper.propose(alloc, inst, best)? {
         Some(plan) => Ok(Some(judge(inst, &plan, &mut room))),
