@@ -3,6 +3,5 @@ pub mod Augmenting
 pub mod Merging
 pub mod Outlines
 pub mod Absorbing
-pub mod Offering
 pub mod TourLaws
 pub mod Examples

@@ -16,4 +16,4 @@ mod searching;
 mod tour;
 
 pub use making::augment_merge;
-pub use merger::Merger;
+pub use merger::{MergeFinder, Merger};

@@ -17,10 +17,10 @@ pub(crate) fn run_with_helpers<H: Shelf, O: Sink>(
     out: &mut O,
 ) -> Status {
     let (Ok(scanner), Ok(merger), Ok(splitter), Ok(mover)) = (
-        Box::new(alloc, Scanner::new(alloc, 1)),
-        Box::new(alloc, Merger::new(alloc, 2)),
-        Box::new(alloc, Splitter::new(alloc, 3)),
-        Box::new(alloc, Mover::new(alloc, 4)),
+        Box::new(alloc, Scanner::new(1)),
+        Box::new(alloc, Merger::new(2)),
+        Box::new(alloc, Splitter::new(3)),
+        Box::new(alloc, Mover::new(4)),
     ) else {
         return Status::Memory;
     };

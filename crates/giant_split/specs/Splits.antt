@@ -1,6 +1,6 @@
 -- Plans that are cut from one order of all tasks (Beasley 1983, route first and cluster second; Lacomme, Prins and
 -- Ramdane-Cherif 2004, the split of a giant tour).
-use Rattle.std.specs.Prelude.{◌≡◌, ◌≢◌, ◌≤◌, List, [], Option, None, Some}
+use Rattle.std.specs.Prelude.{◌≡◌, ◌≢◌, ◌≤◌, List, []}
 use Rattle.std.specs.List.{AllByRecursion}
 use Rattle.carp_base.specs.declared.edge.Task.{Task}
 use Rattle.carp_base.specs.Problem.{Problem}
@@ -20,7 +20,6 @@ pub record IsSplit (p : Problem) (order : List Task) (plan : List (List Step)) :
   pub paths : PlanGoesByLeastPaths p plan
   pub cheapest : IsCheapestInOrder p order plan
 
--- a plan is offered, which is a split of the order in which it serves itself
-abbrev pub OffersSplit : Problem → Option (List (List Step)) → Type 0
-OffersSplit p None = ⊥
-OffersSplit p (Some plan) = IsSplit p (all_tasks (plan_tours plan)) plan
+-- a split of the order in which it serves itself
+abbrev pub IsOwnSplit : Problem → List (List Step) → Type 0
+IsOwnSplit p plan = IsSplit p (all_tasks (plan_tours plan)) plan

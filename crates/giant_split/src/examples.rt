@@ -1,6 +1,6 @@
 // Small data on which a fact that no call decides holds, and on which it does not.
-ghost use Rattle.std.specs.Prelude.{[], ◌∷◌, None, Some, true};
-ghost use Rattle.giant_split.specs.Splits.{IsCheapestInOrder, IsSplit, OffersSplit};
+ghost use Rattle.std.specs.Prelude.{[], ◌∷◌, true};
+ghost use Rattle.giant_split.specs.Splits.{IsCheapestInOrder, IsOwnSplit, IsSplit};
 ghost use Rattle.giant_split.specs.Examples.{idle_town, out_and_home};
 
 fn what_is_cheapest_in_an_order()
@@ -14,8 +14,7 @@ fn what_is_a_split()
     ensures unserved { ¬ (IsSplit idle_town (record { edge = 1; forward = true } ∷ []) []) }
 {}
 
-fn what_is_offered()
-    ensures nothing { OffersSplit idle_town (Some []) }
-    ensures none { ¬ (OffersSplit idle_town None) }
-    ensures idle_tour { ¬ (OffersSplit idle_town (Some ([] ∷ []))) }
+fn what_is_a_split_of_its_own_order()
+    ensures nothing { IsOwnSplit idle_town [] }
+    ensures idle_tour { ¬ (IsOwnSplit idle_town ([] ∷ [])) }
 {}

@@ -12,5 +12,5 @@ mod legs;
 mod splitter;
 mod splitting;
 
-pub use splitter::{Splitter, order_of};
+pub use splitter::{SplitFinder, Splitter, order_of};
 pub use splitting::split;

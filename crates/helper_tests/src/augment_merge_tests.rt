@@ -103,7 +103,7 @@ fn offers_the_plan(rt: HostRuntime) -> Result<(), Fail> {
     let alloc = rt.alloc();
     let inst = fork(alloc, [1, 1, 1], 6)?;
     let best = single_tours(alloc, &inst, &cost_distances(alloc, &inst)?)?;
-    let mut helper = Merger::new(alloc, 5);
+    let mut helper = Merger::new(5);
     assert_eq!(rt; (helper.id(), helper.fouls()), (5, 0));
     match helper.propose(alloc, &inst, &best)? {
         Some(plan) => assert_eq!(rt; lawful_cost(alloc, &inst, &plan)?, 26),

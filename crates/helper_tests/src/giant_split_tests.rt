@@ -56,7 +56,7 @@ fn offers_a_split(rt: HostRuntime) -> Result<(), Fail> {
     let inst = far_triangle(rt.alloc())?;
     let dist = cost_distances(rt.alloc(), &inst)?;
     let best = single_tours(rt.alloc(), &inst, &dist)?;
-    let mut helper = Splitter::new(rt.alloc(), 5);
+    let mut helper = Splitter::new(5);
     let mut room = JudgeRoom::new(rt.alloc(), &inst)?;
     match helper.propose(rt.alloc(), &inst, &best)? {
         Some(plan) => {
@@ -81,7 +81,7 @@ fn turns_services_by_draws(rt: HostRuntime) -> Result<(), Fail> {
     assert!(rt; cost == 5);
     let dist = cost_distances(rt.alloc(), &inst)?;
     let best = single_tours(rt.alloc(), &inst, &dist)?;
-    let mut helper = Splitter::new(rt.alloc(), 1);
+    let mut helper = Splitter::new(1);
     for seed in 0..100 {
         helper.reseed(seed);
         let mut room = JudgeRoom::new(rt.alloc(), &inst)?;
@@ -105,7 +105,7 @@ fn first_offer(
     requires { IsLawful inst.now best.now }
 {
     let mut room = JudgeRoom::new(alloc, inst)?;
-    let mut helper = Splitter::new(alloc, 1);
+    let mut helper = Splitter::new(1);
     helper.reseed(seed);
     match helper.propose(alloc, inst, best)? {
         Some(plan) => Ok(Some(judge(inst, &plan, &mut room))),

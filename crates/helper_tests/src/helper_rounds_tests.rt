@@ -7,12 +7,13 @@ ghost use Rattle.plan_model.specs.Verdicts.{IsVerdict};
 
 use carp_base::{Instance, Memory};
 use deadhead_paths::{single_tours, tidy};
+use helper_frame::Standing;
 use helper_rounds::{Heard, ask_all, consult, dismiss};
 use plan_model::{JudgeRoom, Plan, Proposer, Step, Verdict, Walk, judge, verdicts_are_exact};
 use samples::street;
 use std::alloc::Global;
 use std::test::Fail;
-use task_tours::{Standing, cost_distances, lawful_cost};
+use task_tours::{cost_distances, lawful_cost};
 
 // What a helper of these tests offers.
 #[derive(Clone, Copy)]
@@ -65,7 +66,7 @@ impl Actor {
 
 impl Proposer for Actor {
     ghost use Rattle.plan_model.specs.Offers.{Tally};
-    ghost use Rattle.task_tours.specs.Standings.{tally_of};
+    ghost use Rattle.helper_frame.specs.Standings.{tally_of};
 
     ghost id = { λ h. h.standing.id };
 

@@ -146,7 +146,7 @@ fn offers_the_cheapest_scan(rt: HostRuntime) -> Result<(), Fail> {
     let required = [street(1, 2, 4, 1), street(2, 3, 4, 1), street(1, 4, 6, 1)];
     let inst = Instance::build(alloc, 4, 1, 2, &required, &[])?;
     let best = single_tours(alloc, &inst, &cost_distances(alloc, &inst)?)?;
-    let mut helper = Scanner::new(alloc, 5);
+    let mut helper = Scanner::new(5);
     assert_eq!(rt; (helper.id(), helper.fouls()), (5, 0));
     match helper.propose(alloc, &inst, &best)? {
         Some(plan) => {

@@ -1,5 +1,5 @@
--- What the helper that settles plans offers.
-use Rattle.std.specs.Prelude.{◌≢◌, ◌≤◌, List, [], Option, None, Some}
+-- What the helper that settles plans finds.
+use Rattle.std.specs.Prelude.{◌≢◌, ◌≤◌, List, []}
 use Rattle.std.specs.List.{AllByRecursion}
 use Rattle.carp_base.specs.Problem.{Problem}
 use Rattle.plan_model.specs.declared.step.Step.{Step}
@@ -12,7 +12,9 @@ pub record IsLawfulNoDearer (p : Problem) (best plan : List (List Step)) : Type 
   pub lawful : IsLawful p plan
   pub cost : plan_cost p plan ≤ plan_cost p best
 
--- a plan is offered, which is lawful and settled, costs no more than the best one, and whose tours each serve and go by least paths
-abbrev pub OffersSettled : Problem → List (List Step) → Option (List (List Step)) → Type 0
-OffersSettled p best None = ⊥
-OffersSettled p best (Some plan) = IsLawfulNoDearer p best plan × IsSettledPlan p plan × PlanGoesByLeastPaths p plan × AllByRecursion (λ tour. tour ≢ []) (plan_tours plan)
+-- a settled plan that costs no more than another, and whose tours each serve and go by least paths
+pub record IsSettledFrom (p : Problem) (best plan : List (List Step)) : Type 0 where
+  pub cost : plan_cost p plan ≤ plan_cost p best
+  pub settled : IsSettledPlan p plan
+  pub paths : PlanGoesByLeastPaths p plan
+  pub each_serves : AllByRecursion (λ tour. tour ≢ []) (plan_tours plan)

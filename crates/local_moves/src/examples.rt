@@ -1,9 +1,9 @@
 // Small data on which a fact that no call decides holds, and on which it does not.
-ghost use Rattle.std.specs.Prelude.{◌≡◌, [], ◌∷◌, None, Some};
+ghost use Rattle.std.specs.Prelude.{◌≡◌, [], ◌∷◌};
 ghost use Rattle.task_tours.specs.Examples.{alley_out, lane_and_alley, lane_home, lane_out};
 ghost use Rattle.local_moves.specs.Changes.{IsChange, IsSameService, IsSettledPlan, MovesOne, OpensOne, SwapsBetween, SwapsWithin, TakesOutTask, TurnsOne, other_direction};
 ghost use Rattle.local_moves.specs.Examples.{detour};
-ghost use Rattle.local_moves.specs.Offering.{OffersSettled};
+ghost use Rattle.local_moves.specs.Offering.{IsSettledFrom};
 
 fn services_turn()
     ensures turned { TurnsOne ((lane_out ∷ []) ∷ []) ((lane_home ∷ []) ∷ []) }
@@ -34,7 +34,7 @@ fn plans_are_settled()
     ensures detour { ¬ (IsSettledPlan lane_and_alley (detour ∷ [])) }
 {}
 
-fn what_is_offered()
-    ensures none { ¬ (OffersSettled lane_and_alley (detour ∷ []) None) }
-    ensures idle_tour { ¬ (OffersSettled lane_and_alley (detour ∷ []) (Some ([] ∷ []))) }
+fn what_is_settled_from_a_plan()
+    ensures nothing { IsSettledFrom lane_and_alley (detour ∷ []) [] }
+    ensures idle_tour { ¬ (IsSettledFrom lane_and_alley (detour ∷ []) ([] ∷ [])) }
 {}

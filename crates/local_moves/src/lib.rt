@@ -16,5 +16,5 @@ mod stirred;
 mod swaps;
 mod tours;
 
-pub use mover::Mover;
+pub use mover::{MoveFinder, Mover};
 pub use plans::settle;

@@ -125,7 +125,7 @@ fn offers_a_settled_plan(rt: HostRuntime) -> Result<(), Fail> {
     let Verdict::Lawful { .. } = judge(&inst, &best, &mut room) else {
         panic!(rt; "it is lawful");
     };
-    let mut helper = Mover::new(alloc, 5);
+    let mut helper = Mover::new(5);
     assert_eq!(rt; (helper.id(), helper.fouls()), (5, 0));
     match helper.propose(alloc, &inst, &best)? {
         Some(plan) => {
@@ -165,7 +165,7 @@ fn stirs_what_is_settled(rt: HostRuntime) -> Result<(), Fail> {
     let Verdict::Lawful { .. } = judge(&inst, &best, &mut room) else {
         panic!(rt; "it is lawful");
     };
-    let mut helper = Mover::new(alloc, 5);
+    let mut helper = Mover::new(5);
     match helper.propose(alloc, &inst, &best)? {
         Some(plan) => {
             assert_eq!(rt;
@@ -178,7 +178,25 @@ fn stirs_what_is_settled(rt: HostRuntime) -> Result<(), Fail> {
     Ok(())
 }
 
-// What the verdict on the first offer after a seed is.
+// What the verdict on a helper's first offer after a seed is.
+fn offer_after(
+    alloc: Global,
+    inst: &Instance,
+    best: &Plan,
+    helper: &mut Mover,
+    seed: u64,
+) -> Result<Option<Verdict>, Memory>
+    requires { IsLawful inst.now best.now }
+{
+    let mut room = JudgeRoom::new(alloc, inst)?;
+    helper.reseed(seed);
+    match helper.propose(alloc, inst, best)? {
+        Some(plan) => Ok(Some(judge(inst, &plan, &mut room))),
+        None => Ok(None),
+    }
+}
+
+// The same of a new helper.
 fn first_offer(
     alloc: Global,
     inst: &Instance,
@@ -187,13 +205,28 @@ fn first_offer(
 ) -> Result<Option<Verdict>, Memory>
     requires { IsLawful inst.now best.now }
 {
-    let mut room = JudgeRoom::new(alloc, inst)?;
-    let mut helper = Mover::new(alloc, 1);
-    helper.reseed(seed);
-    match helper.propose(alloc, inst, best)? {
-        Some(plan) => Ok(Some(judge(inst, &plan, &mut room))),
-        None => Ok(None),
+    let mut helper = Mover::new(1);
+    offer_after(alloc, inst, best, &mut helper, seed)
+}
+
+// Asked about one block of streets, another one and the first again, a helper offers each time what a new one offers.
+#[test]
+fn settles_plans_of_the_instance_that_is_asked_about(rt: HostRuntime) -> Result<(), Fail> {
+    let alloc = rt.alloc();
+    let mut helper = Mover::new(5);
+    for first in [1, 100, 1] {
+        let required = [
+            street(1, 2, first, 1),
+            street(2, 3, 3, 1),
+            street(3, 4, 2, 1),
+            street(4, 1, 4, 1),
+        ];
+        let inst = Instance::build(alloc, 4, 1, 2, &required, &[])?;
+        let best = single_tours(alloc, &inst, &cost_distances(alloc, &inst)?)?;
+        let offer = offer_after(alloc, &inst, &best, &mut helper, 7)?;
+        assert!(rt; offer.is_some() && offer == first_offer(alloc, &inst, &best, 7)?);
     }
+    Ok(())
 }
 
 // One seed has the same offer twice, and some other seed another one, though all of them end with the same seven bits.

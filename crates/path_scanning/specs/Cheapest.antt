@@ -1,8 +1,8 @@
 -- The cheapest of the scans by several rules.
-use Rattle.std.specs.Prelude.{ℕ, ◌<◌, ◌≤◌, List, Option, None, Some}
+use Rattle.std.specs.Prelude.{ℕ, ◌<◌, ◌≤◌, List}
 use Rattle.carp_base.specs.Problem.{Problem}
 use Rattle.plan_model.specs.declared.step.Step.{Step}
-use Rattle.plan_model.specs.Plans.{IsLawful, plan_cost}
+use Rattle.plan_model.specs.Plans.{plan_cost}
 use Rattle.path_scanning.specs.declared.rule.Rule.{Rule}
 use Rattle.path_scanning.specs.declared.rule.Rule.TheVariants.{Far, Near, Cheap, Dear, Half}
 use Rattle.path_scanning.specs.Scans.{IsScanned}
@@ -22,8 +22,3 @@ pub record IsCheapestOf (p : Problem) (n : ℕ) (plan : List (List Step)) : Type
   pub scanned : IsScanned p rule plan
   pub cheapest : (other : Rule) (scan : List (List Step)) → rule_place other < n → IsScanned p other scan → plan_cost p plan ≤ plan_cost p scan
   pub first : (other : Rule) (scan : List (List Step)) → rule_place other < rule_place rule → IsScanned p other scan → plan_cost p plan < plan_cost p scan
-
--- a plan is offered, which is lawful, and the cheapest of the scans by all five rules
-abbrev pub OffersCheapest : Problem → Option (List (List Step)) → Type 0
-OffersCheapest p None = ⊥
-OffersCheapest p (Some plan) = IsLawful p plan × IsCheapestOf p 5 plan

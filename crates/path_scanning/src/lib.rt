@@ -11,5 +11,5 @@ mod scanner;
 mod scanning;
 
 pub use rule::Rule;
-pub use scanner::Scanner;
+pub use scanner::{ScanFinder, Scanner};
 pub use scanning::scan;

@@ -1,4 +1,4 @@
-// Tours of a triangle of streets, worked by hand, and the numbers of a helper.
+// Tours of a triangle of streets, worked by hand.
 use carp_base::{Instance, RawEdge, Task};
 use deadhead_paths::single_tours;
 use plan_model::Plan;
@@ -6,7 +6,7 @@ use samples::walk_text;
 use std::alloc::Global;
 use std::process::Abort;
 use std::test::Fail;
-use task_tours::{Standing, add_tour, cost_distances, ends, join, lawful_cost, least_cost};
+use task_tours::{add_tour, cost_distances, ends, join, lawful_cost, least_cost};
 
 fn street(u: u64, v: u64, cost: u64, service: u64) -> RawEdge {
     RawEdge {
@@ -117,32 +117,6 @@ fn adds_tours_to_a_plan(rt: HostRuntime) -> Result<(), Fail> {
     assert_eq!(rt;
         walk_text(alloc, plan.walk(1))?.as_slice(),
         b"+3<3".as_slice()
-    );
-    Ok(())
-}
-
-#[test]
-fn keeps_the_numbers_of_a_helper(rt: HostRuntime) -> Result<(), Fail> {
-    let mut standing = Standing::new(7);
-    standing.ask();
-    standing.offer(20);
-    standing.ask();
-    standing.offer(30);
-    assert_eq!(rt;
-        (standing.asked, standing.least, standing.last),
-        (2, Some(20), Some(30))
-    );
-    standing.ask();
-    assert_eq!(rt;
-        (standing.asked, standing.least, standing.last),
-        (3, Some(20), None)
-    );
-    standing.fouls = 1;
-    standing.reseed(9);
-    assert_eq!(rt; (standing.id, standing.seed, standing.asked), (7, 9, 0));
-    assert_eq!(rt;
-        (standing.fouls, standing.least, standing.last),
-        (0, None, None)
     );
     Ok(())
 }

@@ -3,5 +3,4 @@ pub mod ShortLaws
 pub mod Tours
 pub mod Laws
 pub mod Joining
-pub mod Standings
 pub mod Examples

@@ -2,8 +2,7 @@
 //!
 //! [`join`] makes the walk of a tour, and [`add_tour`] adds it to a plan. The laws say that plans
 //! of such walks are lawful if their tours serve each required edge once within the capacity, what
-//! they cost, and that no lawful plan with the same tours costs less. [`Standing`] has the numbers
-//! that each helper keeps of itself.
+//! they cost, and that no lawful plan with the same tours costs less.
 //!
 //! A plan is short if it is lawful, has no more tours than there are required edges, and has at
 //! most 2,000,000 steps. Every plan that the engine makes is short. A search may begin with any
@@ -17,12 +16,10 @@ mod joining;
 mod laws;
 mod short_examples;
 mod short_laws;
-mod standing;
 mod stands;
 
 pub use costs::{cost_distances, lawful_cost, least_cost};
 pub use joining::{add_tour, join};
 pub use laws::{plans_are_tours, tours_are_linked};
 pub use short_laws::{short_plans_are_allowed, short_plans_cost_little};
-pub use standing::Standing;
 pub use stands::ends;

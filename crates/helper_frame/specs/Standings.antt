@@ -1,6 +1,6 @@
 -- The numbers that a helper keeps of itself.
 use Rattle.plan_model.specs.Offers.{Tally}
-use Rattle.task_tours.specs.declared.standing.Standing.{Standing}
+use Rattle.helper_frame.specs.declared.standing.Standing.{Standing}
 
 -- the numbers that an offer can change
 abbrev pub tally_of : Standing → Tally

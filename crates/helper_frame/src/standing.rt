@@ -44,10 +44,18 @@ impl Standing {
         };
     }
 
-    /// Counts that it is asked once more, at most 1,000 times since it was seeded. Until it offers a lawful plan there is no latest one.
+    /// Counts that it is asked once more, at most 1,000 times since it was seeded. Until it offers a lawful plan there is no latest
+    /// one.
     pub fn ask(&mut self)
         requires { self.old.asked < 1000 }
-        ensures { self.new ≡ record { id = self.old.id; seed = self.old.seed; asked = self.old.asked + 1; fouls = self.old.fouls; least = self.old.least; last = None } }
+        ensures { self.new ≡ record {
+          id = self.old.id;
+          seed = self.old.seed;
+          asked = self.old.asked + 1;
+          fouls = self.old.fouls;
+          least = self.old.least;
+          last = None;
+        } }
     {
         self.asked += 1;
         self.last = None;
@@ -55,7 +63,14 @@ impl Standing {
 
     /// Counts an offer of a lawful plan of this cost.
     pub fn offer(&mut self, cost: u128)
-        ensures { self.new ≡ record { id = self.old.id; seed = self.old.seed; asked = self.old.asked; fouls = self.old.fouls; least = smaller self.old.least (Some cost); last = Some cost } }
+        ensures { self.new ≡ record {
+          id = self.old.id;
+          seed = self.old.seed;
+          asked = self.old.asked;
+          fouls = self.old.fouls;
+          least = smaller self.old.least (Some cost);
+          last = Some cost;
+        } }
     {
         self.least = Some(self.least.map_or(cost, |least| least.min(cost)));
         self.last = Some(cost);
