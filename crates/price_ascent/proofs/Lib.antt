@@ -1,4 +1,2 @@
 pub mod Served
-pub mod Placed
-pub mod Listed
 pub mod Pushed

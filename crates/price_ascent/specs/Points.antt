@@ -1,15 +1,12 @@
 -- Shores whose weights move, and where an ascent stands. No public contract speaks of this.
-use Rattle.std.specs.Prelude.{◌≡◌, ◌<◌, ◌≤◌, ℕ, ℤ, List, length, map}
+use Rattle.std.specs.Prelude.{◌≡◌, ◌≤◌, ℤ, List, length}
 use Rattle.std.specs.List.{All}
-use Rattle.std.specs.List.Sorted.{IsStrictlyIncreasing}
 use Rattle.carp_base.specs.Problem.{Problem, IsRequired, IsValid}
 use Rattle.carp_base.specs.declared.edge.Task.{Task}
 use Rattle.cut_pool.specs.Shores.{Belongs}
 use Rattle.route_pricing.specs.Pricing.{Pricing, IsServicePrice}
 use Rattle.route_pricing.specs.Tables.{IsFilled}
 use Rattle.route_pricing.specs.declared.table.Table.{Table}
-use Rattle.branch_rules.specs.Limits.{IsFineWeight}
-use Rattle.branch_rules.specs.declared.weight.Weight.{Weight}
 use Rattle.price_ascent.specs.declared.active.Active.{Active}
 use Rattle.price_ascent.specs.declared.scoring.Point.{Point}
 use Rattle.price_ascent.specs.declared.scoring.Town.{Town}
@@ -44,10 +41,3 @@ pub record IsTown (town : Town) : Type 0 where
   pub valid : IsValid town.inst.now
   pub net : town.net.now ≡ town.inst.now
   pub allowed : town.allowed.now.size ≡ town.inst.now.required
-
--- weights on shores of rising numbers, all below one
-pub record AreListed (limit : ℕ) (weights : List Weight) : Type 0 where
-  pub fine : All IsFineWeight weights
-  pub below : All (λ w. w.shore < limit) weights
-  pub rising : IsStrictlyIncreasing (map (λ w. w.shore) weights)
-  pub few : length weights < limit

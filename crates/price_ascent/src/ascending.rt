@@ -11,7 +11,7 @@ ghost use Rattle.price_ascent.specs.Points.{IsActive};
 use crate::active::active_shores;
 use crate::climbing::Ascent;
 use crate::numbers::UNIT;
-use crate::placing::{list_weights, place_weights};
+use crate::placing::place_weights;
 use crate::scoring::Town;
 use crate::setting_out::start_point;
 use branch_rules::{Branch, PriceSet};
@@ -19,6 +19,7 @@ use carp_base::{Instance, Memory};
 use cut_pool::ShorePool;
 use road_network::Network;
 use route_pricing::Table;
+use shore_prices::list_weights;
 use std::alloc::Global;
 
 // How many fills of the table there are at most, and at least: an ascent of fewer is not worth its time.

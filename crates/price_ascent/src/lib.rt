@@ -7,7 +7,7 @@
 //! - `climbing`: the steps, with `pace` (their length, and when the ascent turns back or ends) and `slopes` (their direction).
 //! - `scoring`: a point made one that pays, with `scaling` (weights that no street is overloaded by) and `touring` (what tours cross).
 //! - `setting_out`: the points where an ascent begins. `active`: the shores whose weights move. `numbers`: arithmetic within limits.
-//! - `placing`: the shores with weights, placed in a pool, and the list of their weights.
+//! - `placing`: the shores with weights, placed in a pool.
 #![tactic(auto)]
 
 mod active;

@@ -1,12 +1,14 @@
 // The values of proposed sets on small towns, worked out by hand.
-ghost use Rattle.std.specs.Prelude.{◌≡◌, ◌≤◌};
+ghost use Rattle.std.specs.Prelude.{◌≡◌, ◌≤◌, All, length};
+ghost use Rattle.cut_pool.specs.Shores.{Belongs};
+ghost use Rattle.branch_rules.specs.Limits.{IsPriceNumber};
 
 use branch_rules::{Branch, Decision};
 use carp_base::Instance;
 use cut_pool::{Shore, ShorePool};
 use road_network::Network;
 use samples::street;
-use shore_prices::shore_prices;
+use shore_prices::{list_weights, place_weight, shore_prices};
 use std::alloc::Global;
 use std::process::Abort;
 use std::test::Fail;
@@ -72,5 +74,48 @@ fn a_decision_demands_more(rt: HostRuntime) -> Result<(), Fail> {
     let set = shore_prices(alloc, &inst, &net, &mut pool, &branch, 400)?;
     assert_eq!(rt; branch.value_at(&inst, &pool, &set), Ok(20_000_000));
     assert_eq!(rt; pool.len(), 1);
+    Ok(())
+}
+
+// Places the shore of one vertex with a weight.
+fn place(
+    rt: &impl Abort,
+    alloc: Global,
+    inst: &Instance,
+    pool: &mut ShorePool,
+    placed: &mut Vec<i64>,
+    vertex: u32,
+    weight: i64,
+) -> Result<(), Fail>
+    requires weight { IsPriceNumber weight }
+    requires belong { All (Belongs inst.now) pool.old }
+    requires within { All IsPriceNumber placed.old.items }
+    ensures belong { All (Belongs inst.now) pool.new }
+    ensures within { All IsPriceNumber placed.new.items }
+    ensures one_each { length placed.new.items ≡ length placed.old.items }
+{
+    let shore = Shore::from_list(alloc, &[vertex])?;
+    assert!(rt; shore.belongs(inst));
+    place_weight(inst, pool, placed, shore, weight)?;
+    Ok(())
+}
+
+// The shore of vertex 3 is placed twice: it keeps its number, and has the later weight. That of vertex 4 has the weight 0.
+#[test]
+fn weights_are_placed_and_listed(rt: HostRuntime) -> Result<(), Fail> {
+    let alloc = rt.alloc();
+    let streets = [street(1, 2, 3, 2), street(2, 3, 4, 2), street(3, 4, 1, 2)];
+    let inst = Instance::build(alloc, 4, 1, 2, &streets, &[])?;
+    let mut pool = ShorePool::new(alloc);
+    let mut placed = vec![in alloc; 0; 2001]?;
+    place(&rt, alloc, &inst, &mut pool, &mut placed, 3, 7)?;
+    place(&rt, alloc, &inst, &mut pool, &mut placed, 4, 0)?;
+    place(&rt, alloc, &inst, &mut pool, &mut placed, 2, -5)?;
+    place(&rt, alloc, &inst, &mut pool, &mut placed, 3, 9)?;
+    let listed = list_weights(alloc, &pool, &placed)?;
+    assert_eq!(rt; pool.len(), 3);
+    assert_eq!(rt; listed.len(), 2);
+    assert_eq!(rt; (listed[0].shore, listed[0].weight), (1, 9));
+    assert_eq!(rt; (listed[1].shore, listed[1].weight), (3, -5));
     Ok(())
 }

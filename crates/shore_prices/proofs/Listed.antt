@@ -1,14 +1,13 @@
 -- One more weight at the end of a list of weights.
-use Rattle.std.proofs.Common.{◌≡◌, ℕ, ◌+◌, ◌<◌, ◌≤◌, List, [], ◌∷◌, ◌++◌, length, map, get_or, arith, inl, inr, ℤ, pos, ◌<ℤ◌, ◌≤ℤ◌, sym, ap, ◌∙◌, subst}
+use Rattle.std.proofs.Common.{◌≡◌, ◌≢◌, ℕ, ◌+◌, ◌<◌, List, [], ◌∷◌, ◌++◌, length, map, get_or, arith, inl, inr, ℤ, pos, sym, subst}
 use Rattle.std.specs.List.{All}
 use Rattle.std.specs.List.Sorted.{IsStrictlyIncreasing}
 use Rattle.std.proofs.lemmas.Bool.{cases_lt}
-use Rattle.std.proofs.lemmas.Int.{ints}
-use Rattle.std.proofs.lemmas.List.{get_or_append_left, get_or_push, length_push, length-map, map-append}
+use Rattle.std.proofs.lemmas.List.{get_or_append_left, get_or_push, length_push, map-append}
 use Rattle.std.proofs.lemmas.List.Elements.{All-append, All-cons, All-map, All-nil, All-weaker}
-use Rattle.branch_rules.specs.Limits.{IsFineWeight}
+use Rattle.branch_rules.specs.Limits.{IsFineWeight, IsPriceNumber}
 use Rattle.branch_rules.specs.declared.weight.Weight.{Weight}
-use Rattle.shore_prices.specs.Offers.{AreListed, IsSmall}
+use Rattle.shore_prices.specs.Proposals.{AreListed}
 
 rising_push : (xs : List ℕ) (y : ℕ) → IsStrictlyIncreasing xs → All (λ x. x < y) xs → IsStrictlyIncreasing (xs ++ y ∷ [])
 rising_push xs y up below k less = elim (cases_lt (k + 1) (length xs)) [
@@ -32,13 +31,13 @@ still_listed limit weights are = record {
   few = omega (arith, are.few);
 }
 
-pub one_more : (limit : ℕ) (weights : List Weight) (weight : ℤ) → AreListed limit weights → IsSmall weight → pos 0 <ℤ weight → AreListed (limit + 1) (weights ++ record { shore = limit; weight = weight } ∷ [])
-one_more limit weights weight are small some =
+pub one_more : (limit : ℕ) (weights : List Weight) (weight : ℤ) → AreListed limit weights → IsPriceNumber weight → weight ≢ pos 0 → AreListed (limit + 1) (weights ++ record { shore = limit; weight = weight } ∷ [])
+one_more limit weights weight are within some =
     let last : Weight = record { shore = limit; weight = weight } in
     let fine : IsFineWeight last = record {
       from_one = omega (arith, are.few);
-      some = λ zero. omega (arith, ints, some, zero);
-      within = record { low = omega (arith, ints, small.low); high = omega (arith, ints, small.high) };
+      some = some;
+      within = within;
     } in
     let numbers : All (λ x. x < limit) (map (λ w. w.shore) weights) = All-map (λ x. x < limit) (λ (w : Weight). w.shore) weights are.below in
     record {

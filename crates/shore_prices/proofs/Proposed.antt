@@ -10,8 +10,7 @@ use Rattle.cut_pool.specs.Shores.{Belongs}
 use Rattle.branch_rules.specs.Limits.{IsPriceNumber, IsPriceSet, IsShoreOf}
 use Rattle.branch_rules.specs.Prices.{Prices}
 use Rattle.branch_rules.specs.declared.weight.Weight.{Weight}
-use Rattle.shore_prices.specs.Offers.{AreListed}
-use Rattle.shore_prices.specs.Proposals.{IsProposal}
+use Rattle.shore_prices.specs.Proposals.{AreListed, IsProposal}
 use Rattle.shore_prices.proofs.Levels.{service_small}
 
 services_count : (p : Problem) → IsValid p → length (map (λ x. pos (1000000 * x.service)) (required_edges p)) ≡ p.required

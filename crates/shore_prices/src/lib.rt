@@ -5,11 +5,12 @@
 //! looks in rounds for shores that its corner leaves short. It proposes: whether a set fits is for the pricing table to say.
 //!
 //! - `rounds`: the program over the shores found so far, and when the search for more ends.
-//! - `placing`: the shores with weights, placed in a pool, and the list of their weights.
+//! - `placing`: the shores with weights, placed in a pool, and the list of their weights, for others that propose too.
 #![tactic(auto)]
 
 mod placing;
 mod proposing;
 mod rounds;
 
+pub use placing::{list_weights, place_weight};
 pub use proposing::shore_prices;

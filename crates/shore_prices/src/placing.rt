@@ -1,12 +1,13 @@
 // Shores with weights that are placed in a pool, and the list of their weights.
-ghost use Rattle.std.specs.Prelude.{◌≡◌, ◌+◌, ◌≤◌, All, IfOk, OnOk, OnErr, length};
+ghost use Rattle.std.specs.Prelude.{◌≡◌, ◌+◌, ◌≤◌, All, IfOk, length};
 ghost use Rattle.cut_pool.specs.Shores.{Belongs};
-ghost use Rattle.shore_prices.specs.Offers.{AreListed, IsOffer, IsSmall};
-ghost use Rattle.shore_prices.specs.Proposals.{IsGrown};
+ghost use Rattle.branch_rules.specs.Limits.{IsPriceNumber};
+ghost use Rattle.shore_prices.specs.Offers.{IsOffer};
+ghost use Rattle.shore_prices.specs.Proposals.{AreListed, IsGrown};
 
 use branch_rules::Weight;
 use carp_base::{Fail, Instance, Memory};
-use cut_pool::{PoolFull, ShorePool, Weighted};
+use cut_pool::{PoolFull, Shore, ShorePool, Weighted};
 use std::alloc::Global;
 
 // How many shores a pool holds at most.
@@ -21,37 +22,44 @@ pub(crate) fn place_weights(
 ) -> Result<Vec<i64>, Memory>
     requires offers { All (IsOffer inst.now) shores.items }
     requires belong { All (Belongs inst.now) pool.old }
-    ensures one_each { IfOk result (λ weights. length weights.items ≡ 2001) }
-    ensures small { IfOk result (λ weights. All IsSmall weights.items) }
+    ensures one_each { IfOk result (λ placed. length placed.items ≡ 2001) }
+    ensures within { IfOk result (λ placed. All IsPriceNumber placed.items) }
     ensures grown { IsGrown pool.old pool.new }
     ensures belong { All (Belongs inst.now) pool.new }
 {
-    let mut weights = vec![in alloc; 0; MOST + 1]?;
+    let mut placed = vec![in alloc; 0; MOST + 1]?;
     for weighted in shores {
-        place_weight(inst, pool, &mut weights, weighted)?;
+        let weight = weighted.weight;
+        place_weight(inst, pool, &mut placed, weighted.shore, weight)?;
     }
-    Ok(weights)
+    Ok(placed)
 }
 
-// Places a shore, and notes its weight under its number. Where the pool is full it loses its weight.
-fn place_weight(
+/// Places a shore of the instance in a pool, and writes its weight into `placed`, at the place of its number there. If the pool is
+/// full or `placed` ends before that place, the weight is lost.
+///
+/// It asks for a pool of shores that belong to the instance, and for weights within 10^15 either way. A shore that the pool holds keeps
+/// its number; a new one stands behind the others. The one error is want of memory, and leaves `placed` as it was. It takes expected
+/// time in proportion to the number of the shore's vertices.
+pub fn place_weight(
     inst: &Instance,
     pool: &mut ShorePool,
-    weights: &mut [i64],
-    weighted: Weighted,
+    placed: &mut [i64],
+    shore: Shore,
+    weight: i64,
 ) -> Result<(), Memory>
-    requires offer { IsOffer inst.now weighted }
+    requires shore { Belongs inst.now shore }
+    requires weight { IsPriceNumber weight }
     requires belong { All (Belongs inst.now) pool.old }
-    requires small { All IsSmall weights.old }
-    ensures small { All IsSmall weights.new }
-    ensures one_each { length weights.new ≡ length weights.old }
+    requires within { All IsPriceNumber placed.old }
+    ensures within { All IsPriceNumber placed.new }
+    ensures one_each { length placed.new ≡ length placed.old }
     ensures grown { IsGrown pool.old pool.new }
     ensures belong { All (Belongs inst.now) pool.new }
 {
-    let weight = weighted.weight;
-    match pool.add(weighted.shore) {
+    match pool.add(shore) {
         Ok(number) => {
-            note(weights, number, weight);
+            note(placed, number, weight);
             Ok(())
         }
         Err(Fail::Memory) => Err(Memory),
@@ -60,33 +68,33 @@ fn place_weight(
 }
 
 // Notes the weight of a shore under its number.
-fn note(weights: &mut [i64], number: u32, weight: i64)
-    requires weight { IsSmall weight }
-    requires small { All IsSmall weights.old }
-    ensures small { All IsSmall weights.new }
-    ensures one_each { length weights.new ≡ length weights.old }
+fn note(placed: &mut [i64], number: u32, weight: i64)
+    requires weight { IsPriceNumber weight }
+    requires within { All IsPriceNumber placed.old }
+    ensures within { All IsPriceNumber placed.new }
+    ensures one_each { length placed.new ≡ length placed.old }
 {
     let place = number as usize;
-    if place < weights.len() {
-        weights[place] = weight;
+    if place < placed.len() {
+        placed[place] = weight;
     }
 }
 
-// The weights above 0, by rising numbers of their shores.
-pub(crate) fn list_weights(
-    alloc: Global,
-    pool: &ShorePool,
-    weights: &[i64],
-) -> Result<Vec<Weight>, Memory>
-    requires one_each { length weights.now ≡ 2001 }
-    requires small { All IsSmall weights.now }
+/// The weights in `placed` that are not 0, each on the shore of the number that is its place, by rising numbers, for the shores of the
+/// pool.
+///
+/// It asks for 2,001 weights within 10^15 either way, one for each number that a pool can have and one for 0, which is no number. The
+/// one error is want of memory. It takes time in proportion to the number of shores.
+pub fn list_weights(alloc: Global, pool: &ShorePool, placed: &[i64]) -> Result<Vec<Weight>, Memory>
+    requires one_each { length placed.now ≡ 2001 }
+    requires within { All IsPriceNumber placed.now }
     ensures listed { IfOk result (λ listed. AreListed (length pool.now + 1) listed.items) }
     ensures few { length pool.now ≤ 2000 }
 {
     let mut listed = Vec::new(alloc);
     for shore in 1..pool.len() + 1 {
-        let weight = weights[shore as usize];
-        if weight > 0 {
+        let weight = placed[shore as usize];
+        if weight != 0 {
             listed.push(Weight { shore, weight })?;
         }
     }

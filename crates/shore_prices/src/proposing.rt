@@ -1,4 +1,4 @@
-// The public call.
+// The call that proposes.
 ghost use Rattle.std.specs.Prelude.{◌≡◌, ◌*◌, ◌≤◌, All, IfOk, map, pos};
 ghost use Rattle.carp_base.specs.Problem.{required_edges};
 ghost use Rattle.cut_pool.specs.Shores.{Belongs};
@@ -41,8 +41,8 @@ pub fn shore_prices(
     ensures belong { All (Belongs inst.now) pool.new }
 {
     let shores = weighted_shores(alloc, inst, net, pool, branch, rounds)?;
-    let weights = place_weights(alloc, inst, pool, shores)?;
-    let listed = list_weights(alloc, pool, &weights)?;
+    let placed = place_weights(alloc, inst, pool, shores)?;
+    let listed = list_weights(alloc, pool, &placed)?;
     let services = service_prices(alloc, inst)?;
     // What a read of the instance says is needed: that it is valid.
     let _ = inst.vertices();

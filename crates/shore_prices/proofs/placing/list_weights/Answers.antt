@@ -1,10 +1,10 @@
 use Rattle.std.proofs.Common.{rules}
 use Rattle.shore_prices.proofs.Listed.{one_more, still_listed}
 use Rattle.shore_prices.proofs.placing.list_weights.Goals as goal
-use Rattle.shore_prices.proofs.placing.list_weights.Goals.{then-weight-gt0+in_ok-push, else-weight-gt0}
+use Rattle.shore_prices.proofs.placing.list_weights.Goals.{then-weight-ne0+in_ok-push, else-weight-ne0}
 
 pub loop-shore-preserved : goal.loop-shore-preserved
-loop-shore-preserved c = elim c.if-weight-gt0.branch [
-  | then-weight-gt0+in_ok-push w ↦ search (rules, one_more)
-  | else-weight-gt0 w ↦ search (rules, still_listed)
+loop-shore-preserved c = elim c.if-weight-ne0.branch [
+  | then-weight-ne0+in_ok-push w ↦ search (rules, one_more)
+  | else-weight-ne0 w ↦ search (rules, still_listed)
 ]

@@ -1,4 +1,4 @@
-use Rattle.shore_prices.specs.Offers.{AreListed}
+use Rattle.shore_prices.specs.Proposals.{AreListed}
 use Rattle.shore_prices.proofs.placing.list_weights.Given as goal
 
 abbrev pub invariant-loop-shore : goal.invariant-loop-shore
