@@ -6,7 +6,7 @@ use Rattle.carp_base.specs.declared.fail.Fail.{Fail}
 use Rattle.carp_base.specs.declared.fail.Fail.TheVariants.{Refused}
 use Rattle.cert_lines.specs.Texts as certificates
 use Rattle.command_words.specs.Commands.{Command, Solve, Check, Sheet, Make, Drill, Upgrade, Postman, Fleet, Edit, Source, asks_helpers, keeps, reads, seed_of}
-use Rattle.command_jobs.specs.Files.{HeldIn, OfSomeBytes}
+use Rattle.command_jobs.specs.Files.{GivenIn, HeldIn}
 use Rattle.command_jobs.specs.Reads.{IsTried}
 use Rattle.command_jobs.specs.declared.status.Status.{Status}
 use Rattle.command_jobs.specs.declared.status.Status.TheVariants.{BadUsage}
@@ -63,10 +63,11 @@ held_apart contents = record {
   };
 }
 
-some_apart : AreApart OfSomeBytes
-some_apart = record { facts = λ file cert edits x from. facts file cert edits x from } where
-  facts : (file cert edits : List ℕ) (x : Edited) → IsEditedFrom file cert edits OfSomeBytes x → AreEdited OfSomeBytes file cert edits x.before (certificate_in x.cert) x.edits.items
-  facts file cert edits x (a, (b, (c, is))) = record { read = (a, is.read); certified = (b, is.certified); edits_read = (c, is.edits_read); good = is.is.good }
+given_apart : (before now : ℕ) → AreApart (GivenIn before now)
+given_apart before now = record { facts = λ file cert edits x from. facts file cert edits x from } where
+  facts : (file cert edits : List ℕ) (x : Edited) → IsEditedFrom file cert edits (GivenIn before now) x
+      → AreEdited (GivenIn before now) file cert edits x.before (certificate_in x.cert) x.edits.items
+  facts file cert edits x (a, ra, (b, rb, (c, rc, is))) = record { read = (a, ra, is.read); certified = (b, rb, is.certified); edits_read = (c, rc, is.edits_read); good = is.is.good }
 
 module _ (Reads : Source → (List ℕ → Type 0) → Type 0) (offered : List (Option ℕ)) (status : Status) (work : Work) where
   solved : (file cert : List ℕ) (turns seed : ℕ) (job : Job) → IsFor (Solve file cert turns seed) job → WasRead Reads (Solve file cert turns seed) job
@@ -276,12 +277,12 @@ IsTriedFor held c found gb gn result =
     (IsRefused c found.contents) (CanBeDone c found.contents) result
 
 -- a job of a command was done
-pub job_prepared : {held : Bool} {c : Command} {found : Finding} {gb gn : ℕ} (job : Job) (status : Status) (work : Work) → IsJobOf held c found.contents job
+pub job_prepared : {held : Bool} {c : Command} {found : Finding} {gb gn : ℕ} (job : Job) (status : Status) (work : Work) → IsJobOf held c found.contents gb gn job
     → IsTriedFor held c found gb gn (Ok job) → IsMade job found.offered status work → IsPrepared held (Some c) found gb gn status work
-job_prepared {held} {c} {found} job status work is tried made =
-    let rests = performed OfSomeBytes found.offered status work some_apart c job is.is_for is.sound is.founded made in
+job_prepared {held} {c} {found} {gb} {gn} job status work is tried made =
+    let rests = performed (GivenIn gb gn) found.offered status work (given_apart gb gn) c job is.is_for is.sound is.founded made in
     let reports : HasReport status = done_reports c status rests.status_is in record {
-      right = λ known. inr (inr (rests.status_is, (performed (HeldIn found.contents) found.offered status work (held_apart found.contents) c job is.is_for is.sound (read_or_told found.contents c job is.was_read is.founded known) made).done));
+      right = λ known. inr (inr (rests.status_is, (performed (HeldIn found.contents) found.offered status work (held_apart found.contents) c job is.is_for is.sound (read_or_told {Reads = GivenIn gb gn} found.contents c job is.was_read is.founded known) made).done));
       founded = inr (rests.status_is, rests.done);
       refusal = λ no. absurd (no reports);
       written = λ is. subst HasReport is reports;

@@ -17,7 +17,7 @@ use Rattle.command_jobs.specs.declared.status.Status.TheVariants.{BadUsage, Read
 -- an answer with its work: it is founded, whatever is told; and if what the command reads is told, it is right for what was found
 pub record IsAnswer (held : Bool) (command : Option Command) (before now : Outside) (status : Status) (work : Work) : Type 0 where
   pub right : IsKnown held command → IsRightOf command (found before now) status work
-  pub founded : IsFoundedOf command now.offered status work
+  pub founded : IsFoundedOf command before.given now.given now.offered status work
   pub refusal : ¬ (HasReport status) → work ≡ refusal_work status
 
 -- an answer was given whole: what it keeps is kept, and its text is written

@@ -49,11 +49,12 @@ use std::alloc::Global;
 /// each answer comes, and `Leaves` what stands after it. What it says of the contents of names and of what was written holds where the
 /// shelf and the sink tell it, as [`carp_outside::MemShelf`] and [`carp_outside::MemSink`] do.
 ///
-/// Over [`crate::DirShelf`] and [`crate::StdSink`] it says that each answer is founded (`specs/Founded.antt`): a refusal is one of those that the command has, `make` and `drill` are never
-/// refused, and what a command says when it is done is so of some bytes. A certificate is accepted only if some bytes spell an instance and some a certificate that is good for
-/// it, with the cost and the bound that are to be printed; a sheet, an upgrade and an edit rest on such a certificate, a solution, a round and a fleet on such an instance. It
-/// says, too, which count rose where an answer is a fault, and what becomes of the helpers. It does not say that these are the bytes of the named files, nor that what is to be
-/// kept and written arrives there.
+/// Over [`crate::DirShelf`] and [`crate::StdSink`] it says that each answer is founded (`specs/Founded.antt`): a refusal is one of those that
+/// the command has, `make` and `drill` are never refused, and what a command says when it is done is so of bytes that the shelf gave in this
+/// call: its count of given bytes rose by at least the length of each text. A certificate is accepted only if such bytes spell an instance, and
+/// such bytes a certificate that is good for it, with the cost and the bound that are to be printed; a sheet, an upgrade and an edit rest on
+/// such a certificate, a solution, a round and a fleet on such an instance. It says, too, which count rose where an answer is a fault, and what
+/// becomes of the helpers. It does not say that these are the bytes of the named files, nor that what is to be kept and written arrives there.
 pub fn run<H: Shelf, O: Sink>(
     alloc: Global,
     words: &[String],

@@ -6,10 +6,11 @@ use Rattle.std.specs.declared.vec.Vec.{Vec}
 use Rattle.carp_base.specs.declared.fail.Fail.{Fail}
 use Rattle.carp_base.specs.declared.fail.Fail.TheVariants.{Refused, Memory as NoMemory}
 use Rattle.command_words.specs.Commands.{Source}
-use Rattle.command_jobs.specs.Files.{Holds, IsTooLong, OfSomeBytes}
+use Rattle.command_jobs.specs.Files.{GivenIn, Holds, IsTooLong}
 use Rattle.command_jobs.specs.Reads.{AreBytes, NoneIsBad, EachIsGood, IsFileRead, IsOfBytes, IsOfNone, IsParsed}
 use Rattle.command_jobs.specs.declared.status.Status.{Status}
 use Rattle.command_jobs.specs.declared.status.Status.TheVariants.{ReadFault, TooLong}
+use Rattle.command_jobs.proofs.Given.{founded_by}
 
 -- what is so of what is there
 pub of_some : {X : Type 0} {P Q : X → Type 0} (o : Option X) → IsSomeAnd o P → ((x : X) → P x → Q x) → IsSomeAnd o Q
@@ -49,12 +50,12 @@ not_too_long source contents P R holds long =
 -- what is made of the bytes that a file holds
 pub file_parsed : {X : Type 0} {held : Bool} {source : Source} {contents : List ℕ → Option (List ℕ)} {lb ln : List ℕ → ℕ} {gb gn : ℕ}
     {Of : Status → Type 0} {Is : List ℕ → X → Type 0} {Bad : List ℕ → Status → Type 0} {Good : List ℕ → Type 0} (r : Result X (Fail Status)) →
-    (IsTrue held → Holds source contents (λ bytes. IsParsed bytes Is Bad Good r)) → IfOk r (λ x. OfSomeBytes source (λ bytes. Is bytes x)) →
+    (IsTrue held → Holds source contents (λ bytes. IsParsed bytes Is Bad Good r)) → IfOk r (λ x. GivenIn gb gn source (λ bytes. Is bytes x)) →
     ((status : Status) → IsErrOf r (Refused status) → IsOfBytes status) → ((status : Status) → IsErrOf r (Refused status) → Of status) →
     IsFileRead held source contents lb ln gb gn Of Is Bad Good r
-file_parsed {X} {held} {source} {contents} {lb} {ln} {gb} {gn} {Of} {Is} {Bad} {Good} r parsed some refusal kind = record {
+file_parsed {X} {held} {source} {contents} {lb} {ln} {gb} {gn} {Of} {Is} {Bad} {Good} r parsed founded refusal kind = record {
   made = λ told. made_of r (parsed told);
-  some = some;
+  founded = founded;
   tried = record {
     refusal = λ status e. inr (kind status e);
     read = λ e. absurd (refusal ReadFault e);
@@ -78,12 +79,10 @@ pub read_then : {X : Type 0} {held : Bool} {source : Source} {contents : List �
     (v : Vec ℕ Global) (bytes : List ℕ) (r : Result X (Fail Status)) → bytes ≡ v.items →
     IsFileRead held source contents lb ln gb gn IsOfNone AreBytes NoneIsBad EachIsGood (made (Vec ℕ Global) v) → IsParsed bytes Is Bad Good r →
     IsFileRead held source contents lb ln gb gn Of Is Bad Good r
-read_then {X = X} {source = source} {contents = contents} {Is = Is} {Bad = Bad} {Good = Good} kind v bytes r are whole parsed =
+read_then {X = X} {source = source} {contents = contents} {gb = gb} {gn = gn} {Is = Is} {Bad = Bad} {Good = Good} kind v bytes r are whole parsed =
     file_parsed r (λ told. of_some (contents source.name) (whole.made told) (λ own held. (held.0, subst (λ b. IsParsed b Is Bad Good r) (are ∙ held.1) parsed)))
-    (some_of r parsed.made) parsed.refusal (λ status e. kind bytes status (parsed.refused status e)) where
-      some_of : (r : Result X (Fail Status)) → IfOk r (Is bytes) → IfOk r (λ x. OfSomeBytes source (λ bytes. Is bytes x))
-      some_of (Ok x) is = (bytes, is)
-      some_of (Err e) is = tt
+    (founded_by {source = source} {P = Is} {Q = Is} gb gn gn v r (omega arith) whole.founded (λ bytes x is. is) (subst (λ b. IfOk r (Is b)) are parsed.made))
+    parsed.refusal (λ status e. kind bytes status (parsed.refused status e))
 
 -- the bytes of a file are not to be had
 pub read_stops : {X : Type 0} {held : Bool} {source : Source} {contents : List ℕ → Option (List ℕ)} {lb ln : List ℕ → ℕ} {gb gn : ℕ}
@@ -92,7 +91,7 @@ pub read_stops : {X : Type 0} {held : Bool} {source : Source} {contents : List �
     IsFileRead held source contents lb ln gb gn Of Is Bad Good (failed X f)
 read_stops {X} {source = source} {contents = contents} {Bad = Bad} f whole = record {
   made = λ told. tt;
-  some = tt;
+  founded = tt;
   tried = record {
     refusal = λ status e. of_file (whole.tried.refusal status (again e));
     read = λ e. whole.tried.read (again e);

@@ -13,14 +13,8 @@ use Rattle.command_jobs.specs.Reads.{IsFileRead, IsOfCertificate, IsOfFile, IsOf
 use Rattle.command_jobs.specs.declared.status.Status.{Status}
 use Rattle.command_jobs.specs.declared.status.Status.TheVariants.{ReadFault}
 use Rattle.command_jobs.specs.Inputs.{IsBadPair, IsGoodPair, IsOfPair, IsUnreadPair}
+use Rattle.command_jobs.proofs.Given.{rose_since, rose_until}
 use Rattle.command_jobs.proofs.Results.{again, failed, made, of_both, of_some}
-
--- counts that rose later rose
-rose_since : (n before mid now : ℕ) → before ≤ mid → RoseBy n mid now → RoseBy n before now
-rose_since n before mid now later rose = omega (arith, later, rose)
-
-rose_until : (n before mid now : ℕ) → mid ≤ now → RoseBy n before mid → RoseBy n before now
-rose_until n before mid now later rose = omega (arith, later, rose)
 
 -- the reading of a file by equal contents
 pub by_contents : {X : Type 0} {held : Bool} {source : Source} {c d : List ℕ → Option (List ℕ)} {lb ln : List ℕ → ℕ} {gb gn : ℕ}
@@ -28,7 +22,7 @@ pub by_contents : {X : Type 0} {held : Bool} {source : Source} {c d : List ℕ �
     IsFileRead held source c lb ln gb gn Of Is Bad Good r → IsFileRead held source d lb ln gb gn Of Is Bad Good r
 by_contents {source = source} {c = c} {d = d} {Is = Is} {Bad = Bad} {Good = Good} {r = r} same file = record {
   made = λ told. subst (λ e. IfOk r (λ x. HeldIn e source (λ bytes. Is bytes x))) (same told) (file.made told);
-  some = file.some;
+  founded = file.founded;
   tried = record {
     refusal = file.tried.refusal;
     read = file.tried.read;

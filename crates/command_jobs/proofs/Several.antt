@@ -11,6 +11,7 @@ use Rattle.command_jobs.specs.Files.{HasLimit, HeldIn, Holds, IsBadFile, RoseAtS
 use Rattle.command_jobs.specs.Reads.{AreBytes, EachIsGood, IsFileRead, IsOfFile, IsOfNone, IsParsed, IsTried, NoneIsBad}
 use Rattle.command_jobs.specs.declared.status.Status.{Status}
 use Rattle.command_jobs.specs.declared.status.Status.TheVariants.{ReadFault, TooLong}
+use Rattle.command_jobs.proofs.Given.{rose_since, rose_until}
 
 pub of_some : {X : Type 0} {P Q : X → Type 0} (o : Option X) → IsSomeAnd o P → ((x : X) → P x → Q x) → IsSomeAnd o Q
 of_some None none f = none
@@ -93,13 +94,6 @@ tried_alone {U = U} {H = H} r tried = record {
   only : U ⊎ (H × ⊥) → U
   only (inl unread) = unread
   only (inr none) = absurd none.1
-
--- counts that rose later, or until earlier, rose
-rose_since : (n before mid now : ℕ) → before ≤ mid → RoseBy n mid now → RoseBy n before now
-rose_since n before mid now later rose = omega (arith, later, rose)
-
-rose_until : (n before mid now : ℕ) → mid ≤ now → RoseBy n before mid → RoseBy n before now
-rose_until n before mid now later rose = omega (arith, later, rose)
 
 some_since : (sources : List Source) (before mid now : List ℕ → ℕ) → ((name : List ℕ) → before name ≤ mid name) → RoseAtSome sources mid now → RoseAtSome sources before now
 some_since [] before mid now later rose = rose

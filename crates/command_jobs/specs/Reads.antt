@@ -22,7 +22,7 @@ use Rattle.postman.specs.declared.fault.PostmanFault.TheVariants as faults
 use Rattle.command_words.specs.Commands.{Source}
 use Rattle.command_jobs.specs.declared.reading.Stated.{Stated}
 use Rattle.command_jobs.specs.declared.rounds.Laid.{Laid}
-use Rattle.command_jobs.specs.Files.{HeldIn, Holds, IsBadFile, HasLimit, OfSomeBytes, RoseAtSome}
+use Rattle.command_jobs.specs.Files.{GivenIn, HeldIn, Holds, IsBadFile, HasLimit, RoseAtSome}
 use Rattle.command_jobs.specs.declared.status.Status.{Status}
 use Rattle.command_jobs.specs.declared.status.Status.TheVariants.{BadInstance, BadCertificate, BadEdit, NotJoined, Rejected, ReadFault, TooLong}
 
@@ -86,7 +86,7 @@ pub record IsTried {X : Type 0} (held : Bool) (sources : List Source) (looks_bef
 pub record IsFileRead {X : Type 0} (held : Bool) (source : Source) (contents : List ℕ → Option (List ℕ)) (looks_before looks_now : List ℕ → ℕ) (given_before given_now : ℕ)
     (Of : Status → Type 0) (Is : List ℕ → X → Type 0) (Bad : List ℕ → Status → Type 0) (Good : List ℕ → Type 0) (result : Result X (Fail Status)) : Type 0 where
   pub made : IsTrue held → IfOk result (λ x. HeldIn contents source (λ bytes. Is bytes x))
-  pub some : IfOk result (λ x. OfSomeBytes source (λ bytes. Is bytes x))
+  pub founded : IfOk result (λ x. GivenIn given_before given_now source (λ bytes. Is bytes x))
   pub tried : IsTried held (source ∷ []) looks_before looks_now given_before given_now (λ status. IsOfFile status ⊎ Of status) (Rose (looks_before source.name) (looks_now source.name))
       (IsBadFile Bad source contents) (Holds source contents Good) result
 

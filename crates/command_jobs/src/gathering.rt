@@ -24,7 +24,7 @@ use std::alloc::Global;
 ///
 /// A refusal is [`Status::ReadFault`] or [`Status::TooLong`], or one for the bytes of the files that the command reads: [`Status::BadInstance`] of an instance,
 /// [`Status::BadCertificate`] or [`Status::Rejected`] of a certificate, [`Status::BadEdit`] of edits, and [`Status::NotJoined`] of `postman` alone. Whether or not the shelf
-/// tells its contents, the job rests on some bytes that were read so: the certificate of a check, a sheet, an upgrade and an edit is good for the instance. Where it tells them, these are
+/// tells its contents, the job rests on bytes that it gave in this call: the certificate of a check, a sheet, an upgrade and an edit is good for the instance. Where it tells them, these are
 /// the bytes that the names hold, and what they hold decides, if no look failed at a file that had to be looked at.
 ///
 /// `Fail::Memory` says only that memory was not to be had. It takes the time of reading the files and checking the certificate, for `postman` also of the round, and for `edit` of the
@@ -35,7 +35,7 @@ pub fn gather<'a, H: Shelf>(
     shelf: &mut H,
 ) -> Result<Job<'a>, Fail<Status>>
     requires { HasBudget (command_in command) }
-    ensures job { IfOk result (IsJobOf H.tells (command_in command.entry) (H.contents shelf.old)) }
+    ensures job { IfOk result (IsJobOf H.tells (command_in command.entry) (H.contents shelf.old) (H.given shelf.old) (H.given shelf.new)) }
     ensures tried { IsTried H.tells (reads (command_in command.entry)) (H.failed_looks shelf.old) (H.failed_looks shelf.new) (H.given shelf.old) (H.given shelf.new) (IsRefusalOf (command_in command.entry)) (IsUnread (command_in command.entry) (H.contents shelf.old) (H.failed_looks shelf.old) (H.failed_looks shelf.new)) (IsRefused (command_in command.entry) (H.contents shelf.old)) (CanBeDone (command_in command.entry) (H.contents shelf.old)) result }
     ensures contents { IsTrue H.tells → SameContents (H.contents shelf.old) (H.contents shelf.new) }
     ensures keeps { H.failed_keeps shelf.new ≡ H.failed_keeps shelf.old }
@@ -79,7 +79,7 @@ fn gather_instance<'a, H: Shelf>(
 ) -> Result<Job<'a>, Fail<Status>>
     requires some_turns { 1 ≤ turns }
     requires turns_in_range { turns ≤ 1048576 }
-    ensures job { IfOk result (IsJobOf H.tells (Solve file.now cert.now turns seed) (H.contents shelf.old)) }
+    ensures job { IfOk result (IsJobOf H.tells (Solve file.now cert.now turns seed) (H.contents shelf.old) (H.given shelf.old) (H.given shelf.new)) }
     ensures tried { IsTried H.tells (reads (Solve file.now cert.now turns seed)) (H.failed_looks shelf.old) (H.failed_looks shelf.new) (H.given shelf.old) (H.given shelf.new) (IsRefusalOf (Solve file.now cert.now turns seed)) (IsUnread (Solve file.now cert.now turns seed) (H.contents shelf.old) (H.failed_looks shelf.old) (H.failed_looks shelf.new)) (IsRefused (Solve file.now cert.now turns seed) (H.contents shelf.old)) (CanBeDone (Solve file.now cert.now turns seed) (H.contents shelf.old)) result }
     ensures contents { IsTrue H.tells → SameContents (H.contents shelf.old) (H.contents shelf.new) }
     ensures keeps { H.failed_keeps shelf.new ≡ H.failed_keeps shelf.old }
@@ -102,7 +102,7 @@ fn gather_checked<'a, H: Shelf>(
     cert: &str,
     shelf: &mut H,
 ) -> Result<Job<'a>, Fail<Status>>
-    ensures job { IfOk result (IsJobOf H.tells (Check file.now cert.now) (H.contents shelf.old)) }
+    ensures job { IfOk result (IsJobOf H.tells (Check file.now cert.now) (H.contents shelf.old) (H.given shelf.old) (H.given shelf.new)) }
     ensures tried { IsTried H.tells (reads (Check file.now cert.now)) (H.failed_looks shelf.old) (H.failed_looks shelf.new) (H.given shelf.old) (H.given shelf.new) (IsRefusalOf (Check file.now cert.now)) (IsUnread (Check file.now cert.now) (H.contents shelf.old) (H.failed_looks shelf.old) (H.failed_looks shelf.new)) (IsRefused (Check file.now cert.now) (H.contents shelf.old)) (CanBeDone (Check file.now cert.now) (H.contents shelf.old)) result }
     ensures contents { IsTrue H.tells → SameContents (H.contents shelf.old) (H.contents shelf.new) }
     ensures keeps { H.failed_keeps shelf.new ≡ H.failed_keeps shelf.old }
@@ -128,7 +128,7 @@ fn gather_plan<'a, H: Shelf>(
     cert: &str,
     shelf: &mut H,
 ) -> Result<Job<'a>, Fail<Status>>
-    ensures job { IfOk result (IsJobOf H.tells (Sheet file.now cert.now) (H.contents shelf.old)) }
+    ensures job { IfOk result (IsJobOf H.tells (Sheet file.now cert.now) (H.contents shelf.old) (H.given shelf.old) (H.given shelf.new)) }
     ensures tried { IsTried H.tells (reads (Sheet file.now cert.now)) (H.failed_looks shelf.old) (H.failed_looks shelf.new) (H.given shelf.old) (H.given shelf.new) (IsRefusalOf (Sheet file.now cert.now)) (IsUnread (Sheet file.now cert.now) (H.contents shelf.old) (H.failed_looks shelf.old) (H.failed_looks shelf.new)) (IsRefused (Sheet file.now cert.now) (H.contents shelf.old)) (CanBeDone (Sheet file.now cert.now) (H.contents shelf.old)) result }
     ensures contents { IsTrue H.tells → SameContents (H.contents shelf.old) (H.contents shelf.new) }
     ensures keeps { H.failed_keeps shelf.new ≡ H.failed_keeps shelf.old }
@@ -155,7 +155,7 @@ fn gather_renewed<'a, H: Shelf>(
     renewed: &'a str,
     shelf: &mut H,
 ) -> Result<Job<'a>, Fail<Status>>
-    ensures job { IfOk result (IsJobOf H.tells (Upgrade file.now cert.now renewed.now) (H.contents shelf.old)) }
+    ensures job { IfOk result (IsJobOf H.tells (Upgrade file.now cert.now renewed.now) (H.contents shelf.old) (H.given shelf.old) (H.given shelf.new)) }
     ensures tried { IsTried H.tells (reads (Upgrade file.now cert.now renewed.now)) (H.failed_looks shelf.old) (H.failed_looks shelf.new) (H.given shelf.old) (H.given shelf.new) (IsRefusalOf (Upgrade file.now cert.now renewed.now)) (IsUnread (Upgrade file.now cert.now renewed.now) (H.contents shelf.old) (H.failed_looks shelf.old) (H.failed_looks shelf.new)) (IsRefused (Upgrade file.now cert.now renewed.now) (H.contents shelf.old)) (CanBeDone (Upgrade file.now cert.now renewed.now) (H.contents shelf.old)) result }
     ensures contents { IsTrue H.tells → SameContents (H.contents shelf.old) (H.contents shelf.new) }
     ensures keeps { H.failed_keeps shelf.new ≡ H.failed_keeps shelf.old }
@@ -189,7 +189,7 @@ fn gather_round<'a, H: Shelf>(
     file: &str,
     shelf: &mut H,
 ) -> Result<Job<'a>, Fail<Status>>
-    ensures job { IfOk result (IsJobOf H.tells (Postman file.now) (H.contents shelf.old)) }
+    ensures job { IfOk result (IsJobOf H.tells (Postman file.now) (H.contents shelf.old) (H.given shelf.old) (H.given shelf.new)) }
     ensures tried { IsTried H.tells (reads (Postman file.now)) (H.failed_looks shelf.old) (H.failed_looks shelf.new) (H.given shelf.old) (H.given shelf.new) (IsRefusalOf (Postman file.now)) (IsUnread (Postman file.now) (H.contents shelf.old) (H.failed_looks shelf.old) (H.failed_looks shelf.new)) (IsRefused (Postman file.now) (H.contents shelf.old)) (CanBeDone (Postman file.now) (H.contents shelf.old)) result }
     ensures contents { IsTrue H.tells → SameContents (H.contents shelf.old) (H.contents shelf.new) }
     ensures keeps { H.failed_keeps shelf.new ≡ H.failed_keeps shelf.old }
@@ -209,7 +209,7 @@ fn gather_fleet<'a, H: Shelf>(
 ) -> Result<Job<'a>, Fail<Status>>
     requires some_turns { 1 ≤ turns }
     requires turns_in_range { turns ≤ 1048576 }
-    ensures job { IfOk result (IsJobOf H.tells (Fleet file.now turns) (H.contents shelf.old)) }
+    ensures job { IfOk result (IsJobOf H.tells (Fleet file.now turns) (H.contents shelf.old) (H.given shelf.old) (H.given shelf.new)) }
     ensures tried { IsTried H.tells (reads (Fleet file.now turns)) (H.failed_looks shelf.old) (H.failed_looks shelf.new) (H.given shelf.old) (H.given shelf.new) (IsRefusalOf (Fleet file.now turns)) (IsUnread (Fleet file.now turns) (H.contents shelf.old) (H.failed_looks shelf.old) (H.failed_looks shelf.new)) (IsRefused (Fleet file.now turns) (H.contents shelf.old)) (CanBeDone (Fleet file.now turns) (H.contents shelf.old)) result }
     ensures contents { IsTrue H.tells → SameContents (H.contents shelf.old) (H.contents shelf.new) }
     ensures keeps { H.failed_keeps shelf.new ≡ H.failed_keeps shelf.old }
@@ -230,7 +230,7 @@ fn gather_edited<'a, H: Shelf>(
     carried: &'a str,
     shelf: &mut H,
 ) -> Result<Job<'a>, Fail<Status>>
-    ensures job { IfOk result (IsJobOf H.tells (Edit file.now cert.now edits.now edited.now carried.now) (H.contents shelf.old)) }
+    ensures job { IfOk result (IsJobOf H.tells (Edit file.now cert.now edits.now edited.now carried.now) (H.contents shelf.old) (H.given shelf.old) (H.given shelf.new)) }
     ensures tried { IsTried H.tells (reads (Edit file.now cert.now edits.now edited.now carried.now)) (H.failed_looks shelf.old) (H.failed_looks shelf.new) (H.given shelf.old) (H.given shelf.new) (IsRefusalOf (Edit file.now cert.now edits.now edited.now carried.now)) (IsUnread (Edit file.now cert.now edits.now edited.now carried.now) (H.contents shelf.old) (H.failed_looks shelf.old) (H.failed_looks shelf.new)) (IsRefused (Edit file.now cert.now edits.now edited.now carried.now) (H.contents shelf.old)) (CanBeDone (Edit file.now cert.now edits.now edited.now carried.now) (H.contents shelf.old)) result }
     ensures contents { IsTrue H.tells → SameContents (H.contents shelf.old) (H.contents shelf.new) }
     ensures keeps { H.failed_keeps shelf.new ≡ H.failed_keeps shelf.old }

@@ -73,6 +73,7 @@ pub fn check_file<H: Shelf>(
     ensures read { IsFileRead H.tells (certificate_at file.now) (H.contents shelf.old) (H.failed_looks shelf.old) (H.failed_looks shelf.new) (H.given shelf.old) (H.given shelf.new) IsOfCertificate (IsAcceptedText inst.now) (IsBadCertificate inst.now) (IsGoodText inst.now) result }
     ensures contents { IsTrue H.tells → SameContents (H.contents shelf.old) (H.contents shelf.new) }
     ensures keeps { H.failed_keeps shelf.new ≡ H.failed_keeps shelf.old }
+    ensures given { H.given shelf.old ≤ H.given shelf.new }
     ensures looks { (other : List ℕ) → H.failed_looks shelf.old other ≤ H.failed_looks shelf.new other }
 {
     texts_are_unique();
@@ -117,6 +118,7 @@ pub fn read_good<H: Shelf>(
     ensures read { IsFileRead H.tells (certificate_at file.now) (H.contents shelf.old) (H.failed_looks shelf.old) (H.failed_looks shelf.new) (H.given shelf.old) (H.given shelf.new) IsOfCertificate (IsGoodCert inst.now) (IsBadCertificate inst.now) (IsGoodText inst.now) result }
     ensures contents { IsTrue H.tells → SameContents (H.contents shelf.old) (H.contents shelf.new) }
     ensures keeps { H.failed_keeps shelf.new ≡ H.failed_keeps shelf.old }
+    ensures given { H.given shelf.old ≤ H.given shelf.new }
     ensures looks { (other : List ℕ) → H.failed_looks shelf.old other ≤ H.failed_looks shelf.new other }
 {
     match read_file(alloc, shelf, file, CERTIFICATE_LIMIT) {
