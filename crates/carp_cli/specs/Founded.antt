@@ -8,9 +8,9 @@ use Rattle.carp_cli.specs.Answers.{IsDone, IsDoneStatus, refusal_work}
 use Rattle.command_jobs.specs.declared.status.Status.{Status}
 use Rattle.command_jobs.specs.declared.status.Status.TheVariants.{BadUsage}
 
--- A command answers so: by an answer with which it can be refused, or it is done, and all that this says of its files is so of bytes that the files gave in this call, by the count
--- of given bytes before and now. Thus a certificate is accepted only if bytes that were read now spell one that is good for an instance that such bytes spell, and what is kept and
--- written is that of a plan or a proof of this instance.
+-- A command answers so: by an answer with which it can be refused, or it is done, and all that this says of its files is so of bytes that the files
+-- gave in this call, by the count of given bytes before and now. Thus a certificate is accepted only if bytes that were read now spell one that is good
+-- for an instance that such bytes spell, and what is kept and written is that of a plan or a proof of this instance.
 abbrev pub IsFounded : Command → (given_before given_now : ℕ) → List (Option ℕ) → Status → Work → Type 0
 IsFounded c given_before given_now offered status work =
     (IsRefusalOf c status × (work ≡ refusal_work status)) ⊎ (IsDoneStatus c status × IsDone (GivenIn given_before given_now) c offered status work)

@@ -76,18 +76,15 @@ module _ {file cert : List ℕ} (p : Problem) (valid : IsValid p) (proves : Good
 
   -- of the bytes that files gave, one after the other
   module _ (gb gm gn : ℕ) (since : gb ≤ gm) (until : gm ≤ gn) (first : GivenIn gb gm (instance_at file) (λ bytes. IsTextOf bytes p)) where
-    read : GivenIn gb gn (instance_at file) (λ bytes. IsTextOf bytes p)
-    read = given_until (instance_at file) (λ bytes. IsTextOf bytes p) gb gm gn until first
-
     pub given_checked : (stated : Stated) → GivenIn gm gn (certificate_at cert) (λ bytes. IsAcceptedText p bytes stated) → WasChecked (GivenIn gb gn) file cert stated.cost stated.bound
-    given_checked stated (bytes, rose, text) = checked_by (GivenIn gb gn) read stated text (bytes, rose_since _ gb gm gn since rose, text.text)
+    given_checked stated (bytes, rose, text) = checked_by (GivenIn gb gn) (given_until (instance_at file) (λ bytes. IsTextOf bytes p) gb gm gn until first) stated text (bytes, rose_since _ gb gm gn since rose, text.text)
 
     pub given_plan : (stated : Stated) → GivenIn gm gn (certificate_at cert) (λ bytes. IsAcceptedText p bytes stated) → HasPlan (GivenIn gb gn) file cert p stated.plan
-    given_plan stated (bytes, rose, text) = plan_by (GivenIn gb gn) read stated text (bytes, rose_since _ gb gm gn since rose, text.text)
+    given_plan stated (bytes, rose, text) = plan_by (GivenIn gb gn) (given_until (instance_at file) (λ bytes. IsTextOf bytes p) gb gm gn until first) stated text (bytes, rose_since _ gb gm gn since rose, text.text)
 
     pub given_renewed : CountsKeepGood → (good renewed : Cert) → certificate_in renewed ≡ with_counts p (certificate_in good)
         → GivenIn gm gn (certificate_at cert) (λ bytes. IsGoodCert p bytes good) → WasRenewed (GivenIn gb gn) file cert renewed
-    given_renewed keep good renewed is (bytes, rose, text) = renewed_by (GivenIn gb gn) read keep good renewed is text (bytes, rose_since _ gb gm gn since rose, text.text)
+    given_renewed keep good renewed is (bytes, rose, text) = renewed_by (GivenIn gb gn) (given_until (instance_at file) (λ bytes. IsTextOf bytes p) gb gm gn until first) keep good renewed is text (bytes, rose_since _ gb gm gn since rose, text.text)
 
 -- a checked plan is lawful
 pub lawful_plan : {p : Problem} {bytes : List ℕ} (stated : Stated) → IsAcceptedText p bytes stated → IsLawful p stated.plan

@@ -1,5 +1,5 @@
 -- Counts that rose, and what was given between two moments.
-use Rattle.std.proofs.Common.{◌≡◌, ℕ, ◌≤◌, List, ◌∙◌, subst, arith}
+use Rattle.std.proofs.Common.{ℕ, ◌≤◌, List, subst, arith}
 use Rattle.std.specs.Prelude.{Result, Ok, Err, IfOk}
 use Rattle.std.specs.declared.alloc.Global.{Global}
 use Rattle.std.specs.declared.vec.Vec.{Vec}
@@ -33,8 +33,8 @@ pub two_since : (file cert edits : List ℕ) (x : Edited) (before mid now : ℕ)
 two_since file cert edits x before mid now later (bytes, rose, third) = (bytes, rose_since _ before mid now later rose, third_since file bytes edits x before mid now later third)
 
 -- what is made of the bytes that a file gave, with what was given after them
-pub founded_by : {X : Type 0} {source : Source} {P Q : List ℕ → X → Type 0} (before mid now : ℕ) (v : Vec ℕ Global) (r : Result X (Fail Status)) → mid ≤ now
+pub founded_by : {X : Type 0} {P Q : List ℕ → X → Type 0} (source : Source) (before mid now : ℕ) (v : Vec ℕ Global) (r : Result X (Fail Status)) → mid ≤ now
     → GivenIn before mid source (λ bytes. AreBytes bytes v) → ((bytes : List ℕ) (x : X) → P bytes x → Q bytes x) → IfOk r (P v.items)
     → IfOk r (λ x. GivenIn before now source (λ bytes. Q bytes x))
-founded_by {P = P} before mid now v (Ok x) later (own, rose, are) wider is = (own, rose_until _ before mid now later rose, wider own x (subst (λ bytes. P bytes x) are is))
-founded_by before mid now v (Err fail) later file wider is = tt
+founded_by {P = P} source before mid now v (Ok x) later (own, rose, are) wider is = (own, rose_until _ before mid now later rose, wider own x (subst (λ bytes. P bytes x) are is))
+founded_by source before mid now v (Err fail) later file wider is = tt

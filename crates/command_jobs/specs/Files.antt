@@ -23,7 +23,8 @@ Holds source contents Is = IsSomeAnd (contents source.name) (λ bytes. (length b
 abbrev pub HeldIn : (List ℕ → Option (List ℕ)) → Source → (List ℕ → Type 0) → Type 0
 HeldIn contents source Is = Holds source contents Is
 
--- the other way: this is so of bytes that the files gave while the count of given bytes went from one number to another; whether the name held them is not told
+-- the other way: this is so of bytes that the files gave while the count of given bytes went from one number to another; whether the name held them is
+-- not told
 abbrev pub GivenIn : (given_before given_now : ℕ) → Source → (List ℕ → Type 0) → Type 0
 GivenIn given_before given_now source Is = (bytes : List ℕ) × RoseBy (length bytes) given_before given_now × Is bytes
 

@@ -1,5 +1,6 @@
 use Rattle.std.proofs.Common.{inl}
 use Rattle.std.proofs.Math.Path.{fun_ext}
+use Rattle.command_words.specs.Commands.{instance_at}
 use Rattle.command_jobs.specs.Files.{GivenIn, HeldIn}
 use Rattle.command_jobs.specs.Stages.{AreBadTwo, AreGoodTwo, AreOfTwo}
 use Rattle.command_jobs.proofs.Given.{founded_by, two_since}
@@ -16,7 +17,7 @@ returns-in-Ok-clause-founded g c =
     let before = g.H.Shelf.given c.args.shelf.now in
     let mid = g.H.Shelf.given c.read_file.new.shelf in
     let now = g.H.Shelf.given c.read_two.new.shelf in
-    founded_by {P = λ a x. AreOfTwo a c.args.cert.now c.args.edits.now (GivenIn mid now) x} before mid now c.in-Ok.text c.read_two.result c.read_two.ensures.given c.in-Ok.ensures.read.founded
+    founded_by {P = λ a x. AreOfTwo a c.args.cert.now c.args.edits.now (GivenIn mid now) x} (instance_at c.args.file.now) before mid now c.in-Ok.text c.read_two.result c.read_two.ensures.given c.in-Ok.ensures.read.founded
     (λ a x is. two_since a c.args.cert.now c.args.edits.now x before mid now c.in-Ok.ensures.given is) c.read_two.ensures.founded
 
 pub returns-in-Ok-clause-tried : goal.returns-in-Ok-clause-tried

@@ -1,5 +1,6 @@
 use Rattle.std.proofs.Common.{inl}
 use Rattle.std.proofs.Math.Path.{fun_ext}
+use Rattle.command_words.specs.Commands.{certificate_at}
 use Rattle.command_jobs.specs.Files.{GivenIn, HeldIn}
 use Rattle.command_jobs.specs.Stages.{AreOfThird, IsBadThird, IsGoodThird}
 use Rattle.command_jobs.proofs.Given.{founded_by, third_since}
@@ -16,7 +17,7 @@ returns-in-Ok-clause-founded g c =
     let before = g.H.Shelf.given c.args.shelf.now in
     let mid = g.H.Shelf.given c.read_file.new.shelf in
     let now = g.H.Shelf.given c.read_third.new.shelf in
-    founded_by {P = λ b x. AreOfThird c.args.text.items b c.args.edits.now (GivenIn mid now) x} before mid now c.in-Ok.cert c.read_third.result c.read_third.ensures.given c.in-Ok.ensures.read.founded
+    founded_by {P = λ b x. AreOfThird c.args.text.items b c.args.edits.now (GivenIn mid now) x} (certificate_at c.args.cert.now) before mid now c.in-Ok.cert c.read_third.result c.read_third.ensures.given c.in-Ok.ensures.read.founded
     (λ b x is. third_since c.args.text.items b c.args.edits.now x before mid now c.in-Ok.ensures.given is) c.read_third.ensures.founded
 
 pub returns-in-Ok-clause-tried : goal.returns-in-Ok-clause-tried
