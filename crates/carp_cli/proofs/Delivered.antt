@@ -7,7 +7,7 @@ use Rattle.carp_outside.specs.Causes.{Rose}
 use Rattle.carp_outside.specs.Told.{SameContents, WroteFront}
 use Rattle.command_words.specs.Commands.{Command, Solve, Check, Sheet, Make, Drill, Upgrade, Postman, Fleet, Edit}
 use Rattle.command_works.specs.Works.{Kept, Work}
-use Rattle.carp_cli.specs.Outside.{Outside, found, AreKept, AreKeptInPart}
+use Rattle.carp_cli.specs.Outside.{Outside, found, AreKept, AreKeptInPart, IsLeftShort}
 use Rattle.carp_cli.specs.Runs.{IsHelped, Leaves}
 use Rattle.carp_cli.specs.Steps.{IsPrepared}
 use Rattle.command_jobs.specs.declared.status.Status.{Status}
@@ -21,12 +21,6 @@ part_elsewhere : (kept : List Kept) (before now : List ℕ → Option (List ℕ)
 part_elsewhere [] before now none other apart = absurd none
 part_elsewhere (k ∷ ks) before now (inl front) other apart = front.others other apart.0
 part_elsewhere (k ∷ ks) before now (inr (next, first, others)) other apart = part_elsewhere ks next now others other apart.1 ∙ first.others other apart.0
-
--- what a delivery that was cut short leaves
-pub IsLeftShort : Bool → Bool → Outside → Outside → Work → Type 0
-IsLeftShort held told before now work =
-    (Rose before.failed_keeps now.failed_keeps × (IsTrue held → AreKeptInPart work.kept before.contents now.contents) × (IsTrue told → now.written ≡ before.written))
-    ⊎ (Rose before.failed_puts now.failed_puts × (IsTrue held → AreKept work.kept before.contents now.contents) × (IsTrue told → WroteFront work.text before.written now.written))
 
 pub whole_leaves : {held told : Bool} {command : Option Command} {before now : Outside} (status : Status) (work : Work)
     → IsPrepared held command (found before now) before.given now.given status work
@@ -51,8 +45,7 @@ whole_leaves {held} {told} {command} {before} {now} status work prepared kept wr
 }
 
 pub part_leaves : {held told : Bool} {command : Option Command} {before now : Outside} (status : Status) (work : Work)
-    → IsPrepared held command (found before now) before.given now.given status work → IsLeftShort held told before now work → Leaves held told command before now WriteFault
-unfolding IsLeftShort
+    → IsPrepared held command (found before now) before.given now.given status work → IsLeftShort held told work before now → Leaves held told command before now WriteFault
 part_leaves {held} {told} {command} {before} {now} status work prepared left = record {
   whole = λ written remembered. absurd (written refl);
   cut = λ is. record {
@@ -101,7 +94,6 @@ pub delivered : {held told : Bool} {command : Option Command} {before now : Outs
     ⊎ ((Rose keeps now.failed_keeps × (IsTrue held → AreKeptInPart work.kept contents now.contents) × (IsTrue told → now.written ≡ before.written))
     ⊎ (Rose before.failed_puts now.failed_puts × (IsTrue held → AreKept work.kept contents now.contents) × (IsTrue told → WroteFront work.text before.written now.written))))
     → Leaves held told command before now answer
-unfolding IsLeftShort
 delivered {held} {told} {command} {before} {now} {looks} {given} {keeps} {contents} status work answer prepared same_looks same_given same_keeps same ends kept wrote cut =
     let prepared1 = subst (λ l. IsPrepared held command (record { contents = before.contents; looks_before = before.failed_looks; looks_now = l; offered = now.offered }) before.given given status work)
     (sym (fun_ext same_looks)) prepared in
@@ -115,7 +107,7 @@ delivered {held} {told} {command} {before} {now} {looks} {given} {keeps} {conten
     ] where
       short : (status ≡ WriteFault) ⊎ ((Rose keeps now.failed_keeps × (IsTrue held → AreKeptInPart work.kept contents now.contents) × (IsTrue told → now.written ≡ before.written))
           ⊎ (Rose before.failed_puts now.failed_puts × (IsTrue held → AreKept work.kept contents now.contents) × (IsTrue told → WroteFront work.text before.written now.written)))
-          → IsLeftShort held told before now work
+          → IsLeftShort held told work before now
       short (inl is) = absurd (prepared.written is)
       short (inr (inl (rose, front, none))) = inl (subst (λ n. Rose n now.failed_keeps) same_keeps rose, (λ tells. subst (λ x. AreKeptInPart work.kept x now.contents) (fun_ext (same tells)) (front tells)), none)
       short (inr (inr (rose, whole, front))) = inr (rose, (λ tells. subst (λ x. AreKept work.kept x now.contents) (fun_ext (same tells)) (whole tells)), front)

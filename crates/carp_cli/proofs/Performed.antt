@@ -6,12 +6,12 @@ use Rattle.carp_base.specs.declared.fail.Fail.{Fail}
 use Rattle.carp_base.specs.declared.fail.Fail.TheVariants.{Refused}
 use Rattle.cert_lines.specs.Texts as certificates
 use Rattle.command_words.specs.Commands.{Command, Solve, Check, Sheet, Make, Drill, Upgrade, Postman, Fleet, Edit, Source, asks_helpers, keeps, reads, seed_of}
-use Rattle.command_jobs.specs.Files.{HeldIn, OfSomeBytes}
-use Rattle.command_jobs.specs.Reads.{IsTried}
+use Rattle.command_jobs.specs.Files.{GivenIn, HeldIn}
+use Rattle.command_jobs.specs.Reads.{IsTried, Seen}
 use Rattle.command_jobs.specs.declared.status.Status.{Status}
 use Rattle.command_jobs.specs.declared.status.Status.TheVariants.{BadUsage}
 use Rattle.command_jobs.specs.Inputs.{IsRefusalOf, IsRefused, CanBeDone, IsUnread}
-use Rattle.command_jobs.specs.Jobs.{IsFor, IsJobOf, IsSoundJob, WasRead}
+use Rattle.command_jobs.specs.Jobs.{IsFor, IsGathered, IsJobOf, IsSoundJob, WasRead}
 use Rattle.command_jobs.specs.declared.job.Job.{Job}
 use Rattle.command_jobs.specs.declared.job.Job.TheVariants as jobs
 use Rattle.command_works.specs.Made.{IsMade, job_asks, job_seed}
@@ -63,10 +63,11 @@ held_apart contents = record {
   };
 }
 
-some_apart : AreApart OfSomeBytes
-some_apart = record { facts = λ file cert edits x from. facts file cert edits x from } where
-  facts : (file cert edits : List ℕ) (x : Edited) → IsEditedFrom file cert edits OfSomeBytes x → AreEdited OfSomeBytes file cert edits x.before (certificate_in x.cert) x.edits.items
-  facts file cert edits x (a, (b, (c, is))) = record { read = (a, is.read); certified = (b, is.certified); edits_read = (c, is.edits_read); good = is.is.good }
+given_apart : (before now : ℕ) → AreApart (GivenIn before now)
+given_apart before now = record { facts = λ file cert edits x from. facts file cert edits x from } where
+  facts : (file cert edits : List ℕ) (x : Edited) → IsEditedFrom file cert edits (GivenIn before now) x
+      → AreEdited (GivenIn before now) file cert edits x.before (certificate_in x.cert) x.edits.items
+  facts file cert edits x (a, ra, (b, rb, (c, rc, is))) = record { read = (a, ra, is.read); certified = (b, rb, is.certified); edits_read = (c, rc, is.edits_read); good = is.is.good }
 
 module _ (Reads : Source → (List ℕ → Type 0) → Type 0) (offered : List (Option ℕ)) (status : Status) (work : Work) where
   solved : (file cert : List ℕ) (turns seed : ℕ) (job : Job) → IsFor (Solve file cert turns seed) job → WasRead Reads (Solve file cert turns seed) job
@@ -269,19 +270,24 @@ names_apart other kept names is apart = by kept (subst (AllByRecursion (λ name.
   by [] apart = tt
   by (k ∷ ks) apart = (apart.0, by ks apart.1)
 
--- what becomes of the files of a command, and of what is made of them
-abbrev IsTriedFor : (held : Bool) → Command → Finding → (given_before given_now : ℕ) → Result Job (Fail Status) → Type 0
-IsTriedFor held c found gb gn result =
-    IsTried {X = Job} held (reads c) found.looks_before found.looks_now gb gn (IsRefusalOf c) (IsUnread c found.contents found.looks_before found.looks_now)
-    (IsRefused c found.contents) (CanBeDone c found.contents) result
+-- what a run saw of the files
+abbrev seen_at : (held : Bool) → Finding → (given_before given_now : ℕ) → Seen
+seen_at held found given_before given_now = record {
+  held = held;
+  contents = found.contents;
+  looks_before = found.looks_before;
+  looks_now = found.looks_now;
+  given_before = given_before;
+  given_now = given_now;
+}
 
 -- a job of a command was done
-pub job_prepared : {held : Bool} {c : Command} {found : Finding} {gb gn : ℕ} (job : Job) (status : Status) (work : Work) → IsJobOf held c found.contents job
-    → IsTriedFor held c found gb gn (Ok job) → IsMade job found.offered status work → IsPrepared held (Some c) found gb gn status work
-job_prepared {held} {c} {found} job status work is tried made =
-    let rests = performed OfSomeBytes found.offered status work some_apart c job is.is_for is.sound is.founded made in
+pub job_prepared : {held : Bool} {c : Command} {found : Finding} {gb gn : ℕ} (job : Job) (status : Status) (work : Work) → IsJobOf held c found.contents gb gn job
+    → IsGathered c (seen_at held found gb gn) (Ok job) → IsMade job found.offered status work → IsPrepared held (Some c) found gb gn status work
+job_prepared {held} {c} {found} {gb} {gn} job status work is tried made =
+    let rests = performed (GivenIn gb gn) found.offered status work (given_apart gb gn) c job is.is_for is.sound is.founded made in
     let reports : HasReport status = done_reports c status rests.status_is in record {
-      right = λ known. inr (inr (rests.status_is, (performed (HeldIn found.contents) found.offered status work (held_apart found.contents) c job is.is_for is.sound (read_or_told found.contents c job is.was_read is.founded known) made).done));
+      right = λ known. inr (inr (rests.status_is, (performed (HeldIn found.contents) found.offered status work (held_apart found.contents) c job is.is_for is.sound (read_or_told {Reads = GivenIn gb gn} found.contents c job is.was_read is.founded known) made).done));
       founded = inr (rests.status_is, rests.done);
       refusal = λ no. absurd (no reports);
       written = λ is. subst HasReport is reports;
@@ -305,7 +311,7 @@ failed s = Err (Refused s)
 
 -- a command was refused
 pub refusal_prepared : {held : Bool} {c : Command} {found : Finding} {gb gn : ℕ} (status answered : Status) (work : Work)
-    → IsTriedFor held c found gb gn (Err (Refused status)) → answered ≡ status → work ≡ refusal_work status → IsPrepared held (Some c) found gb gn answered work
+    → IsGathered c (seen_at held found gb gn) (Err (Refused status)) → answered ≡ status → work ≡ refusal_work status → IsPrepared held (Some c) found gb gn answered work
 refusal_prepared {held} {c} {found} {gb} {gn} status answered work tried same_status same_work =
     subst (λ s. IsPrepared held (Some c) found gb gn s work) (sym same_status) (subst (λ w. IsPrepared held (Some c) found gb gn status w) (sym same_work) prepared) where
       refusal : IsRefusal status
@@ -342,9 +348,9 @@ refusal_prepared {held} {c} {found} {gb} {gn} status answered work tried same_st
       }
 
 -- the refusal that was answered, as its status
-pub by_status : {held : Bool} {sources : List Source} {lb ln : List ℕ → ℕ} {gb gn : ℕ} {Refuses : Status → Type 0} {Unread : Type 0} {Bad : Status → Type 0} {Good : Type 0} (fail : Fail Status) (status : Status) → fail ≡ Refused status
-    → IsTried {X = Job} held sources lb ln gb gn Refuses Unread Bad Good (Err fail) → IsTried {X = Job} held sources lb ln gb gn Refuses Unread Bad Good (Err (Refused status))
-by_status {held} {sources} {lb} {ln} {gb} {gn} {Refuses} {Unread} {Bad} {Good} fail status is tried = subst (λ (f : Fail Status). IsTried {X = Job} held sources lb ln gb gn Refuses Unread Bad Good (Err f)) is tried
+pub by_status : {seen : Seen} {sources : List Source} {Refuses : Status → Type 0} {Unread : Type 0} {Bad : Status → Type 0} {Good : Type 0} (fail : Fail Status) (status : Status) → fail ≡ Refused status
+    → IsTried {X = Job} seen sources Refuses Unread Bad Good (Err fail) → IsTried {X = Job} seen sources Refuses Unread Bad Good (Err (Refused status))
+by_status {seen} {sources} {Refuses} {Unread} {Bad} {Good} fail status is tried = subst (λ (f : Fail Status). IsTried {X = Job} seen sources Refuses Unread Bad Good (Err f)) is tried
 
 -- helpers are not asked by a command that is refused
 pub refused_asks_none : {P : Type 0} (c : Command) (status answered : Status) → IsRefusalOf c status → answered ≡ status → IsHelped (Some c) answered → P

@@ -1,8 +1,8 @@
 -- By which answers commands are refused, and what is known of those that read nothing.
 use Rattle.std.proofs.Common.{◌≡◌, List, [], ℕ, Option, Some, inl, inr, IsTrue, Bool}
 use Rattle.std.specs.Prelude.{◌⊎◌}
-use Rattle.command_words.specs.Commands.{Command, Solve, Check, Sheet, Make, Drill, Upgrade, Postman, Fleet, Edit, reads}
-use Rattle.command_jobs.specs.Files.{HeldIn, OfSomeBytes}
+use Rattle.command_words.specs.Commands.{Command, Solve, Check, Sheet, Make, Drill, Upgrade, Postman, Fleet, Edit, Source, reads}
+use Rattle.command_jobs.specs.Files.{HeldIn}
 use Rattle.command_jobs.specs.Reads.{IsOfBytes, IsOfCertificate, IsOfFile, IsOfInstance, IsOfRound}
 use Rattle.command_jobs.specs.declared.status.Status.{Status}
 use Rattle.command_jobs.specs.declared.status.Status.TheVariants.{Proven, Gap, Accepted, Done, Rejected, BadInstance, BadCertificate, ReadFault, TooLong, NotJoined, BadEdit}
@@ -90,18 +90,18 @@ reads_nothing_refuses_nothing (Fleet file turns) status none is = cc
 reads_nothing_refuses_nothing (Edit file cert edits edited carried) status none is = cc
 
 -- what a job without files says is so of any contents
-pub read_or_told : {held : Bool} (contents : List ℕ → Option (List ℕ)) (c : Command) (job : Job) → (IsTrue held → WasRead (HeldIn contents) c job) → WasRead OfSomeBytes c job
+pub read_or_told : {held : Bool} {Reads : Source → (List ℕ → Type 0) → Type 0} (contents : List ℕ → Option (List ℕ)) (c : Command) (job : Job) → (IsTrue held → WasRead (HeldIn contents) c job) → WasRead Reads c job
     → IsKnown held (Some c) → WasRead (HeldIn contents) c job
 read_or_told contents c job told some (inl tells) = told tells
 read_or_told contents (Solve file cert turns seed) job told some (inr none) = cc
 read_or_told contents (Check file cert) job told some (inr none) = cc
 read_or_told contents (Sheet file cert) job told some (inr none) = cc
-read_or_told contents (Make file seed) job told some (inr none) = by job some where
-  by : (job : Job) → WasRead OfSomeBytes (Make file seed) job → WasRead (HeldIn contents) (Make file seed) job
+read_or_told {Reads = Reads} contents (Make file seed) job told some (inr none) = by job some where
+  by : (job : Job) → WasRead Reads (Make file seed) job → WasRead (HeldIn contents) (Make file seed) job
   by (jobs.Make name drawn) some = tt
   by _ fails = absurd fails
-read_or_told contents (Drill turns seed) job told some (inr none) = by job some where
-  by : (job : Job) → WasRead OfSomeBytes (Drill turns seed) job → WasRead (HeldIn contents) (Drill turns seed) job
+read_or_told {Reads = Reads} contents (Drill turns seed) job told some (inr none) = by job some where
+  by : (job : Job) → WasRead Reads (Drill turns seed) job → WasRead (HeldIn contents) (Drill turns seed) job
   by (jobs.Drill asked drawn) some = tt
   by _ fails = absurd fails
 read_or_told contents (Upgrade file cert renewed) job told some (inr none) = cc

@@ -1,7 +1,8 @@
 -- What the outside of a run holds and counts at one moment, and what of it a command finds.
-use Rattle.std.specs.Prelude.{ℕ, List, [], ◌∷◌, Option, ◌⊎◌}
-use Rattle.carp_outside.specs.Told.{HoldsExactly, HoldsFront, SameContents}
-use Rattle.command_works.specs.Works.{Kept}
+use Rattle.std.specs.Prelude.{◌≡◌, ℕ, Bool, IsTrue, List, [], ◌∷◌, Option, ◌⊎◌}
+use Rattle.carp_outside.specs.Causes.{Rose}
+use Rattle.carp_outside.specs.Told.{HoldsExactly, HoldsFront, SameContents, WroteFront}
+use Rattle.command_works.specs.Works.{Kept, Work}
 
 -- what each name holds and what was written, as they are told, how many looks at each name, keeps and puts failed, how many bytes were
 -- given, and the least cost of the lawful plans that each helper offered
@@ -40,3 +41,12 @@ abbrev pub AreKeptInPart : List Kept → (List ℕ → Option (List ℕ)) → (L
 AreKeptInPart [] before now = ⊥
 AreKeptInPart (k ∷ ks) before now =
     HoldsFront k.name k.bytes before now ⊎ ((next : List ℕ → Option (List ℕ)) × HoldsExactly k.name k.bytes before next × AreKeptInPart ks next now)
+
+-- A work was cut short by a call that failed: at a keep, with nothing written, or at the text, with all kept. `held` and `told` say whether contents and
+-- what was written are told.
+abbrev pub IsLeftShort : (held told : Bool) → Work → (before now : Outside) → Type 0
+IsLeftShort held told work before now =
+    (Rose before.failed_keeps now.failed_keeps × (IsTrue held → AreKeptInPart work.kept before.contents now.contents)
+    × (IsTrue told → now.written ≡ before.written))
+    ⊎ (Rose before.failed_puts now.failed_puts × (IsTrue held → AreKept work.kept before.contents now.contents)
+    × (IsTrue told → WroteFront work.text before.written now.written))

@@ -2,12 +2,12 @@
 use Rattle.std.specs.Prelude.{◌≡◌, ◌≢◌, ℕ, ◌+◌, ◌++◌, List, Bool, IsTrue, Option, None, Some, ◌⊎◌}
 use Rattle.std.specs.List.{AllByRecursion}
 use Rattle.carp_outside.specs.Causes.{Rose, RoseBy}
-use Rattle.carp_outside.specs.Told.{SameContents, WroteFront}
+use Rattle.carp_outside.specs.Told.{SameContents}
 use Rattle.command_words.specs.Commands.{Command, asks_helpers, sources_of, kept_by}
 use Rattle.command_jobs.specs.Files.{RoseAtSome, HasLimit}
 use Rattle.command_jobs.specs.Inputs.{IsRefused, CanBeDone, IsUnread}
 use Rattle.command_works.specs.Works.{Work}
-use Rattle.carp_cli.specs.Outside.{Outside, found, AreKept, AreKeptInPart}
+use Rattle.carp_cli.specs.Outside.{Outside, found, AreKept, IsLeftShort}
 use Rattle.carp_cli.specs.Answers.{IsDoneStatus, IsKnown, IsRightOf, refusal_work}
 use Rattle.carp_cli.specs.Founded.{IsFoundedOf}
 use Rattle.carp_cli.specs.Refusals.{HasReport}
@@ -17,7 +17,7 @@ use Rattle.command_jobs.specs.declared.status.Status.TheVariants.{BadUsage, Read
 -- an answer with its work: it is founded, whatever is told; and if what the command reads is told, it is right for what was found
 pub record IsAnswer (held : Bool) (command : Option Command) (before now : Outside) (status : Status) (work : Work) : Type 0 where
   pub right : IsKnown held command → IsRightOf command (found before now) status work
-  pub founded : IsFoundedOf command now.offered status work
+  pub founded : IsFoundedOf command before.given now.given now.offered status work
   pub refusal : ¬ (HasReport status) → work ≡ refusal_work status
 
 -- an answer was given whole: what it keeps is kept, and its text is written
@@ -32,8 +32,7 @@ pub record IsCutShort (held told : Bool) (command : Option Command) (before now 
   pub status : Status
   pub work : Work
   pub answer : IsAnswer held command before now status work
-  pub left : (Rose before.failed_keeps now.failed_keeps × (IsTrue held → AreKeptInPart work.kept before.contents now.contents) × (IsTrue told → now.written ≡ before.written))
-      ⊎ (Rose before.failed_puts now.failed_puts × (IsTrue held → AreKept work.kept before.contents now.contents) × (IsTrue told → WroteFront work.text before.written now.written))
+  pub left : IsLeftShort held told work before now
 
 -- nothing is kept or written
 pub record IsUntouched (held told : Bool) (before now : Outside) : Type 0 where

@@ -16,7 +16,7 @@ use Rattle.command_jobs.specs.declared.status.Status.TheVariants.{BadUsage, Read
 -- what is to be answered, and what for
 pub record IsPrepared (held : Bool) (command : Option Command) (found : Finding) (given_before given_now : ℕ) (status : Status) (work : Work) : Type 0 where
   pub right : IsKnown held command → IsRightOf command found status work
-  pub founded : IsFoundedOf command found.offered status work
+  pub founded : IsFoundedOf command given_before given_now found.offered status work
   pub refusal : ¬ (HasReport status) → work ≡ refusal_work status
   pub written : status ≢ WriteFault
   pub remembered : status ≢ Memory

@@ -1,7 +1,7 @@
 // Small data at which the facts of a run hold, and small data at which they do not.
 ghost use Rattle.std.specs.Prelude.{ℕ, ◌≡◌, ◌≢◌, [], ◌∷◌, None, Some, false, true, codes};
 ghost use Rattle.carp_engine.specs.Solutions.{IsSound};
-ghost use Rattle.command_jobs.specs.Files.{HeldIn, HasLimit, OfSomeBytes, RoseAtSome};
+ghost use Rattle.command_jobs.specs.Files.{GivenIn, HeldIn, HasLimit, RoseAtSome};
 ghost use Rattle.command_jobs.specs.Reads.{IsOfBytes, IsOfCertificate, IsOfFile, IsOfInstance, IsOfNone, IsOfRound};
 ghost use Rattle.command_jobs.specs.Inputs.{IsRefusalOf};
 ghost use Rattle.command_words.specs.Commands.{Drill, instance_at, reads};
@@ -57,11 +57,11 @@ fn facts_of_answers_hold()
     ensures apart { IsRefusalOf touring (Status.NotJoined 1) }
     ensures too_long { IsRefusalOf editing (Status.TooLong 1048576) }
     ensures held { HeldIn (λ _. Some []) (instance_at []) (λ bytes. bytes ≡ []) }
-    ensures some_bytes { OfSomeBytes (instance_at []) (λ bytes. bytes ≡ []) }
+    ensures given { GivenIn 4 7 (instance_at []) (λ bytes. bytes ≡ codes "dat") }
     ensures told { IsKnown true (Some checking) }
     ensures reads_nothing { IsKnown false (Some making) }
-    ensures founded { IsFounded checking [] Status.ReadFault (refusal_work Status.ReadFault) }
-    ensures usage { IsFoundedOf None [] Status.BadUsage (refusal_work Status.BadUsage) }
+    ensures founded { IsFounded checking 0 0 [] Status.ReadFault (refusal_work Status.ReadFault) }
+    ensures usage { IsFoundedOf None 0 0 [] Status.BadUsage (refusal_work Status.BadUsage) }
 {}
 
 fn facts_of_answers_fail()
@@ -74,9 +74,10 @@ fn facts_of_answers_fail()
     ensures apart { IsRefusalOf checking (Status.NotJoined 1) → ⊥ }
     ensures no_edit { IsRefusalOf editing (Status.NotJoined 1) → ⊥ }
     ensures held { HeldIn (λ _. None) (instance_at []) (λ bytes. bytes ≡ []) → ⊥ }
-    ensures some_bytes { OfSomeBytes (instance_at []) (λ bytes. ⊥) → ⊥ }
+    ensures given { GivenIn 4 6 (instance_at []) (λ bytes. bytes ≡ codes "dat") → ⊥ }
+    ensures none_given { GivenIn 4 7 (instance_at []) (λ bytes. ⊥) → ⊥ }
     ensures told { IsKnown false (Some checking) → ⊥ }
-    ensures never_unread { (work : Work) → IsFounded making [] Status.ReadFault work → ⊥ }
-    ensures never_accepted { (work : Work) → IsFounded solving [] Status.Accepted work → ⊥ }
-    ensures usage { (work : Work) → IsFoundedOf None [] Status.Done work → ⊥ }
+    ensures never_unread { (work : Work) → IsFounded making 0 0 [] Status.ReadFault work → ⊥ }
+    ensures never_accepted { (work : Work) → IsFounded solving 0 0 [] Status.Accepted work → ⊥ }
+    ensures usage { (work : Work) → IsFoundedOf None 0 0 [] Status.Done work → ⊥ }
 {}

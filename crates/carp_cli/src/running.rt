@@ -49,11 +49,12 @@ use std::alloc::Global;
 /// each answer comes, and `Leaves` what stands after it. What it says of the contents of names and of what was written holds where the
 /// shelf and the sink tell it, as [`carp_outside::MemShelf`] and [`carp_outside::MemSink`] do.
 ///
-/// Over [`crate::DirShelf`] and [`crate::StdSink`] it says that each answer is founded (`specs/Founded.antt`): a refusal is one of those that the command has, `make` and `drill` are never
-/// refused, and what a command says when it is done is so of some bytes. A certificate is accepted only if some bytes spell an instance and some a certificate that is good for
-/// it, with the cost and the bound that are to be printed; a sheet, an upgrade and an edit rest on such a certificate, a solution, a round and a fleet on such an instance. It
-/// says, too, which count rose where an answer is a fault, and what becomes of the helpers. It does not say that these are the bytes of the named files, nor that what is to be
-/// kept and written arrives there.
+/// Over [`crate::DirShelf`] and [`crate::StdSink`] it says that each answer is founded (`specs/Founded.antt`): a refusal is one of those that
+/// the command has, `make` and `drill` are never refused, and what a command says when it is done is so of bytes that the shelf gave in this
+/// call: its count of given bytes rose by at least the length of each text. A certificate is accepted only if such bytes spell an instance, and
+/// such bytes a certificate that is good for it, with the cost and the bound that are to be printed; a sheet, an upgrade and an edit rest on
+/// such a certificate, a solution, a round and a fleet on such an instance. It says, too, which count rose where an answer is a fault, and what
+/// becomes of the helpers. It does not say that these are the bytes of the named files, nor that what is to be kept and written arrives there.
 pub fn run<H: Shelf, O: Sink>(
     alloc: Global,
     words: &[String],
@@ -61,14 +62,19 @@ pub fn run<H: Shelf, O: Sink>(
     out: &mut O,
     helpers: &mut Vec<Box<dyn Proposer>>,
 ) -> Status
-    ensures leaves { let before : Outside = record { contents = H.contents shelf.old; failed_looks = H.failed_looks shelf.old; failed_keeps = H.failed_keeps shelf.old; given = H.given shelf.old; written = O.written out.old; failed_puts = O.faults out.old; offered = map (λ helper. (tally helper).least) helpers.old.items } in
-        let now : Outside = record { contents = H.contents shelf.new; failed_looks = H.failed_looks shelf.new; failed_keeps = H.failed_keeps shelf.new; given = H.given shelf.new; written = O.written out.new; failed_puts = O.faults out.new; offered = map (λ helper. (tally helper).least) helpers.new.items } in
+    ensures leaves { let before : Outside = record { contents = H.contents shelf.old; failed_looks = H.failed_looks shelf.old;
+            failed_keeps = H.failed_keeps shelf.old; given = H.given shelf.old; written = O.written out.old; failed_puts = O.faults out.old;
+            offered = map (λ helper. (tally helper).least) helpers.old.items } in
+        let now : Outside = record { contents = H.contents shelf.new; failed_looks = H.failed_looks shelf.new;
+            failed_keeps = H.failed_keeps shelf.new; given = H.given shelf.new; written = O.written out.new; failed_puts = O.faults out.new;
+            offered = map (λ helper. (tally helper).least) helpers.new.items } in
         Leaves H.tells O.tells (command_of (texts_of words.now)) before now result }
 
     // The helpers are those that came, in their order, and are left as they are but by a command that asks them.
     ensures helpers { map id helpers.new.items ≡ map id helpers.old.items }
     ensures unasked { is_helped (command_of (texts_of words.now)) ≡ false → helpers.new.items ≡ helpers.old.items }
-    ensures seeds { IsHelped (command_of (texts_of words.now)) result → EachIndex helpers.new.items (λ k. slice_index (map seed helpers.new.items) k ≡ (seed_by (command_of (texts_of words.now)) + k) % 2 ^ 64) }
+    ensures seeds { IsHelped (command_of (texts_of words.now)) result
+        → EachIndex helpers.new.items (λ k. slice_index (map seed helpers.new.items) k ≡ (seed_by (command_of (texts_of words.now)) + k) % 2 ^ 64) }
     ensures asked { IsHelped (command_of (texts_of words.now)) result → All (λ helper. 1 ≤ asked helper) helpers.new.items }
     ensures fouls { IsHelped (command_of (texts_of words.now)) result → All (λ helper. (tally helper).fouls ≤ 1) helpers.new.items }
 {
@@ -85,13 +91,15 @@ fn prepare<'a, H: Shelf, P: Proposer>(
     shelf: &mut H,
     helpers: &mut Vec<P>,
 ) -> Result<Delivery<'a>, Memory>
-    ensures prepared { let finding : Finding = record { contents = H.contents shelf.old; looks_before = H.failed_looks shelf.old; looks_now = H.failed_looks shelf.new; offered = map (λ helper. (P.tally helper).least) helpers.new.items } in
+    ensures prepared { let finding : Finding = record { contents = H.contents shelf.old; looks_before = H.failed_looks shelf.old;
+            looks_now = H.failed_looks shelf.new; offered = map (λ helper. (P.tally helper).least) helpers.new.items } in
         IfOk result (λ d. IsPrepared H.tells (command_of (texts_of words.now)) finding (H.given shelf.old) (H.given shelf.new) d.status (work_in d)) }
     ensures contents { IsTrue H.tells → SameContents (H.contents shelf.old) (H.contents shelf.new) }
     ensures keeps { H.failed_keeps shelf.new ≡ H.failed_keeps shelf.old }
     ensures helpers { map P.id helpers.new.items ≡ map P.id helpers.old.items }
     ensures unasked { is_helped (command_of (texts_of words.now)) ≡ false → helpers.new.items ≡ helpers.old.items }
-    ensures seeds { IfOk result (λ d. IsHelped (command_of (texts_of words.now)) d.status → EachIndex helpers.new.items (λ k. slice_index (map P.seed helpers.new.items) k ≡ (seed_by (command_of (texts_of words.now)) + k) % 2 ^ 64)) }
+    ensures seeds { IfOk result (λ d. IsHelped (command_of (texts_of words.now)) d.status
+        → EachIndex helpers.new.items (λ k. slice_index (map P.seed helpers.new.items) k ≡ (seed_by (command_of (texts_of words.now)) + k) % 2 ^ 64)) }
     ensures asked { IfOk result (λ d. IsHelped (command_of (texts_of words.now)) d.status → All (λ helper. 1 ≤ P.asked helper) helpers.new.items) }
     ensures fouls { IfOk result (λ d. IsHelped (command_of (texts_of words.now)) d.status → All (λ helper. (P.tally helper).fouls ≤ 1) helpers.new.items) }
 {
@@ -111,13 +119,15 @@ fn perform<'a, H: Shelf, P: Proposer>(
     helpers: &mut Vec<P>,
 ) -> Result<Delivery<'a>, Memory>
     requires { HasBudget (command_in command) }
-    ensures prepared { let finding : Finding = record { contents = H.contents shelf.old; looks_before = H.failed_looks shelf.old; looks_now = H.failed_looks shelf.new; offered = map (λ helper. (P.tally helper).least) helpers.new.items } in
+    ensures prepared { let finding : Finding = record { contents = H.contents shelf.old; looks_before = H.failed_looks shelf.old;
+            looks_now = H.failed_looks shelf.new; offered = map (λ helper. (P.tally helper).least) helpers.new.items } in
         IfOk result (λ d. IsPrepared H.tells (Some (command_in command.entry)) finding (H.given shelf.old) (H.given shelf.new) d.status (work_in d)) }
     ensures contents { IsTrue H.tells → SameContents (H.contents shelf.old) (H.contents shelf.new) }
     ensures keeps { H.failed_keeps shelf.new ≡ H.failed_keeps shelf.old }
     ensures helpers { map P.id helpers.new.items ≡ map P.id helpers.old.items }
     ensures unasked { asks_helpers (command_in command.entry) ≡ false → helpers.new.items ≡ helpers.old.items }
-    ensures seeds { IfOk result (λ d. IsHelped (Some (command_in command.entry)) d.status → EachIndex helpers.new.items (λ k. slice_index (map P.seed helpers.new.items) k ≡ (seed_of (command_in command.entry) + k) % 2 ^ 64)) }
+    ensures seeds { IfOk result (λ d. IsHelped (Some (command_in command.entry)) d.status
+        → EachIndex helpers.new.items (λ k. slice_index (map P.seed helpers.new.items) k ≡ (seed_of (command_in command.entry) + k) % 2 ^ 64)) }
     ensures asked { IfOk result (λ d. IsHelped (Some (command_in command.entry)) d.status → All (λ helper. 1 ≤ P.asked helper) helpers.new.items) }
     ensures fouls { IfOk result (λ d. IsHelped (Some (command_in command.entry)) d.status → All (λ helper. (P.tally helper).fouls ≤ 1) helpers.new.items) }
 {

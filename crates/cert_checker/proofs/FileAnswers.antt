@@ -3,21 +3,20 @@ use Rattle.std.proofs.Common.{◌≡◌, ℕ, ◌+◌, ◌≤◌, ◌<◌, List,
 use Rattle.std.specs.Prelude.{IsSomeAnd}
 use Rattle.carp_base.specs.Problem.{Problem}
 use Rattle.carp_base.specs.declared.fail.Fail.TheVariants.{Memory, Refused}
-use Rattle.carp_outside.specs.Causes.{Rose}
+use Rattle.carp_outside.specs.Causes.{Rose, RoseBy}
 use Rattle.cert_lines.specs.declared.fault.CertFault.{CertFault}
 use Rattle.cert_lines.specs.Certificates.{Certificate}
 use Rattle.cert_lines.specs.Laws.{FaultIsUnique, TextHasNoFault}
 use Rattle.cert_lines.specs.Texts.{IsFaultOf, IsTextOf}
-use Rattle.cert_checker.specs.declared.stream.Stream.{Stream}
 use Rattle.cert_checker.specs.declared.streaming.Checked.{Checked}
 use Rattle.cert_checker.specs.declared.streaming.StreamFault.TheVariants as faults
-use Rattle.cert_checker.specs.Streams.{FileSays, HasStreamed, HasStreamedSome, IsChecked}
+use Rattle.cert_checker.specs.Streams.{FileSays, IsChecked}
 
-module _ (p : Problem) (limit : ℕ) (tells : Bool) (held : Option (List ℕ)) (before now : ℕ) where
-  pub says_memory : FileSays p limit tells held before now (Err Memory)
+module _ (p : Problem) (limit : ℕ) (tells : Bool) (held : Option (List ℕ)) (before now given_before given_now : ℕ) where
+  pub says_memory : FileSays p limit tells held before now given_before given_now (Err Memory)
   says_memory = record {
     checked = λ told. tt;
-    some_text = tt;
+    given_text = tt;
     read = λ is. cc;
     longer = λ told is. cc;
     bad = λ told fault is. cc;
@@ -26,10 +25,10 @@ module _ (p : Problem) (limit : ℕ) (tells : Bool) (held : Option (List ℕ)) (
     no_text = λ told file fault holds short is calm. inr refl;
   }
 
-  pub says_read : Rose before now → FileSays p limit tells held before now (Err (Refused faults.Read))
+  pub says_read : Rose before now → FileSays p limit tells held before now given_before given_now (Err (Refused faults.Read))
   says_read rose = record {
     checked = λ told. tt;
-    some_text = tt;
+    given_text = tt;
     read = λ is. rose;
     longer = λ told is. cc;
     bad = λ told fault is. cc;
@@ -43,10 +42,10 @@ module _ (p : Problem) (limit : ℕ) (tells : Bool) (held : Option (List ℕ)) (
       let past : limit < length file = subst (λ (h : Option (List ℕ)). IsSomeAnd h (λ bytes. limit < length bytes)) holds long in
       omega (arith, past, short)
 
-  pub says_long : (IsTrue tells → IsSomeAnd held (λ file. limit < length file)) → FileSays p limit tells held before now (Err (Refused faults.TooLong))
+  pub says_long : (IsTrue tells → IsSomeAnd held (λ file. limit < length file)) → FileSays p limit tells held before now given_before given_now (Err (Refused faults.TooLong))
   says_long long = record {
     checked = λ told. tt;
-    some_text = tt;
+    given_text = tt;
     read = λ is. cc;
     longer = λ told is. long told;
     bad = λ told fault is. cc;
@@ -76,10 +75,10 @@ module _ (p : Problem) (limit : ℕ) (tells : Bool) (held : Option (List ℕ)) (
       go None is past = is
       go (Some file) is past = omega (arith, is.0, past)
 
-  pub says_checked : (checked : Checked) (bytes : List ℕ) → TextHasNoFault → IsChecked p bytes checked → (IsTrue tells → IsFile (λ file. IsChecked p file checked)) → FileSays p limit tells held before now (Ok checked)
-  says_checked checked bytes apart some file_is = record {
+  pub says_checked : (checked : Checked) (bytes : List ℕ) → RoseBy (length bytes) given_before given_now → TextHasNoFault → IsChecked p bytes checked → (IsTrue tells → IsFile (λ file. IsChecked p file checked)) → FileSays p limit tells held before now given_before given_now (Ok checked)
+  says_checked checked bytes given apart some file_is = record {
     checked = λ told. file_is told;
-    some_text = record { bytes = bytes; is = some };
+    given_text = record { bytes = bytes; given = given; is = some };
     read = λ is. cc;
     longer = λ told is. cc;
     bad = λ told fault is. cc;
@@ -88,10 +87,10 @@ module _ (p : Problem) (limit : ℕ) (tells : Bool) (held : Option (List ℕ)) (
     no_text = λ told file fault holds short is calm. absurd (apart file (held_is (λ bytes. IsChecked p bytes checked) file holds (file_is told)).certificate fault (held_is (λ bytes. IsChecked p bytes checked) file holds (file_is told)).text is);
   }
 
-  pub says_bad : (fault : CertFault) → TextHasNoFault → FaultIsUnique → (IsTrue tells → IsFile (λ file. IsFaultOf file fault)) → FileSays p limit tells held before now (Err (Refused (faults.Bad fault)))
+  pub says_bad : (fault : CertFault) → TextHasNoFault → FaultIsUnique → (IsTrue tells → IsFile (λ file. IsFaultOf file fault)) → FileSays p limit tells held before now given_before given_now (Err (Refused (faults.Bad fault)))
   says_bad fault apart one file_is = record {
     checked = λ told. tt;
-    some_text = tt;
+    given_text = tt;
     read = λ is. cc;
     longer = λ told is. cc;
     bad = λ told other is. then (λ file of_file. subst (IsFaultOf file) (let same : fault ≡ other = (let b = is in cc) in same) of_file) (file_is told);

@@ -4,7 +4,7 @@ use Rattle.std.specs.List.{All}
 use Rattle.carp_base.specs.Problem.{Problem}
 use Rattle.carp_base.specs.declared.fail.Fail.{Fail}
 use Rattle.carp_base.specs.declared.fail.Fail.TheVariants.{Memory, Refused}
-use Rattle.carp_outside.specs.Causes.{Rose}
+use Rattle.carp_outside.specs.Causes.{Rose, RoseBy}
 use Rattle.branch_rules.specs.Trees.{Support}
 use Rattle.branch_rules.specs.declared.node.Node.{Node}
 use Rattle.cert_lines.specs.declared.fault.CertFault.{CertFault}
@@ -150,6 +150,12 @@ pub record HasStreamedSome (p : Problem) (stream : Stream) : Type 0 where
   pub bytes : List ℕ
   pub streamed : HasStreamed p stream bytes
 
+-- bytes were streamed that were all given meanwhile
+pub record HasStreamedGiven (p : Problem) (given_before given_now : ℕ) (stream : Stream) : Type 0 where
+  pub bytes : List ℕ
+  pub given : RoseBy (length bytes) given_before given_now
+  pub streamed : HasStreamed p stream bytes
+
 -- the bytes are the text of a certificate, and this is its answer, with its cost, its bound and its plan
 pub record IsChecked (p : Problem) (bytes : List ℕ) (checked : Checked) : Type 0 where
   pub certificate : Certificate
@@ -159,9 +165,10 @@ pub record IsChecked (p : Problem) (bytes : List ℕ) (checked : Checked) : Type
   pub bound : checked.bound ≡ certificate.bound
   pub plan : checked.plan ≡ certificate.plan
 
--- some bytes are the text of the certificate of this answer
-pub record IsCheckedSome (p : Problem) (checked : Checked) : Type 0 where
+-- bytes that were all given meanwhile are the text of the certificate of this answer
+pub record IsCheckedGiven (p : Problem) (given_before given_now : ℕ) (checked : Checked) : Type 0 where
   pub bytes : List ℕ
+  pub given : RoseBy (length bytes) given_before given_now
   pub is : IsChecked p bytes checked
 
 -- the bytes of a file so far, as many as these, were streamed; where contents are told, they stand at the front of what the name holds
@@ -178,11 +185,12 @@ pub record TextLaws : Type 0 where
   pub apart : ReadIsNotBad
   pub spellable : ReadIsSpellable
 
--- What is answered of a name that holds this or nothing; the looks at it that failed were so many before, and are so many now. Each
--- refusal has its cause, and where no look failed, the bytes decide, and memory.
-pub record FileSays (p : Problem) (limit : ℕ) (tells : Bool) (held : Option (List ℕ)) (before now : ℕ) (result : Result Checked (Fail StreamFault)) : Type 0 where
+-- What is answered of a name that holds this or nothing; the looks at it that failed and the bytes that were given were so many before, and
+-- are so many now. Each refusal has its cause, and where no look failed, the bytes decide, and memory.
+pub record FileSays (p : Problem) (limit : ℕ) (tells : Bool) (held : Option (List ℕ)) (before now given_before given_now : ℕ)
+    (result : Result Checked (Fail StreamFault)) : Type 0 where
   pub checked : IsTrue tells → IfOk result (λ checked. IsSomeAnd held (λ file. (length file ≤ limit) × IsChecked p file checked))
-  pub some_text : IfOk result (IsCheckedSome p)
+  pub given_text : IfOk result (IsCheckedGiven p given_before given_now)
   pub read : IsErrOf result (Refused faults.Read) → Rose before now
   pub longer : IsTrue tells → IsErrOf result (Refused faults.TooLong) → IsSomeAnd held (λ file. limit < length file)
   pub bad : IsTrue tells → (fault : CertFault) → IsErrOf result (Refused (faults.Bad fault)) → IsSomeAnd held (λ file. (length file ≤ limit) × IsFaultOf file fault)

@@ -8,7 +8,7 @@ ghost use Rattle.cert_lines.specs.Certificates.{Certificate};
 ghost use Rattle.cert_lines.specs.declared.fault.CertFault.{CertFault as Fault};
 ghost use Rattle.cert_lines.specs.Texts.{IsFaultOf, IsTextOf};
 ghost use Rattle.cert_checker.specs.declared.streaming.StreamFault.TheVariants as stream_faults;
-ghost use Rattle.cert_checker.specs.Streams.{FileSays, HasStreamed, HasStreamedSome, IsChecked, IsCheckedSome};
+ghost use Rattle.cert_checker.specs.Streams.{FileSays, HasStreamed, HasStreamedGiven, IsChecked, IsCheckedGiven};
 
 use crate::Answer;
 use crate::stream::Stream;
@@ -47,7 +47,8 @@ pub struct Checked {
 const PIECE: usize = 65_536;
 
 /// Whether the certificate that a name holds is good for an instance, or the first reason why it is not; the answer is that of
-/// [`check`](crate::check) for the certificate of these bytes.
+/// [`check`](crate::check) for the certificate of these bytes. Whether or not the shelf tells its contents, the bytes of a certificate
+/// that is answered were given by it in this call.
 ///
 /// `limit` is in bytes, below 2^40. It looks for pieces of 64 KiB at most until a look finds the end, as
 /// [`read_whole`](carp_outside::read_whole) does. What it holds does not grow with the number of nodes: one piece, what stands before
@@ -64,7 +65,7 @@ pub fn check_stream<H: Shelf>(
 ) -> Result<Checked, Fail<StreamFault>>
     requires { limit < 2 ^ 40 }
     ensures checked { IsTrue H.tells → IfOk result (λ checked. IsSomeAnd (H.contents shelf.old name.now) (λ file. (length file ≤ limit) × IsChecked inst.now file checked)) }
-    ensures some_text { IfOk result (IsCheckedSome inst.now) }
+    ensures given_text { IfOk result (IsCheckedGiven inst.now (H.given shelf.old) (H.given shelf.new)) }
 
     // Each refusal has its cause.
     ensures read { IsErrOf result (Refused stream_faults.Read) → Rose (H.failed_looks shelf.old name.now) (H.failed_looks shelf.new name.now) }
@@ -106,7 +107,8 @@ fn check_file<H: Shelf>(
 ) -> Result<Checked, Fail<StreamFault>>
     requires few { limit < 2 ^ 40 }
     requires none { HasStreamed inst.now stream.old [] }
-    ensures says { FileSays inst.now limit H.tells (H.contents shelf.old name.now) (H.failed_looks shelf.old name.now) (H.failed_looks shelf.new name.now) result }
+    ensures says { FileSays inst.now limit H.tells (H.contents shelf.old name.now)
+        (H.failed_looks shelf.old name.now) (H.failed_looks shelf.new name.now) (H.given shelf.old) (H.given shelf.new) result }
     ensures too_long { IsErrOf result (Refused stream_faults.TooLong) → RoseBy (limit + 1) (H.given shelf.old) (H.given shelf.new) }
     ensures contents { IsTrue H.tells → SameContents (H.contents shelf.old) (H.contents shelf.new) }
     ensures keeps { H.failed_keeps shelf.new ≡ H.failed_keeps shelf.old }
@@ -138,7 +140,7 @@ fn take_file<H: Shelf>(
 ) -> Result<(), Fail<ReadFault>>
     requires few { limit < 2 ^ 40 }
     requires none { HasStreamed inst.now stream.old [] }
-    ensures streamed { OnOk result (HasStreamedSome inst.now stream.new) }
+    ensures streamed { OnOk result (HasStreamedGiven inst.now (H.given shelf.old) (H.given shelf.new) stream.new) }
     ensures whole { IsTrue H.tells → OnOk result (IsSomeAnd (H.contents shelf.old name.now) (λ file. (length file ≤ limit) × HasStreamed inst.now stream.new file)) }
 
     // Each refusal has its cause.

@@ -14,17 +14,18 @@ use Rattle.cert_checker.specs.declared.reason.Answer.TheVariants as answers
 use Rattle.cert_checker.specs.declared.reason.Reason.{Reason}
 use Rattle.cert_checker.specs.declared.streaming.Checked.{Checked}
 use Rattle.cert_checker.specs.Reasons.{IsAnswer, IsFirstReason, GoodHasNoReason, ReasonIsUnique}
-use Rattle.cert_checker.specs.Streams.{IsChecked, IsCheckedSome}
+use Rattle.cert_checker.specs.Streams.{IsChecked, IsCheckedGiven}
 use Rattle.dat_text.specs.Laws.{FaultIsUnique as DatFaultIsUnique, TextHasNoFault as InstanceHasNoFault}
 use Rattle.dat_text.specs.Text as instances
 use Rattle.dat_text.specs.declared.fault.DatFault.{DatFault}
-use Rattle.command_jobs.specs.Files.{Holds, IsBadCertificate, IsBadInstance, IsGoodText, IsInstance, OfSomeBytes}
+use Rattle.command_jobs.specs.Files.{GivenIn, Holds, IsBadCertificate, IsBadInstance, IsGoodText, IsInstance}
 use Rattle.command_words.specs.Commands.{Source}
 use Rattle.command_jobs.specs.declared.reading.Stated.{Stated}
 use Rattle.command_jobs.specs.Reads.{IsAcceptedText, IsFileRead, IsOfBytes, IsOfCertificate, IsOfInstance, IsParsed, accepted_of}
 use Rattle.command_jobs.specs.declared.status.Status.{Status}
 use Rattle.command_jobs.specs.declared.status.Status.TheVariants.{BadCertificate, BadInstance, Rejected}
-use Rattle.command_jobs.proofs.FileReads.{file_parsed, made, of_some, same_refusal}
+use Rattle.command_jobs.proofs.FileReads.{file_parsed, same_refusal}
+use Rattle.command_jobs.proofs.Results.{made, of_some, seen_by}
 
 -- bytes have one text or one fault, and a certificate is good or has one first reason
 pub record AreApart : Type 0 where
@@ -95,19 +96,19 @@ bad_instance apart unique bytes fault is = record {
 -- the certificate of a file is bad
 pub file_faulty : {X : Type 0} {held : Bool} {source : Source} {contents : List ℕ → Option (List ℕ)} {lb ln : List ℕ → ℕ} {gb gn : ℕ} {p : Problem} {Is : List ℕ → X → Type 0}
     → TextHasNoFault → FaultIsUnique → (fault : CertFault) → (IsTrue held → Holds source contents (λ bytes. IsFaultOf bytes fault))
-    → IsFileRead {X = X} held source contents lb ln gb gn IsOfCertificate Is (IsBadCertificate p) (IsGoodText p) (Err (Refused (BadCertificate fault)))
+    → IsFileRead {X = X} (seen_by held contents lb ln gb gn) source IsOfCertificate Is (IsBadCertificate p) (IsGoodText p) (Err (Refused (BadCertificate fault)))
 file_faulty {X} {source = source} {contents = contents} apart unique fault is =
     file_parsed (Err (Refused (BadCertificate fault))) (λ told. of_some (contents source.name) (is told) (λ bytes held. (held.0, faulty apart unique bytes fault held.1))) tt
     (λ status e. subst IsOfBytes (same_refusal e) tt) (λ status e. subst IsOfCertificate (same_refusal e) tt)
 
 -- the certificate of a file was checked
 pub file_checked : {held : Bool} {source : Source} {contents : List ℕ → Option (List ℕ)} {lb ln : List ℕ → ℕ} {gb gn : ℕ} {p : Problem} → AreApart → (checked : Checked)
-    (r : Result Stated (Fail Status)) → r ≡ accepted_of checked checked.answer → (IsTrue held → Holds source contents (λ bytes. IsChecked p bytes checked)) → IsCheckedSome p checked
-    → IsFileRead held source contents lb ln gb gn IsOfCertificate (IsAcceptedText p) (IsBadCertificate p) (IsGoodText p) r
-file_checked {held} {source} {contents} {lb} {ln} {gb} {gn} {p} laws checked r is told some =
-    subst (IsFileRead held source contents lb ln gb gn IsOfCertificate (IsAcceptedText p) (IsBadCertificate p) (IsGoodText p)) (sym is)
+    (r : Result Stated (Fail Status)) → r ≡ accepted_of checked checked.answer → (IsTrue held → Holds source contents (λ bytes. IsChecked p bytes checked)) → IsCheckedGiven p gb gn checked
+    → IsFileRead (seen_by held contents lb ln gb gn) source IsOfCertificate (IsAcceptedText p) (IsBadCertificate p) (IsGoodText p) r
+file_checked {held} {source} {contents} {lb} {ln} {gb} {gn} {p} laws checked r is told given =
+    subst (IsFileRead (seen_by held contents lb ln gb gn) source IsOfCertificate (IsAcceptedText p) (IsBadCertificate p) (IsGoodText p)) (sym is)
     (file_parsed (accepted_of checked checked.answer) (λ tells. of_some (contents source.name) (told tells) (λ bytes held. (held.0, parsed bytes held.1)))
-    (some_of checked.answer some.is.answer) (λ status. refusal checked.answer status) (λ status. kind checked.answer status)) where
+    (given_by checked.answer given.is.answer) (λ status. refusal checked.answer status) (λ status. kind checked.answer status)) where
       parsed : (bytes : List ℕ) → IsChecked p bytes checked → IsParsed bytes (IsAcceptedText p) (IsBadCertificate p) (IsGoodText p) (accepted_of checked checked.answer)
       parsed bytes of = by checked.answer of.answer where
         by : (a : Answer) → IsAnswer p of.certificate a → IsParsed bytes (IsAcceptedText p) (IsBadCertificate p) (IsGoodText p) (accepted_of checked a)
@@ -115,10 +116,10 @@ file_checked {held} {source} {contents} {lb} {ln} {gb} {gn} {p} laws checked r i
             accepted laws bytes of.certificate (record { cost = checked.cost; bound = checked.bound; plan = checked.plan }) of.text good (record { certificate = of.certificate; text = of.text; good = good; cost = of.cost; bound = of.bound; plan = of.plan })
         by (answers.Rejected reason) first = rejected laws bytes of.certificate reason of.text first
 
-      some_of : (a : Answer) → IsAnswer p some.is.certificate a → IfOk (accepted_of checked a) (λ x. OfSomeBytes source (λ bytes. IsAcceptedText p bytes x))
-      some_of answers.Accepted good =
-          (some.bytes, record { certificate = some.is.certificate; text = some.is.text; good = good; cost = some.is.cost; bound = some.is.bound; plan = some.is.plan })
-      some_of (answers.Rejected reason) first = tt
+      given_by : (a : Answer) → IsAnswer p given.is.certificate a → IfOk (accepted_of checked a) (λ x. GivenIn gb gn source (λ bytes. IsAcceptedText p bytes x))
+      given_by answers.Accepted good =
+          (given.bytes, given.given, record { certificate = given.is.certificate; text = given.is.text; good = good; cost = given.is.cost; bound = given.is.bound; plan = given.is.plan })
+      given_by (answers.Rejected reason) first = tt
 
       refusal : (a : Answer) (status : Status) → IsErrOf (accepted_of checked a) (Refused status) → IsOfBytes status
       refusal answers.Accepted status e = cc

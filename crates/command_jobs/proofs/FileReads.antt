@@ -1,45 +1,21 @@
 -- What the reading of one file gives.
-use Rattle.std.proofs.Common.{◌≡◌, ℕ, List, ap, ◌∙◌, subst, inl, inr, arith, IsTrue, Bool, Option, None, Some}
-use Rattle.std.specs.Prelude.{◌⊎◌, Result, Ok, Err, IsOk, IfOk, IsErrOf, IsSomeAnd}
+use Rattle.std.proofs.Common.{◌≡◌, ℕ, List, ◌∙◌, subst, inl, inr, arith, IsTrue, Bool, Option}
+use Rattle.std.specs.Prelude.{◌⊎◌, Result, Ok, Err, IsOk, IfOk, IsErrOf}
 use Rattle.std.specs.declared.alloc.Global.{Global}
 use Rattle.std.specs.declared.vec.Vec.{Vec}
 use Rattle.carp_base.specs.declared.fail.Fail.{Fail}
 use Rattle.carp_base.specs.declared.fail.Fail.TheVariants.{Refused, Memory as NoMemory}
 use Rattle.command_words.specs.Commands.{Source}
-use Rattle.command_jobs.specs.Files.{Holds, IsTooLong, OfSomeBytes}
+use Rattle.command_jobs.specs.Files.{GivenIn, Holds, IsTooLong}
 use Rattle.command_jobs.specs.Reads.{AreBytes, NoneIsBad, EachIsGood, IsFileRead, IsOfBytes, IsOfNone, IsParsed}
 use Rattle.command_jobs.specs.declared.status.Status.{Status}
 use Rattle.command_jobs.specs.declared.status.Status.TheVariants.{ReadFault, TooLong}
-
--- what is so of what is there
-pub of_some : {X : Type 0} {P Q : X → Type 0} (o : Option X) → IsSomeAnd o P → ((x : X) → P x → Q x) → IsSomeAnd o Q
-of_some None none f = none
-of_some (Some x) holds f = f x holds
-
-pub of_ok : {X E : Type 0} {P Q : X → Type 0} (r : Result X E) → IfOk r P → ((x : X) → P x → Q x) → IfOk r Q
-of_ok (Ok x) holds f = f x holds
-of_ok (Err e) holds f = tt
-
--- two facts of what is there
-pub of_both : {X : Type 0} {P Q : X → Type 0} {R : Type 0} (o : Option X) → IsSomeAnd o P → IsSomeAnd o Q → ((x : X) → P x → Q x → R) → R
-of_both None none other f = absurd none
-of_both (Some x) p q f = f x p q
-
--- a refusal of each type
-abbrev pub failed : (X : Type 0) → Fail Status → Result X (Fail Status)
-failed X f = Err f
-
-abbrev pub made : (X : Type 0) → X → Result X (Fail Status)
-made X x = Ok x
+use Rattle.command_jobs.proofs.Given.{founded_by}
+use Rattle.command_jobs.proofs.Results.{again, failed, made, of_both, of_some, seen_by}
 
 -- refusals that are the same
 pub same_refusal : {X : Type 0} {s t : Status} → failed X (Refused s) ≡ failed X (Refused t) → s ≡ t
 same_refusal e = cc
-
-pub again : {X Y : Type 0} {f g : Fail Status} → failed X f ≡ failed X g → failed Y f ≡ failed Y g
-again {X} {Y} {f} {g} e = ap (failed Y) (inside e) where
-  inside : failed X f ≡ failed X g → f ≡ g
-  inside e = cc
 
 -- a file that is not too long is not refused as one
 not_too_long : (source : Source) (contents : List ℕ → Option (List ℕ)) (P : List ℕ → Type 0) (R : Type 0) → Holds source contents P → IsTooLong source contents → R
@@ -49,12 +25,12 @@ not_too_long source contents P R holds long =
 -- what is made of the bytes that a file holds
 pub file_parsed : {X : Type 0} {held : Bool} {source : Source} {contents : List ℕ → Option (List ℕ)} {lb ln : List ℕ → ℕ} {gb gn : ℕ}
     {Of : Status → Type 0} {Is : List ℕ → X → Type 0} {Bad : List ℕ → Status → Type 0} {Good : List ℕ → Type 0} (r : Result X (Fail Status)) →
-    (IsTrue held → Holds source contents (λ bytes. IsParsed bytes Is Bad Good r)) → IfOk r (λ x. OfSomeBytes source (λ bytes. Is bytes x)) →
+    (IsTrue held → Holds source contents (λ bytes. IsParsed bytes Is Bad Good r)) → IfOk r (λ x. GivenIn gb gn source (λ bytes. Is bytes x)) →
     ((status : Status) → IsErrOf r (Refused status) → IsOfBytes status) → ((status : Status) → IsErrOf r (Refused status) → Of status) →
-    IsFileRead held source contents lb ln gb gn Of Is Bad Good r
-file_parsed {X} {held} {source} {contents} {lb} {ln} {gb} {gn} {Of} {Is} {Bad} {Good} r parsed some refusal kind = record {
+    IsFileRead (seen_by held contents lb ln gb gn) source Of Is Bad Good r
+file_parsed {X} {held} {source} {contents} {lb} {ln} {gb} {gn} {Of} {Is} {Bad} {Good} r parsed founded refusal kind = record {
   made = λ told. made_of r (parsed told);
-  some = some;
+  founded = founded;
   tried = record {
     refusal = λ status e. inr (kind status e);
     read = λ e. absurd (refusal ReadFault e);
@@ -76,23 +52,21 @@ file_parsed {X} {held} {source} {contents} {lb} {ln} {gb} {gn} {Of} {Is} {Bad} {
 pub read_then : {X : Type 0} {held : Bool} {source : Source} {contents : List ℕ → Option (List ℕ)} {lb ln : List ℕ → ℕ} {gb gn : ℕ}
     {Of : Status → Type 0} {Is : List ℕ → X → Type 0} {Bad : List ℕ → Status → Type 0} {Good : List ℕ → Type 0} → ((bytes : List ℕ) (status : Status) → Bad bytes status → Of status) →
     (v : Vec ℕ Global) (bytes : List ℕ) (r : Result X (Fail Status)) → bytes ≡ v.items →
-    IsFileRead held source contents lb ln gb gn IsOfNone AreBytes NoneIsBad EachIsGood (made (Vec ℕ Global) v) → IsParsed bytes Is Bad Good r →
-    IsFileRead held source contents lb ln gb gn Of Is Bad Good r
-read_then {X = X} {source = source} {contents = contents} {Is = Is} {Bad = Bad} {Good = Good} kind v bytes r are whole parsed =
+    IsFileRead (seen_by held contents lb ln gb gn) source IsOfNone AreBytes NoneIsBad EachIsGood (made (Vec ℕ Global) v) → IsParsed bytes Is Bad Good r →
+    IsFileRead (seen_by held contents lb ln gb gn) source Of Is Bad Good r
+read_then {X = X} {source = source} {contents = contents} {gb = gb} {gn = gn} {Is = Is} {Bad = Bad} {Good = Good} kind v bytes r are whole parsed =
     file_parsed r (λ told. of_some (contents source.name) (whole.made told) (λ own held. (held.0, subst (λ b. IsParsed b Is Bad Good r) (are ∙ held.1) parsed)))
-    (some_of r parsed.made) parsed.refusal (λ status e. kind bytes status (parsed.refused status e)) where
-      some_of : (r : Result X (Fail Status)) → IfOk r (Is bytes) → IfOk r (λ x. OfSomeBytes source (λ bytes. Is bytes x))
-      some_of (Ok x) is = (bytes, is)
-      some_of (Err e) is = tt
+    (founded_by {P = Is} {Q = Is} source gb gn gn v r (omega arith) whole.founded (λ bytes x is. is) (subst (λ b. IfOk r (Is b)) are parsed.made))
+    parsed.refusal (λ status e. kind bytes status (parsed.refused status e))
 
 -- the bytes of a file are not to be had
 pub read_stops : {X : Type 0} {held : Bool} {source : Source} {contents : List ℕ → Option (List ℕ)} {lb ln : List ℕ → ℕ} {gb gn : ℕ}
     {Of : Status → Type 0} {Is : List ℕ → X → Type 0} {Bad : List ℕ → Status → Type 0} {Good : List ℕ → Type 0} (f : Fail Status) →
-    IsFileRead held source contents lb ln gb gn IsOfNone AreBytes NoneIsBad EachIsGood (failed (Vec ℕ Global) f) →
-    IsFileRead held source contents lb ln gb gn Of Is Bad Good (failed X f)
+    IsFileRead (seen_by held contents lb ln gb gn) source IsOfNone AreBytes NoneIsBad EachIsGood (failed (Vec ℕ Global) f) →
+    IsFileRead (seen_by held contents lb ln gb gn) source Of Is Bad Good (failed X f)
 read_stops {X} {source = source} {contents = contents} {Bad = Bad} f whole = record {
   made = λ told. tt;
-  some = tt;
+  founded = tt;
   tried = record {
     refusal = λ status e. of_file (whole.tried.refusal status (again e));
     read = λ e. whole.tried.read (again e);

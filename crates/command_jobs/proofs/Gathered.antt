@@ -1,5 +1,5 @@
 -- The jobs that are made of what was read.
-use Rattle.std.proofs.Common.{◌≡◌, List, ℕ, refl, sym, subst, Option, Some, None}
+use Rattle.std.proofs.Common.{◌≡◌, ◌≤◌, List, ℕ, refl, sym, subst, Option, Some, None}
 use Rattle.std.specs.Prelude.{IsSomeAnd}
 use Rattle.carp_base.specs.Problem.{Problem, IsValid}
 use Rattle.plan_model.specs.Plans.{IsLawful}
@@ -11,10 +11,11 @@ use Rattle.cert_format.specs.Certs.{certificate_in}
 use Rattle.cert_format.specs.Good.{CountsKeepGood, GoodIsProof, IsGood, with_counts}
 use Rattle.cert_format.specs.declared.cert.Cert.{Cert}
 use Rattle.command_words.specs.Commands.{Source, instance_at, certificate_at}
-use Rattle.command_jobs.specs.Files.{HeldIn, Holds, OfSomeBytes}
+use Rattle.command_jobs.specs.Files.{GivenIn, HeldIn, Holds}
 use Rattle.command_jobs.specs.Reads.{IsAcceptedText, IsGoodCert}
 use Rattle.command_jobs.specs.declared.reading.Stated.{Stated}
 use Rattle.command_jobs.specs.Jobs.{AreCertified, WasChecked, HasPlan, WasRenewed}
+use Rattle.command_jobs.proofs.Given.{given_until, rose_since}
 
 -- what is there, and that it is
 with_some : {X : Type 0} {P : X → Type 0} {Q : Type 0} (o : Option X) → IsSomeAnd o P → ((x : X) → o ≡ Some x → P x → Q) → Q
@@ -73,23 +74,23 @@ module _ {file cert : List ℕ} (p : Problem) (valid : IsValid p) (proves : Good
     was_renewed keep good renewed is accepted = with_some (contents cert) accepted (λ bytes held text.
         renewed_by (HeldIn contents) read keep good renewed is text.1 (there _ (contents cert) bytes held (text.0, text.1.text)))
 
-  -- of some bytes
-  module _ (read : OfSomeBytes (instance_at file) (λ bytes. IsTextOf bytes p)) where
-    pub some_checked : (stated : Stated) → OfSomeBytes (certificate_at cert) (λ bytes. IsAcceptedText p bytes stated) → WasChecked OfSomeBytes file cert stated.cost stated.bound
-    some_checked stated (bytes, text) = checked_by OfSomeBytes read stated text (bytes, text.text)
+  -- of the bytes that files gave, one after the other
+  module _ (gb gm gn : ℕ) (since : gb ≤ gm) (until : gm ≤ gn) (first : GivenIn gb gm (instance_at file) (λ bytes. IsTextOf bytes p)) where
+    pub given_checked : (stated : Stated) → GivenIn gm gn (certificate_at cert) (λ bytes. IsAcceptedText p bytes stated) → WasChecked (GivenIn gb gn) file cert stated.cost stated.bound
+    given_checked stated (bytes, rose, text) = checked_by (GivenIn gb gn) (given_until (instance_at file) (λ bytes. IsTextOf bytes p) gb gm gn until first) stated text (bytes, rose_since _ gb gm gn since rose, text.text)
 
-    pub some_plan : (stated : Stated) → OfSomeBytes (certificate_at cert) (λ bytes. IsAcceptedText p bytes stated) → HasPlan OfSomeBytes file cert p stated.plan
-    some_plan stated (bytes, text) = plan_by OfSomeBytes read stated text (bytes, text.text)
+    pub given_plan : (stated : Stated) → GivenIn gm gn (certificate_at cert) (λ bytes. IsAcceptedText p bytes stated) → HasPlan (GivenIn gb gn) file cert p stated.plan
+    given_plan stated (bytes, rose, text) = plan_by (GivenIn gb gn) (given_until (instance_at file) (λ bytes. IsTextOf bytes p) gb gm gn until first) stated text (bytes, rose_since _ gb gm gn since rose, text.text)
 
-    pub some_renewed : CountsKeepGood → (good renewed : Cert) → certificate_in renewed ≡ with_counts p (certificate_in good)
-        → OfSomeBytes (certificate_at cert) (λ bytes. IsGoodCert p bytes good) → WasRenewed OfSomeBytes file cert renewed
-    some_renewed keep good renewed is (bytes, text) = renewed_by OfSomeBytes read keep good renewed is text (bytes, text.text)
+    pub given_renewed : CountsKeepGood → (good renewed : Cert) → certificate_in renewed ≡ with_counts p (certificate_in good)
+        → GivenIn gm gn (certificate_at cert) (λ bytes. IsGoodCert p bytes good) → WasRenewed (GivenIn gb gn) file cert renewed
+    given_renewed keep good renewed is (bytes, rose, text) = renewed_by (GivenIn gb gn) (given_until (instance_at file) (λ bytes. IsTextOf bytes p) gb gm gn until first) keep good renewed is text (bytes, rose_since _ gb gm gn since rose, text.text)
 
 -- a checked plan is lawful
-pub lawful_plan : {p : Problem} (stated : Stated) → (bytes : List ℕ) × IsAcceptedText p bytes stated → IsLawful p stated.plan
-lawful_plan {p} stated (bytes, text) = subst (IsLawful p) (sym text.plan) text.good.lawful
+pub lawful_plan : {p : Problem} {bytes : List ℕ} (stated : Stated) → IsAcceptedText p bytes stated → IsLawful p stated.plan
+lawful_plan {p} stated text = subst (IsLawful p) (sym text.plan) text.good.lawful
 
 -- a renewed certificate can be spelled
-pub spelled_again : {p : Problem} → IsValid p → CountsKeepGood → (good renewed : Cert) → certificate_in renewed ≡ with_counts p (certificate_in good)
-    → (bytes : List ℕ) × IsGoodCert p bytes good → IsSpellable (certificate_in renewed)
-spelled_again {p} valid keep good renewed is (bytes, text) = subst IsSpellable (sym is) (keep p (certificate_in good) valid text.good text.spellable).1
+pub spelled_again : {p : Problem} {bytes : List ℕ} → IsValid p → CountsKeepGood → (good renewed : Cert) → certificate_in renewed ≡ with_counts p (certificate_in good)
+    → IsGoodCert p bytes good → IsSpellable (certificate_in renewed)
+spelled_again {p} valid keep good renewed is text = subst IsSpellable (sym is) (keep p (certificate_in good) valid text.good text.spellable).1

@@ -16,7 +16,8 @@ use Rattle.command_jobs.specs.Reads.{IsNamed, IsOfBytes, IsOfRound, IsParsed, Is
 use Rattle.command_jobs.specs.declared.rounds.Laid.{Laid}
 use Rattle.command_jobs.specs.declared.status.Status.{Status}
 use Rattle.command_jobs.specs.declared.status.Status.TheVariants.{NotJoined}
-use Rattle.command_jobs.proofs.FileReads.{again, failed, made, same_refusal}
+use Rattle.command_jobs.proofs.FileReads.{same_refusal}
+use Rattle.command_jobs.proofs.Results.{again, failed, made}
 
 -- the least edge apart is one
 one_apart : (p : Problem) (d e : ℕ) → IsFirstApart p d → IsFirstApart p e → d ≡ e

@@ -1,3 +1,4 @@
+pub mod Given
 pub mod FileReads
 pub mod Certificates
 pub mod LaidRounds

@@ -1,5 +1,5 @@
 -- What becomes of the two files of a command.
-use Rattle.std.proofs.Common.{◌≡◌, ℕ, ◌+◌, ◌≤◌, List, [], ◌∷◌, refl, sym, subst, inl, inr, arith, IsTrue, Bool, Option}
+use Rattle.std.proofs.Common.{◌≡◌, ℕ, ◌+◌, ◌≤◌, List, [], ◌∷◌, refl, sym, subst, inl, inr, IsTrue, Bool, Option}
 use Rattle.std.specs.Prelude.{◌⊎◌, Result, IsOk, IfOk, IsErrOf}
 use Rattle.carp_base.specs.Problem.{Problem}
 use Rattle.carp_base.specs.declared.fail.Fail.{Fail}
@@ -9,26 +9,20 @@ use Rattle.dat_text.specs.Text.{IsTextOf}
 use Rattle.dat_text.specs.Laws.{InstanceIsUnique}
 use Rattle.command_words.specs.Commands.{Source, instance_at, certificate_at}
 use Rattle.command_jobs.specs.Files.{HeldIn, Holds, IsInstance, IsBadInstance, IsGoodText, IsBadCertificate, IsBadFile}
-use Rattle.command_jobs.specs.Reads.{IsFileRead, IsOfCertificate, IsOfFile, IsOfInstance, IsTried}
+use Rattle.command_jobs.specs.Reads.{IsFileRead, IsOfCertificate, IsOfFile, IsOfInstance, IsTried, Seen}
 use Rattle.command_jobs.specs.declared.status.Status.{Status}
 use Rattle.command_jobs.specs.declared.status.Status.TheVariants.{ReadFault}
 use Rattle.command_jobs.specs.Inputs.{IsBadPair, IsGoodPair, IsOfPair, IsUnreadPair}
-use Rattle.command_jobs.proofs.Results.{again, failed, made, of_both, of_some}
-
--- counts that rose later rose
-rose_since : (n before mid now : ℕ) → before ≤ mid → RoseBy n mid now → RoseBy n before now
-rose_since n before mid now later rose = omega (arith, later, rose)
-
-rose_until : (n before mid now : ℕ) → mid ≤ now → RoseBy n before mid → RoseBy n before now
-rose_until n before mid now later rose = omega (arith, later, rose)
+use Rattle.command_jobs.proofs.Given.{rose_since, rose_until}
+use Rattle.command_jobs.proofs.Results.{again, failed, made, of_both, of_some, seen_by}
 
 -- the reading of a file by equal contents
 pub by_contents : {X : Type 0} {held : Bool} {source : Source} {c d : List ℕ → Option (List ℕ)} {lb ln : List ℕ → ℕ} {gb gn : ℕ}
     {Of : Status → Type 0} {Is : List ℕ → X → Type 0} {Bad : List ℕ → Status → Type 0} {Good : List ℕ → Type 0} {r : Result X (Fail Status)} → (IsTrue held → c ≡ d) →
-    IsFileRead held source c lb ln gb gn Of Is Bad Good r → IsFileRead held source d lb ln gb gn Of Is Bad Good r
+    IsFileRead (seen_by held c lb ln gb gn) source Of Is Bad Good r → IsFileRead (seen_by held d lb ln gb gn) source Of Is Bad Good r
 by_contents {source = source} {c = c} {d = d} {Is = Is} {Bad = Bad} {Good = Good} {r = r} same file = record {
   made = λ told. subst (λ e. IfOk r (λ x. HeldIn e source (λ bytes. Is bytes x))) (same told) (file.made told);
-  some = file.some;
+  founded = file.founded;
   tried = record {
     refusal = file.tried.refusal;
     read = file.tried.read;
@@ -41,8 +35,8 @@ by_contents {source = source} {c = c} {d = d} {Is = Is} {Bad = Bad} {Good = Good
 }
 
 -- a refusal of a file is one of the command
-pub tried_again : {X Y : Type 0} {held : Bool} {sources : List Source} {lb ln : List ℕ → ℕ} {gb gn : ℕ} {Refuses : Status → Type 0} {Unread : Type 0} {Bad : Status → Type 0} {Good : Type 0} (f : Fail Status)
-    → IsTried held sources lb ln gb gn Refuses Unread Bad Good (failed X f) → IsTried held sources lb ln gb gn Refuses Unread Bad Good (failed Y f)
+pub tried_again : {X Y : Type 0} {seen : Seen} {sources : List Source} {Refuses : Status → Type 0} {Unread : Type 0} {Bad : Status → Type 0} {Good : Type 0} (f : Fail Status)
+    → IsTried seen sources Refuses Unread Bad Good (failed X f) → IsTried seen sources Refuses Unread Bad Good (failed Y f)
 tried_again {X} {Y} f tried = record {
   refusal = λ status e. tried.refusal status (again e);
   read = λ e. tried.read (again e);
@@ -54,8 +48,8 @@ tried_again {X} {Y} f tried = record {
 }
 
 -- what was read is made into an answer
-pub tried_made : {X Y : Type 0} {held : Bool} {sources : List Source} {lb ln : List ℕ → ℕ} {gb gn : ℕ} {Refuses : Status → Type 0} {Unread : Type 0} {Bad : Status → Type 0} {Good : Type 0} (x : X) (y : Y)
-    → IsTried held sources lb ln gb gn Refuses Unread Bad Good (made X x) → IsTried held sources lb ln gb gn Refuses Unread Bad Good (made Y y)
+pub tried_made : {X Y : Type 0} {seen : Seen} {sources : List Source} {Refuses : Status → Type 0} {Unread : Type 0} {Bad : Status → Type 0} {Good : Type 0} (x : X) (y : Y)
+    → IsTried seen sources Refuses Unread Bad Good (made X x) → IsTried seen sources Refuses Unread Bad Good (made Y y)
 tried_made x y tried = record {
   refusal = λ status e. cc;
   read = λ e. cc;
@@ -72,8 +66,8 @@ held_instance file contents p read = of_some (contents file) read (λ bytes held
 
 -- the first of two files stops the command
 pub first_stops : {Y : Type 0} {held : Bool} {file cert : List ℕ} {contents : List ℕ → Option (List ℕ)} {lb ln : List ℕ → ℕ} {gb gn : ℕ} (f : Fail Status)
-    → IsFileRead {X = Problem} held (instance_at file) contents lb ln gb gn IsOfInstance IsTextOf IsBadInstance IsInstance (failed Problem f)
-    → IsTried held (instance_at file ∷ certificate_at cert ∷ []) lb ln gb gn (λ status. IsOfFile status ⊎ IsOfPair status) (IsUnreadPair file cert contents lb ln)
+    → IsFileRead {X = Problem} (seen_by held contents lb ln gb gn) (instance_at file) IsOfInstance IsTextOf IsBadInstance IsInstance (failed Problem f)
+    → IsTried (seen_by held contents lb ln gb gn) (instance_at file ∷ certificate_at cert ∷ []) (λ status. IsOfFile status ⊎ IsOfPair status) (IsUnreadPair file cert contents lb ln)
     (IsBadPair file cert contents) (IsGoodPair file cert contents) (failed Y f)
 first_stops {Y} {file = file} {cert = cert} {contents = contents} {lb = lb} {ln = ln} {gb = gb} {gn = gn} f first = record {
   refusal = λ status e. of_pair (first.tried.refusal status (again e));
@@ -110,10 +104,10 @@ first_stops {Y} {file = file} {cert = cert} {contents = contents} {lb = lb} {ln 
 -- the first of two files is read, and the second decides
 pub second_decides : {X : Type 0} {held : Bool} {file cert : List ℕ} {contents : List ℕ → Option (List ℕ)} {lb lm ln : List ℕ → ℕ} {gb gm gn : ℕ}
     {Is : List ℕ → X → Type 0} → InstanceIsUnique → (p : Problem) (r : Result X (Fail Status))
-    → IsFileRead held (instance_at file) contents lb lm gb gm IsOfInstance IsTextOf IsBadInstance IsInstance (made Problem p)
-    → IsFileRead held (certificate_at cert) contents lm ln gm gn IsOfCertificate Is (IsBadCertificate p) (IsGoodText p) r
+    → IsFileRead (seen_by held contents lb lm gb gm) (instance_at file) IsOfInstance IsTextOf IsBadInstance IsInstance (made Problem p)
+    → IsFileRead (seen_by held contents lm ln gm gn) (certificate_at cert) IsOfCertificate Is (IsBadCertificate p) (IsGoodText p) r
     → ((name : List ℕ) → lb name ≤ lm name) → ((name : List ℕ) → lm name ≤ ln name) → gb ≤ gm
-    → IsTried held (instance_at file ∷ certificate_at cert ∷ []) lb ln gb gn (λ status. IsOfFile status ⊎ IsOfPair status) (IsUnreadPair file cert contents lb ln)
+    → IsTried (seen_by held contents lb ln gb gn) (instance_at file ∷ certificate_at cert ∷ []) (λ status. IsOfFile status ⊎ IsOfPair status) (IsUnreadPair file cert contents lb ln)
     (IsBadPair file cert contents) (IsGoodPair file cert contents) r
 second_decides {X} {held} {file} {cert} {contents} {lb} {lm} {ln} {gb} {gm} {gn} unique p r first second risen rises given = record {
   refusal = λ status e. of_pair (second.tried.refusal status e);

@@ -1,6 +1,6 @@
 -- What becomes of files that are read one after another.
-use Rattle.std.proofs.Common.{◌≡◌, ℕ, ◌+◌, ◌≤◌, List, [], ◌∷◌, sym, ap, subst, inl, inr, arith, IsTrue, Bool, Option, None, Some}
-use Rattle.std.specs.Prelude.{◌⊎◌, Result, Ok, Err, IsOk, IfOk, IsErrOf, IsSomeAnd}
+use Rattle.std.proofs.Common.{◌≡◌, ℕ, ◌+◌, ◌≤◌, List, [], ◌∷◌, sym, subst, inl, inr, IsTrue, Bool, Option}
+use Rattle.std.specs.Prelude.{◌⊎◌, Result, Ok, Err, IsOk, IfOk, IsErrOf}
 use Rattle.std.specs.declared.alloc.Global.{Global}
 use Rattle.std.specs.declared.vec.Vec.{Vec}
 use Rattle.carp_base.specs.declared.fail.Fail.{Fail}
@@ -8,34 +8,11 @@ use Rattle.carp_base.specs.declared.fail.Fail.TheVariants.{Refused, Memory as No
 use Rattle.carp_outside.specs.Causes.{Rose, RoseBy}
 use Rattle.command_words.specs.Commands.{Source}
 use Rattle.command_jobs.specs.Files.{HasLimit, HeldIn, Holds, IsBadFile, RoseAtSome}
-use Rattle.command_jobs.specs.Reads.{AreBytes, EachIsGood, IsFileRead, IsOfFile, IsOfNone, IsParsed, IsTried, NoneIsBad}
+use Rattle.command_jobs.specs.Reads.{AreBytes, EachIsGood, IsFileRead, IsOfFile, IsOfNone, IsParsed, IsTried, NoneIsBad, Seen}
 use Rattle.command_jobs.specs.declared.status.Status.{Status}
 use Rattle.command_jobs.specs.declared.status.Status.TheVariants.{ReadFault, TooLong}
-
-pub of_some : {X : Type 0} {P Q : X → Type 0} (o : Option X) → IsSomeAnd o P → ((x : X) → P x → Q x) → IsSomeAnd o Q
-of_some None none f = none
-of_some (Some x) holds f = f x holds
-
-pub of_ok : {X E : Type 0} {P Q : X → Type 0} (r : Result X E) → IfOk r P → ((x : X) → P x → Q x) → IfOk r Q
-of_ok (Ok x) holds f = f x holds
-of_ok (Err e) holds f = tt
-
--- two facts of what is there
-of_both : {X : Type 0} {P Q : X → Type 0} {R : Type 0} (o : Option X) → IsSomeAnd o P → IsSomeAnd o Q → ((x : X) → P x → Q x → R) → R
-of_both None none other f = absurd none
-of_both (Some x) p q f = f x p q
-
--- a refusal of each type
-abbrev pub failed : (X : Type 0) → Fail Status → Result X (Fail Status)
-failed X f = Err f
-
-abbrev pub made : (X : Type 0) → X → Result X (Fail Status)
-made X x = Ok x
-
-pub again : {X Y : Type 0} {f g : Fail Status} → failed X f ≡ failed X g → failed Y f ≡ failed Y g
-again {X} {Y} {f} {g} e = ap (failed Y) (inside e) where
-  inside : failed X f ≡ failed X g → f ≡ g
-  inside e = cc
+use Rattle.command_jobs.proofs.Given.{rose_since, rose_until}
+use Rattle.command_jobs.proofs.Results.{again, failed, made, of_both, of_some, seen_by}
 
 pub moved : {X Y : Type 0} {f : Fail Status} {status : Status} → IsErrOf (failed X f) (Refused status) ⊎ IsErrOf (failed X f) NoMemory → IsErrOf (failed Y f) (Refused status) ⊎ IsErrOf (failed Y f) NoMemory
 moved (inl e) = inl (again e)
@@ -46,9 +23,9 @@ out (inl none) = cc
 out (inr e) = inr (again e)
 
 -- what is made of bytes reads no file
-pub tried_none : {X : Type 0} {held : Bool} {bytes : List ℕ} {l : List ℕ → ℕ} {g : ℕ} {Refuses : Status → Type 0} {Is : List ℕ → X → Type 0} {Bad : List ℕ → Status → Type 0} {Good : List ℕ → Type 0}
+pub tried_none : {X : Type 0} {held : Bool} {contents : List ℕ → Option (List ℕ)} {bytes : List ℕ} {l : List ℕ → ℕ} {g : ℕ} {Refuses : Status → Type 0} {Is : List ℕ → X → Type 0} {Bad : List ℕ → Status → Type 0} {Good : List ℕ → Type 0}
     → ((status : Status) → Bad bytes status → Refuses status) → (r : Result X (Fail Status))
-    → IsParsed bytes Is Bad Good r → IsTried held [] l l g g Refuses ⊥ (Bad bytes) (Good bytes) r
+    → IsParsed bytes Is Bad Good r → IsTried (seen_by held contents l l g g) [] Refuses ⊥ (Bad bytes) (Good bytes) r
 tried_none kind r parsed = record {
   refusal = λ status e. kind status (parsed.refused status e);
   read = λ e. parsed.refusal ReadFault e;
@@ -67,7 +44,7 @@ parsed_of {Is = Is} {Bad = Bad} {Good = Good} {r = r} same parsed = subst (λ (x
 -- by equal contents, and where more files may be unread
 pub same_tried : {X : Type 0} {held : Bool} {sources : List Source} {c d : List ℕ → Option (List ℕ)} {lb ln : List ℕ → ℕ} {gb gn : ℕ} {Refuses : Status → Type 0} {U V : Type 0}
     (Bad : (List ℕ → Option (List ℕ)) → Status → Type 0) (Good : (List ℕ → Option (List ℕ)) → Type 0) (r : Result X (Fail Status)) → (IsTrue held → c ≡ d) → (IsTrue held → U → V)
-    → IsTried held sources lb ln gb gn Refuses U (Bad c) (Good c) r → IsTried held sources lb ln gb gn Refuses V (Bad d) (Good d) r
+    → IsTried (seen_by held c lb ln gb gn) sources Refuses U (Bad c) (Good c) r → IsTried (seen_by held d lb ln gb gn) sources Refuses V (Bad d) (Good d) r
 same_tried Bad Good r same more tried = record {
   refusal = tried.refusal;
   read = tried.read;
@@ -79,8 +56,8 @@ same_tried Bad Good r same more tried = record {
 }
 
 -- of one file alone
-pub tried_alone : {X : Type 0} {held : Bool} {sources : List Source} {lb ln : List ℕ → ℕ} {gb gn : ℕ} {Refuses : Status → Type 0} {U H : Type 0} {Bad : Status → Type 0} {Good : Type 0} (r : Result X (Fail Status))
-    → IsTried held sources lb ln gb gn Refuses (U ⊎ (H × ⊥)) Bad Good r → IsTried held sources lb ln gb gn Refuses U Bad Good r
+pub tried_alone : {X : Type 0} {seen : Seen} {sources : List Source} {Refuses : Status → Type 0} {U H : Type 0} {Bad : Status → Type 0} {Good : Type 0} (r : Result X (Fail Status))
+    → IsTried seen sources Refuses (U ⊎ (H × ⊥)) Bad Good r → IsTried seen sources Refuses U Bad Good r
 tried_alone {U = U} {H = H} r tried = record {
   refusal = tried.refusal;
   read = tried.read;
@@ -93,13 +70,6 @@ tried_alone {U = U} {H = H} r tried = record {
   only : U ⊎ (H × ⊥) → U
   only (inl unread) = unread
   only (inr none) = absurd none.1
-
--- counts that rose later, or until earlier, rose
-rose_since : (n before mid now : ℕ) → before ≤ mid → RoseBy n mid now → RoseBy n before now
-rose_since n before mid now later rose = omega (arith, later, rose)
-
-rose_until : (n before mid now : ℕ) → mid ≤ now → RoseBy n before mid → RoseBy n before now
-rose_until n before mid now later rose = omega (arith, later, rose)
 
 some_since : (sources : List Source) (before mid now : List ℕ → ℕ) → ((name : List ℕ) → before name ≤ mid name) → RoseAtSome sources mid now → RoseAtSome sources before now
 some_since [] before mid now later rose = rose
@@ -117,8 +87,8 @@ limited limit g h source sources (inr none, rose) = absurd none
 -- the first of some files is not to be had
 pub first_stops : {X : Type 0} {held : Bool} {source : Source} {sources : List Source} {contents : List ℕ → Option (List ℕ)} {lb ln : List ℕ → ℕ} {gb gn : ℕ} {Refuses : Status → Type 0} {Later : Type 0}
     (Bad : List ℕ → Status → Type 0) (Good : List ℕ → Type 0) → ((status : Status) → IsOfFile status → Refuses status) → (f : Fail Status)
-    → IsFileRead held source contents lb ln gb gn IsOfNone AreBytes NoneIsBad EachIsGood (failed (Vec ℕ Global) f)
-    → IsTried held (source ∷ sources) lb ln gb gn Refuses (Rose (lb source.name) (ln source.name) ⊎ Later)
+    → IsFileRead (seen_by held contents lb ln gb gn) source IsOfNone AreBytes NoneIsBad EachIsGood (failed (Vec ℕ Global) f)
+    → IsTried (seen_by held contents lb ln gb gn) (source ∷ sources) Refuses (Rose (lb source.name) (ln source.name) ⊎ Later)
     (IsBadFile Bad source contents) (Holds source contents Good) (failed X f)
 first_stops {source = source} {sources = sources} {contents = contents} {lb = lb} {ln = ln} {gb = gb} {gn = gn} {Refuses = Refuses} Bad Good kind f first = record {
   refusal = λ status e. of_file status (first.tried.refusal status (again e));
@@ -142,16 +112,16 @@ first_stops {source = source} {sources = sources} {contents = contents} {lb = lb
 
 -- a file that was read is held
 held_here : {held : Bool} {source : Source} {contents : List ℕ → Option (List ℕ)} {lb ln : List ℕ → ℕ} {gb gn : ℕ} (v : Vec ℕ Global)
-    → IsFileRead held source contents lb ln gb gn IsOfNone AreBytes NoneIsBad EachIsGood (made (Vec ℕ Global) v) → IsTrue held → Holds source contents EachIsGood
+    → IsFileRead (seen_by held contents lb ln gb gn) source IsOfNone AreBytes NoneIsBad EachIsGood (made (Vec ℕ Global) v) → IsTrue held → Holds source contents EachIsGood
 held_here {source = source} {contents = contents} v file told = of_some (contents source.name) (file.made told) (λ bytes own. (own.0, tt))
 
 -- the first of some files is read, and the others decide
 pub others_decide : {X : Type 0} {held : Bool} {source : Source} {sources : List Source} {contents : List ℕ → Option (List ℕ)} {lb lm ln : List ℕ → ℕ} {gb gm gn : ℕ} {Refuses : Status → Type 0} {Later : Type 0}
     (Bad : List ℕ → Status → Type 0) (Good : List ℕ → Type 0) (v : Vec ℕ Global) (r : Result X (Fail Status))
-    → IsFileRead held source contents lb lm gb gm IsOfNone AreBytes NoneIsBad EachIsGood (made (Vec ℕ Global) v)
-    → IsTried held sources lm ln gm gn Refuses Later (Bad v.items) (Good v.items) r
+    → IsFileRead (seen_by held contents lb lm gb gm) source IsOfNone AreBytes NoneIsBad EachIsGood (made (Vec ℕ Global) v)
+    → IsTried (seen_by held contents lm ln gm gn) sources Refuses Later (Bad v.items) (Good v.items) r
     → ((name : List ℕ) → lb name ≤ lm name) → ((name : List ℕ) → lm name ≤ ln name) → gb ≤ gm
-    → IsTried held (source ∷ sources) lb ln gb gn Refuses (Rose (lb source.name) (ln source.name) ⊎ (Holds source contents EachIsGood × Later))
+    → IsTried (seen_by held contents lb ln gb gn) (source ∷ sources) Refuses (Rose (lb source.name) (ln source.name) ⊎ (Holds source contents EachIsGood × Later))
     (IsBadFile Bad source contents) (Holds source contents Good) r
 others_decide {X} {held} {source} {sources} {contents} {lb} {lm} {ln} {gb} {gm} {gn} Bad Good v r first others risen rises given = record {
   refusal = others.refusal;
@@ -172,7 +142,7 @@ others_decide {X} {held} {source} {sources} {contents} {lb} {lm} {ln} {gb} {gm} 
 -- what is made of the bytes is made of the file that holds them
 pub made_of : {X : Type 0} {held : Bool} {source : Source} {contents mid : List ℕ → Option (List ℕ)} {lb lm : List ℕ → ℕ} {gb gm : ℕ}
     (P : (List ℕ → Option (List ℕ)) → List ℕ → X → Type 0) (v : Vec ℕ Global) (r : Result X (Fail Status))
-    → IsFileRead held source contents lb lm gb gm IsOfNone AreBytes NoneIsBad EachIsGood (made (Vec ℕ Global) v) → IsTrue held → mid ≡ contents
+    → IsFileRead (seen_by held contents lb lm gb gm) source IsOfNone AreBytes NoneIsBad EachIsGood (made (Vec ℕ Global) v) → IsTrue held → mid ≡ contents
     → IfOk r (P mid v.items) → IfOk r (λ x. HeldIn contents source (λ bytes. P contents bytes x))
 made_of {X = X} {source = source} {contents = contents} P v r first told same is = by r (subst (λ held. IfOk r (P held v.items)) same is) where
   by : (r : Result X (Fail Status)) → IfOk r (P contents v.items) → IfOk r (λ x. HeldIn contents source (λ bytes. P contents bytes x))

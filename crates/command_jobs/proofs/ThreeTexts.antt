@@ -28,7 +28,8 @@ use Rattle.command_jobs.specs.Stages.{IsChangedBy, IsReadCert, IsReadInstance}
 use Rattle.command_jobs.specs.declared.edited.Edited.{Edited}
 use Rattle.command_jobs.specs.declared.texts.Changed.{Changed}
 use Rattle.command_jobs.proofs.FirstFaults.{one_first}
-use Rattle.command_jobs.proofs.Several.{again, failed, made, moved, out}
+use Rattle.command_jobs.proofs.Results.{again, failed, made}
+use Rattle.command_jobs.proofs.Several.{moved, out}
 
 -- by which answers texts are refused
 of_edits : (p : Problem) (bytes : List ℕ) (status : Status) → IsBadEdits p bytes status → IsOfEdits status

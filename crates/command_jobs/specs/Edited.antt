@@ -1,8 +1,9 @@
 -- An instance, a certificate and edits that are read from three files, and when they are refused.
-use Rattle.std.specs.Prelude.{◌≡◌, ℕ, List, [], Option, ◌⊎◌}
+use Rattle.std.specs.Prelude.{◌≡◌, ℕ, List, [], ◌∷◌, Option, Result, ◌⊎◌}
 use Rattle.carp_base.specs.Problem.{Problem, IsValid}
 use Rattle.carp_outside.specs.Causes.{Rose}
 use Rattle.carp_base.specs.Faults.{IsFirstFault}
+use Rattle.carp_base.specs.declared.fail.Fail.{Fail}
 use Rattle.carp_base.specs.declared.fault.InstanceFault.{InstanceFault}
 use Rattle.dat_text.specs.Text.{IsTextOf}
 use Rattle.cert_lines.specs.Spelling.{IsSpellable}
@@ -17,7 +18,7 @@ use Rattle.instance_edits.specs.Texts.{IsEditsText, IsFirstBad}
 use Rattle.command_words.specs.Commands.{instance_at, certificate_at, edits_at}
 use Rattle.command_words.specs.Commands.{Source}
 use Rattle.command_jobs.specs.Files.{Holds, IsBadInstance, IsGoodText, IsBadCertificate, IsBadFile}
-use Rattle.command_jobs.specs.Reads.{EachIsGood, IsOfCertificate, IsOfInstance}
+use Rattle.command_jobs.specs.Reads.{EachIsGood, IsOfCertificate, IsOfFile, IsOfInstance, IsTried, Seen}
 use Rattle.command_jobs.specs.declared.status.Status.{Status}
 use Rattle.command_jobs.specs.declared.status.Status.TheVariants.{BadEdit}
 use Rattle.command_jobs.specs.declared.edited.Edited.{Edited}
@@ -93,6 +94,13 @@ AreUnreadTwo cert edits contents before now = Rose (before cert) (now cert) ⊎ 
 
 abbrev pub AreUnread : (file cert edits : List ℕ) → (List ℕ → Option (List ℕ)) → (List ℕ → ℕ) → (List ℕ → ℕ) → Type 0
 AreUnread file cert edits contents before now = Rose (before file) (now file) ⊎ (Holds (instance_at file) contents EachIsGood × AreUnreadTwo cert edits contents before now)
+
+-- what becomes of three files that are read so
+abbrev pub AreTried : (file cert edits : List ℕ) → Seen → Result Edited (Fail Status) → Type 0
+AreTried file cert edits seen result =
+    IsTried seen (instance_at file ∷ certificate_at cert ∷ edits_at edits ∷ []) (λ status. IsOfFile status ⊎ IsOfTexts status)
+    (AreUnread file cert edits seen.contents seen.looks_before seen.looks_now)
+    (AreBadFiles file cert edits seen.contents) (AreGoodFiles file cert edits seen.contents) result
 
 -- an instance, a certificate that is good for it and can be spelled, edits that it knows, and the edited instance
 pub record IsEdited (x : Edited) : Type 0 where

@@ -1,7 +1,7 @@
 -- What told bytes of an instance file and of a certificate ask for.
 use Rattle.std.specs.Prelude.{◌≡◌, ℕ, ◌<◌, ◌≤◌, List, [], ◌∷◌, length, Option, IsSomeAnd, ◌⊎◌}
 use Rattle.carp_base.specs.Problem.{Problem}
-use Rattle.carp_outside.specs.Causes.{Rose}
+use Rattle.carp_outside.specs.Causes.{Rose, RoseBy}
 use Rattle.dat_text.specs.declared.fault.DatFault.{DatFault}
 use Rattle.dat_text.specs.Text.{IsTextOf, IsFaultOf}
 use Rattle.cert_lines.specs.declared.fault.CertFault.{CertFault}
@@ -23,9 +23,10 @@ Holds source contents Is = IsSomeAnd (contents source.name) (λ bytes. (length b
 abbrev pub HeldIn : (List ℕ → Option (List ℕ)) → Source → (List ℕ → Type 0) → Type 0
 HeldIn contents source Is = Holds source contents Is
 
--- the other way: this is so of some bytes, and whether the name held them is not told
-abbrev pub OfSomeBytes : Source → (List ℕ → Type 0) → Type 0
-OfSomeBytes source Is = (bytes : List ℕ) × Is bytes
+-- the other way: this is so of bytes that the files gave while the count of given bytes went from one number to another; whether the name held them is
+-- not told
+abbrev pub GivenIn : (given_before given_now : ℕ) → Source → (List ℕ → Type 0) → Type 0
+GivenIn given_before given_now source Is = (bytes : List ℕ) × RoseBy (length bytes) given_before given_now × Is bytes
 
 -- the file is held, and too long
 abbrev pub IsTooLong : Source → (List ℕ → Option (List ℕ)) → Type 0

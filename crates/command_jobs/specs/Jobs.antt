@@ -1,6 +1,7 @@
 -- The job of a command, and what is read for it.
-use Rattle.std.specs.Prelude.{◌≡◌, ℕ, Bool, List, [], Option, IsTrue}
+use Rattle.std.specs.Prelude.{◌≡◌, ℕ, Bool, List, [], Option, Result, IsTrue}
 use Rattle.carp_base.specs.Problem.{Problem}
+use Rattle.carp_base.specs.declared.fail.Fail.{Fail}
 use Rattle.plan_model.specs.Plans.{IsLawful}
 use Rattle.plan_model.specs.declared.step.Step.{Step}
 use Rattle.dat_text.specs.Text.{IsTextOf}
@@ -10,11 +11,14 @@ use Rattle.cert_lines.specs.Texts as certificates
 use Rattle.cert_format.specs.Certs.{certificate_in}
 use Rattle.cert_format.specs.Good.{IsGood, IsProof, with_counts}
 use Rattle.cert_format.specs.declared.cert.Cert.{Cert}
-use Rattle.command_words.specs.Commands.{Command, Source, Solve, Check, Sheet, Make, Drill, Upgrade, Postman, Fleet, Edit, instance_at, certificate_at}
+use Rattle.command_words.specs.Commands.{Command, Source, Solve, Check, Sheet, Make, Drill, Upgrade, Postman, Fleet, Edit, instance_at, certificate_at, reads}
 use Rattle.postman.specs.Rounds.{IsShownRound}
 use Rattle.command_words.specs.Laws.{HasBudget}
-use Rattle.command_jobs.specs.Files.{HeldIn, OfSomeBytes}
+use Rattle.command_jobs.specs.Files.{GivenIn, HeldIn}
 use Rattle.command_jobs.specs.Edited.{IsEdited, IsEditedFrom}
+use Rattle.command_jobs.specs.Inputs.{IsRefusalOf, IsRefused, CanBeDone, IsUnread}
+use Rattle.command_jobs.specs.Reads.{IsTried, Seen}
+use Rattle.command_jobs.specs.declared.status.Status.{Status}
 use Rattle.command_jobs.specs.declared.job.Job.{Job}
 use Rattle.command_jobs.specs.declared.job.Job.TheVariants as jobs
 
@@ -43,7 +47,7 @@ IsSoundJob (jobs.Postman laid) = IsShownRound laid.inst laid.round.walk laid.rou
 IsSoundJob (jobs.Fleet inst turns) = HasBudget (Fleet [] turns)
 IsSoundJob (jobs.Edit read edited carried) = IsEdited read
 
--- What follows is said for each way of reading files (`Reads`): of the bytes that their names hold, or of some bytes.
+-- What follows is said for each way of reading files (`Reads`): of the bytes that their names hold, or of bytes that they gave in this call.
 
 -- The two files are the texts of an instance and of a certificate that is good for it: its plan is lawful and costs what is stated, and no
 -- lawful plan costs less than its bound.
@@ -88,9 +92,16 @@ WasRead Reads (Fleet file turns) (jobs.Fleet inst asked) = Reads (instance_at fi
 WasRead Reads (Edit file cert edits edited carried) (jobs.Edit read first second) = IsEditedFrom file cert edits Reads read
 WasRead Reads _ _ = ⊥
 
--- The job of a command: it rests on some bytes, whether or not contents are told, and on those that the names hold where contents are told (`held`).
-pub record IsJobOf (held : Bool) (c : Command) (contents : List ℕ → Option (List ℕ)) (job : Job) : Type 0 where
+-- The job of a command: it rests on bytes that the files gave in this call, whether or not contents are told, and on those that the names hold where
+-- contents are told (`held`).
+pub record IsJobOf (held : Bool) (c : Command) (contents : List ℕ → Option (List ℕ)) (given_before given_now : ℕ) (job : Job) : Type 0 where
   pub is_for : IsFor c job
   pub sound : IsSoundJob job
-  pub founded : WasRead OfSomeBytes c job
+  pub founded : WasRead (GivenIn given_before given_now) c job
   pub was_read : IsTrue held → WasRead (HeldIn contents) c job
+
+-- what becomes of the files of a command, of which a call saw this: its job, or the status of the first bad one
+abbrev pub IsGathered : Command → Seen → Result Job (Fail Status) → Type 0
+IsGathered c seen result =
+    IsTried seen (reads c) (IsRefusalOf c) (IsUnread c seen.contents seen.looks_before seen.looks_now)
+    (IsRefused c seen.contents) (CanBeDone c seen.contents) result

@@ -22,7 +22,7 @@ use Rattle.postman.specs.declared.fault.PostmanFault.TheVariants as faults
 use Rattle.command_words.specs.Commands.{Source}
 use Rattle.command_jobs.specs.declared.reading.Stated.{Stated}
 use Rattle.command_jobs.specs.declared.rounds.Laid.{Laid}
-use Rattle.command_jobs.specs.Files.{HeldIn, Holds, IsBadFile, HasLimit, OfSomeBytes, RoseAtSome}
+use Rattle.command_jobs.specs.Files.{GivenIn, HeldIn, Holds, IsBadFile, HasLimit, RoseAtSome}
 use Rattle.command_jobs.specs.declared.status.Status.{Status}
 use Rattle.command_jobs.specs.declared.status.Status.TheVariants.{BadInstance, BadCertificate, BadEdit, NotJoined, Rejected, ReadFault, TooLong}
 
@@ -70,25 +70,35 @@ pub record IsParsed {X : Type 0} (bytes : List ℕ) (Is : List ℕ → X → Typ
   pub bad : (status : Status) → Bad bytes status → IsErrOf result (Refused status) ⊎ IsErrOf result NoMemory
   pub good : Good bytes → IsOk result ⊎ IsErrOf result NoMemory
 
+-- What a call saw of the files: whether what they hold is told, what they held at its beginning, and how many looks at each failed and how many bytes
+-- were given, at its beginning and at its end.
+pub record Seen : Type 0 where
+  pub held : Bool
+  pub contents : List ℕ → Option (List ℕ)
+  pub looks_before : List ℕ → ℕ
+  pub looks_now : List ℕ → ℕ
+  pub given_before : ℕ
+  pub given_now : ℕ
+
 -- What becomes of reading these files: each refusal is one of those that belong here (`Refuses`) and has its cause. Where contents are told, a file
 -- could not be read only where one of those was not to be had that had to be looked at (`Unread`); and else what is bad is refused and what is good is not.
-pub record IsTried {X : Type 0} (held : Bool) (sources : List Source) (looks_before looks_now : List ℕ → ℕ) (given_before given_now : ℕ)
+pub record IsTried {X : Type 0} (seen : Seen) (sources : List Source)
     (Refuses : Status → Type 0) (Unread : Type 0) (Bad : Status → Type 0) (Good : Type 0) (result : Result X (Fail Status)) : Type 0 where
   pub refusal : (status : Status) → IsErrOf result (Refused status) → Refuses status
-  pub read : IsErrOf result (Refused ReadFault) → RoseAtSome sources looks_before looks_now
-  pub order : IsTrue held → IsErrOf result (Refused ReadFault) → Unread
-  pub too_long : (limit : ℕ) → IsErrOf result (Refused (TooLong limit)) → HasLimit limit sources × RoseBy (limit + 1) given_before given_now
-  pub refused : IsTrue held → (status : Status) → IsErrOf result (Refused status) → (status ≡ ReadFault) ⊎ Bad status
-  pub bad : IsTrue held → (status : Status) → Bad status → ¬ (Unread) → IsErrOf result (Refused status) ⊎ IsErrOf result NoMemory
-  pub good : IsTrue held → Good → ¬ (Unread) → IsOk result ⊎ IsErrOf result NoMemory
+  pub read : IsErrOf result (Refused ReadFault) → RoseAtSome sources seen.looks_before seen.looks_now
+  pub order : IsTrue seen.held → IsErrOf result (Refused ReadFault) → Unread
+  pub too_long : (limit : ℕ) → IsErrOf result (Refused (TooLong limit)) → HasLimit limit sources × RoseBy (limit + 1) seen.given_before seen.given_now
+  pub refused : IsTrue seen.held → (status : Status) → IsErrOf result (Refused status) → (status ≡ ReadFault) ⊎ Bad status
+  pub bad : IsTrue seen.held → (status : Status) → Bad status → ¬ (Unread) → IsErrOf result (Refused status) ⊎ IsErrOf result NoMemory
+  pub good : IsTrue seen.held → Good → ¬ (Unread) → IsOk result ⊎ IsErrOf result NoMemory
 
 -- what the reading of a file gives. `Of` says by which answers its bytes can be refused
-pub record IsFileRead {X : Type 0} (held : Bool) (source : Source) (contents : List ℕ → Option (List ℕ)) (looks_before looks_now : List ℕ → ℕ) (given_before given_now : ℕ)
+pub record IsFileRead {X : Type 0} (seen : Seen) (source : Source)
     (Of : Status → Type 0) (Is : List ℕ → X → Type 0) (Bad : List ℕ → Status → Type 0) (Good : List ℕ → Type 0) (result : Result X (Fail Status)) : Type 0 where
-  pub made : IsTrue held → IfOk result (λ x. HeldIn contents source (λ bytes. Is bytes x))
-  pub some : IfOk result (λ x. OfSomeBytes source (λ bytes. Is bytes x))
-  pub tried : IsTried held (source ∷ []) looks_before looks_now given_before given_now (λ status. IsOfFile status ⊎ Of status) (Rose (looks_before source.name) (looks_now source.name))
-      (IsBadFile Bad source contents) (Holds source contents Good) result
+  pub made : IsTrue seen.held → IfOk result (λ x. HeldIn seen.contents source (λ bytes. Is bytes x))
+  pub founded : IfOk result (λ x. GivenIn seen.given_before seen.given_now source (λ bytes. Is bytes x))
+  pub tried : IsTried seen (source ∷ []) (λ status. IsOfFile status ⊎ Of status) (Rose (seen.looks_before source.name) (seen.looks_now source.name))
+      (IsBadFile Bad source seen.contents) (Holds source seen.contents Good) result
 
 -- the bytes themselves, which nothing refuses
 abbrev pub AreBytes : List ℕ → Vec ℕ Global → Type 0

@@ -1,12 +1,10 @@
 // Reads the three files of an edit.
-ghost use Rattle.std.specs.Prelude.{◌≡◌, ℕ, ◌≤◌, ◌<◌, ◌^◌, ◌⊎◌, List, length, IfOk, IsTrue, ◌∷◌, []};
-ghost use Rattle.carp_outside.specs.Causes.{Rose};
+ghost use Rattle.std.specs.Prelude.{◌≡◌, ℕ, ◌≤◌, ◌<◌, ◌^◌, List, length, IfOk, IsTrue};
 ghost use Rattle.carp_outside.specs.Told.{SameContents};
-ghost use Rattle.command_words.specs.Commands.{instance_at, certificate_at, edits_at};
-ghost use Rattle.command_jobs.specs.Files.{HeldIn, OfSomeBytes};
-ghost use Rattle.command_jobs.specs.Reads.{IsOfFile, IsTried};
-ghost use Rattle.command_jobs.specs.Edited.{AreBadFiles, AreGoodFiles, AreUnread, AreUnreadTwo, IsEdited, IsEditedFrom, IsOfTexts};
-ghost use Rattle.command_jobs.specs.Stages.{AreOfThird, AreOfTwo, IsBadThird, IsGoodThird, AreBadTwo, AreGoodTwo};
+ghost use Rattle.command_jobs.specs.Files.{GivenIn, HeldIn};
+ghost use Rattle.command_jobs.specs.Reads.{Seen};
+ghost use Rattle.command_jobs.specs.Edited.{AreTried, IsEdited, IsEditedFrom};
+ghost use Rattle.command_jobs.specs.Stages.{AreOfThird, AreOfTwo, AreTriedTwo, IsTriedThird};
 
 use crate::edited::Edited;
 use crate::texts::parse_texts;
@@ -34,9 +32,11 @@ pub fn read_edited<H: Shelf>(
     edits: &str,
 ) -> Result<Edited, Fail<Status>>
     ensures made { IsTrue H.tells → IfOk result (IsEditedFrom file.now cert.now edits.now (HeldIn (H.contents shelf.old))) }
-    ensures some { IfOk result (IsEditedFrom file.now cert.now edits.now OfSomeBytes) }
+    ensures founded { IfOk result (IsEditedFrom file.now cert.now edits.now (GivenIn (H.given shelf.old) (H.given shelf.new))) }
     ensures sound { IfOk result IsEdited }
-    ensures tried { IsTried H.tells (instance_at file.now ∷ certificate_at cert.now ∷ edits_at edits.now ∷ []) (H.failed_looks shelf.old) (H.failed_looks shelf.new) (H.given shelf.old) (H.given shelf.new) (λ status. IsOfFile status ⊎ IsOfTexts status) (AreUnread file.now cert.now edits.now (H.contents shelf.old) (H.failed_looks shelf.old) (H.failed_looks shelf.new)) (AreBadFiles file.now cert.now edits.now (H.contents shelf.old)) (AreGoodFiles file.now cert.now edits.now (H.contents shelf.old)) result }
+    ensures tried { let seen : Seen = record { held = H.tells; contents = H.contents shelf.old;
+            looks_before = H.failed_looks shelf.old; looks_now = H.failed_looks shelf.new; given_before = H.given shelf.old; given_now = H.given shelf.new } in
+        AreTried file.now cert.now edits.now seen result }
     ensures contents { IsTrue H.tells → SameContents (H.contents shelf.old) (H.contents shelf.new) }
     ensures keeps { H.failed_keeps shelf.new ≡ H.failed_keeps shelf.old }
 {
@@ -56,11 +56,14 @@ fn read_two<H: Shelf>(
 ) -> Result<Edited, Fail<Status>>
     requires { length text.items < 2 ^ 32 }
     ensures made { IsTrue H.tells → IfOk result (AreOfTwo text.items cert.now edits.now (HeldIn (H.contents shelf.old))) }
-    ensures some { IfOk result (AreOfTwo text.items cert.now edits.now OfSomeBytes) }
+    ensures founded { IfOk result (AreOfTwo text.items cert.now edits.now (GivenIn (H.given shelf.old) (H.given shelf.new))) }
     ensures sound { IfOk result IsEdited }
-    ensures tried { IsTried H.tells (certificate_at cert.now ∷ edits_at edits.now ∷ []) (H.failed_looks shelf.old) (H.failed_looks shelf.new) (H.given shelf.old) (H.given shelf.new) (λ status. IsOfFile status ⊎ IsOfTexts status) (AreUnreadTwo cert.now edits.now (H.contents shelf.old) (H.failed_looks shelf.old) (H.failed_looks shelf.new)) (AreBadTwo text.items cert.now edits.now (H.contents shelf.old)) (AreGoodTwo text.items cert.now edits.now (H.contents shelf.old)) result }
+    ensures tried { let seen : Seen = record { held = H.tells; contents = H.contents shelf.old;
+            looks_before = H.failed_looks shelf.old; looks_now = H.failed_looks shelf.new; given_before = H.given shelf.old; given_now = H.given shelf.new } in
+        AreTriedTwo text.items cert.now edits.now seen result }
     ensures contents { IsTrue H.tells → SameContents (H.contents shelf.old) (H.contents shelf.new) }
     ensures keeps { H.failed_keeps shelf.new ≡ H.failed_keeps shelf.old }
+    ensures given { H.given shelf.old ≤ H.given shelf.new }
     ensures looks { (other : List ℕ) → H.failed_looks shelf.old other ≤ H.failed_looks shelf.new other }
 {
     match read_file(alloc, shelf, cert, CERTIFICATE_LIMIT) {
@@ -79,11 +82,14 @@ fn read_third<H: Shelf>(
 ) -> Result<Edited, Fail<Status>>
     requires { length text.items < 2 ^ 32 }
     ensures made { IsTrue H.tells → IfOk result (AreOfThird text.items cert.items edits.now (HeldIn (H.contents shelf.old))) }
-    ensures some { IfOk result (AreOfThird text.items cert.items edits.now OfSomeBytes) }
+    ensures founded { IfOk result (AreOfThird text.items cert.items edits.now (GivenIn (H.given shelf.old) (H.given shelf.new))) }
     ensures sound { IfOk result IsEdited }
-    ensures tried { IsTried H.tells (edits_at edits.now ∷ []) (H.failed_looks shelf.old) (H.failed_looks shelf.new) (H.given shelf.old) (H.given shelf.new) (λ status. IsOfFile status ⊎ IsOfTexts status) (Rose (H.failed_looks shelf.old edits.now) (H.failed_looks shelf.new edits.now)) (IsBadThird text.items cert.items edits.now (H.contents shelf.old)) (IsGoodThird text.items cert.items edits.now (H.contents shelf.old)) result }
+    ensures tried { let seen : Seen = record { held = H.tells; contents = H.contents shelf.old;
+            looks_before = H.failed_looks shelf.old; looks_now = H.failed_looks shelf.new; given_before = H.given shelf.old; given_now = H.given shelf.new } in
+        IsTriedThird text.items cert.items edits.now seen result }
     ensures contents { IsTrue H.tells → SameContents (H.contents shelf.old) (H.contents shelf.new) }
     ensures keeps { H.failed_keeps shelf.new ≡ H.failed_keeps shelf.old }
+    ensures given { H.given shelf.old ≤ H.given shelf.new }
     ensures looks { (other : List ℕ) → H.failed_looks shelf.old other ≤ H.failed_looks shelf.new other }
 {
     match read_file(alloc, shelf, edits, EDITS_LIMIT) {

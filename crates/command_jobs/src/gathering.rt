@@ -3,12 +3,11 @@ ghost use Rattle.std.specs.Prelude.{◌≡◌, ℕ, ◌≤◌, IfOk, IsTrue};
 ghost use Rattle.carp_outside.specs.Told.{SameContents};
 ghost use Rattle.cert_format.specs.Certs.{certificate_in};
 ghost use Rattle.cert_format.specs.Good.{with_counts};
-ghost use Rattle.command_words.specs.Commands.{Solve, Check, Sheet, Upgrade, Postman, Fleet, Edit, reads};
+ghost use Rattle.command_words.specs.Commands.{Solve, Check, Sheet, Upgrade, Postman, Fleet, Edit};
 ghost use Rattle.command_words.specs.Forms.{command_in};
 ghost use Rattle.command_words.specs.Laws.{HasBudget};
-ghost use Rattle.command_jobs.specs.Reads.{IsTried};
-ghost use Rattle.command_jobs.specs.Inputs.{IsRefusalOf, IsRefused, CanBeDone, IsUnread};
-ghost use Rattle.command_jobs.specs.Jobs.{IsJobOf};
+ghost use Rattle.command_jobs.specs.Reads.{Seen};
+ghost use Rattle.command_jobs.specs.Jobs.{IsGathered, IsJobOf};
 
 use crate::job::Job;
 use carp_base::{Fail, Instance};
@@ -22,21 +21,24 @@ use std::alloc::Global;
 /// Reads the files of a command, each of them whole before the next, and makes its job of them: the first file that can't be read, is too long or
 /// is bad ends it with its status. A command without files has its job at once, and is never refused.
 ///
-/// A refusal is [`Status::ReadFault`] or [`Status::TooLong`], or one for the bytes of the files that the command reads: [`Status::BadInstance`] of an instance,
-/// [`Status::BadCertificate`] or [`Status::Rejected`] of a certificate, [`Status::BadEdit`] of edits, and [`Status::NotJoined`] of `postman` alone. Whether or not the shelf
-/// tells its contents, the job rests on some bytes that were read so: the certificate of a check, a sheet, an upgrade and an edit is good for the instance. Where it tells them, these are
-/// the bytes that the names hold, and what they hold decides, if no look failed at a file that had to be looked at.
+/// A refusal is [`Status::ReadFault`] or [`Status::TooLong`], or one for the bytes of the files that the command reads: [`Status::BadInstance`]
+/// of an instance, [`Status::BadCertificate`] or [`Status::Rejected`] of a certificate, [`Status::BadEdit`] of edits, and [`Status::NotJoined`]
+/// of `postman` alone. Whether or not the shelf tells its contents, the job rests on bytes that it gave in this call: the certificate of a
+/// check, a sheet, an upgrade and an edit is good for the instance. Where it tells them, these are the bytes that the names hold, and what they
+/// hold decides, if no look failed at a file that had to be looked at.
 ///
-/// `Fail::Memory` says only that memory was not to be had. It takes the time of reading the files and checking the certificate, for `postman` also of the round, and for `edit` of the
-/// edited instance.
+/// `Fail::Memory` says only that memory was not to be had. It takes the time of reading the files and checking the certificate, for `postman`
+/// also of the round, and for `edit` of the edited instance.
 pub fn gather<'a, H: Shelf>(
     alloc: Global,
     command: Command<'a>,
     shelf: &mut H,
 ) -> Result<Job<'a>, Fail<Status>>
     requires { HasBudget (command_in command) }
-    ensures job { IfOk result (IsJobOf H.tells (command_in command.entry) (H.contents shelf.old)) }
-    ensures tried { IsTried H.tells (reads (command_in command.entry)) (H.failed_looks shelf.old) (H.failed_looks shelf.new) (H.given shelf.old) (H.given shelf.new) (IsRefusalOf (command_in command.entry)) (IsUnread (command_in command.entry) (H.contents shelf.old) (H.failed_looks shelf.old) (H.failed_looks shelf.new)) (IsRefused (command_in command.entry) (H.contents shelf.old)) (CanBeDone (command_in command.entry) (H.contents shelf.old)) result }
+    ensures job { IfOk result (IsJobOf H.tells (command_in command.entry) (H.contents shelf.old) (H.given shelf.old) (H.given shelf.new)) }
+    ensures tried { let seen : Seen = record { held = H.tells; contents = H.contents shelf.old;
+            looks_before = H.failed_looks shelf.old; looks_now = H.failed_looks shelf.new; given_before = H.given shelf.old; given_now = H.given shelf.new } in
+        IsGathered (command_in command.entry) seen result }
     ensures contents { IsTrue H.tells → SameContents (H.contents shelf.old) (H.contents shelf.new) }
     ensures keeps { H.failed_keeps shelf.new ≡ H.failed_keeps shelf.old }
 {
@@ -79,8 +81,10 @@ fn gather_instance<'a, H: Shelf>(
 ) -> Result<Job<'a>, Fail<Status>>
     requires some_turns { 1 ≤ turns }
     requires turns_in_range { turns ≤ 1048576 }
-    ensures job { IfOk result (IsJobOf H.tells (Solve file.now cert.now turns seed) (H.contents shelf.old)) }
-    ensures tried { IsTried H.tells (reads (Solve file.now cert.now turns seed)) (H.failed_looks shelf.old) (H.failed_looks shelf.new) (H.given shelf.old) (H.given shelf.new) (IsRefusalOf (Solve file.now cert.now turns seed)) (IsUnread (Solve file.now cert.now turns seed) (H.contents shelf.old) (H.failed_looks shelf.old) (H.failed_looks shelf.new)) (IsRefused (Solve file.now cert.now turns seed) (H.contents shelf.old)) (CanBeDone (Solve file.now cert.now turns seed) (H.contents shelf.old)) result }
+    ensures job { IfOk result (IsJobOf H.tells (Solve file.now cert.now turns seed) (H.contents shelf.old) (H.given shelf.old) (H.given shelf.new)) }
+    ensures tried { let seen : Seen = record { held = H.tells; contents = H.contents shelf.old;
+            looks_before = H.failed_looks shelf.old; looks_now = H.failed_looks shelf.new; given_before = H.given shelf.old; given_now = H.given shelf.new } in
+        IsGathered (Solve file.now cert.now turns seed) seen result }
     ensures contents { IsTrue H.tells → SameContents (H.contents shelf.old) (H.contents shelf.new) }
     ensures keeps { H.failed_keeps shelf.new ≡ H.failed_keeps shelf.old }
 {
@@ -102,8 +106,10 @@ fn gather_checked<'a, H: Shelf>(
     cert: &str,
     shelf: &mut H,
 ) -> Result<Job<'a>, Fail<Status>>
-    ensures job { IfOk result (IsJobOf H.tells (Check file.now cert.now) (H.contents shelf.old)) }
-    ensures tried { IsTried H.tells (reads (Check file.now cert.now)) (H.failed_looks shelf.old) (H.failed_looks shelf.new) (H.given shelf.old) (H.given shelf.new) (IsRefusalOf (Check file.now cert.now)) (IsUnread (Check file.now cert.now) (H.contents shelf.old) (H.failed_looks shelf.old) (H.failed_looks shelf.new)) (IsRefused (Check file.now cert.now) (H.contents shelf.old)) (CanBeDone (Check file.now cert.now) (H.contents shelf.old)) result }
+    ensures job { IfOk result (IsJobOf H.tells (Check file.now cert.now) (H.contents shelf.old) (H.given shelf.old) (H.given shelf.new)) }
+    ensures tried { let seen : Seen = record { held = H.tells; contents = H.contents shelf.old;
+            looks_before = H.failed_looks shelf.old; looks_now = H.failed_looks shelf.new; given_before = H.given shelf.old; given_now = H.given shelf.new } in
+        IsGathered (Check file.now cert.now) seen result }
     ensures contents { IsTrue H.tells → SameContents (H.contents shelf.old) (H.contents shelf.new) }
     ensures keeps { H.failed_keeps shelf.new ≡ H.failed_keeps shelf.old }
 {
@@ -128,8 +134,10 @@ fn gather_plan<'a, H: Shelf>(
     cert: &str,
     shelf: &mut H,
 ) -> Result<Job<'a>, Fail<Status>>
-    ensures job { IfOk result (IsJobOf H.tells (Sheet file.now cert.now) (H.contents shelf.old)) }
-    ensures tried { IsTried H.tells (reads (Sheet file.now cert.now)) (H.failed_looks shelf.old) (H.failed_looks shelf.new) (H.given shelf.old) (H.given shelf.new) (IsRefusalOf (Sheet file.now cert.now)) (IsUnread (Sheet file.now cert.now) (H.contents shelf.old) (H.failed_looks shelf.old) (H.failed_looks shelf.new)) (IsRefused (Sheet file.now cert.now) (H.contents shelf.old)) (CanBeDone (Sheet file.now cert.now) (H.contents shelf.old)) result }
+    ensures job { IfOk result (IsJobOf H.tells (Sheet file.now cert.now) (H.contents shelf.old) (H.given shelf.old) (H.given shelf.new)) }
+    ensures tried { let seen : Seen = record { held = H.tells; contents = H.contents shelf.old;
+            looks_before = H.failed_looks shelf.old; looks_now = H.failed_looks shelf.new; given_before = H.given shelf.old; given_now = H.given shelf.new } in
+        IsGathered (Sheet file.now cert.now) seen result }
     ensures contents { IsTrue H.tells → SameContents (H.contents shelf.old) (H.contents shelf.new) }
     ensures keeps { H.failed_keeps shelf.new ≡ H.failed_keeps shelf.old }
 {
@@ -155,8 +163,10 @@ fn gather_renewed<'a, H: Shelf>(
     renewed: &'a str,
     shelf: &mut H,
 ) -> Result<Job<'a>, Fail<Status>>
-    ensures job { IfOk result (IsJobOf H.tells (Upgrade file.now cert.now renewed.now) (H.contents shelf.old)) }
-    ensures tried { IsTried H.tells (reads (Upgrade file.now cert.now renewed.now)) (H.failed_looks shelf.old) (H.failed_looks shelf.new) (H.given shelf.old) (H.given shelf.new) (IsRefusalOf (Upgrade file.now cert.now renewed.now)) (IsUnread (Upgrade file.now cert.now renewed.now) (H.contents shelf.old) (H.failed_looks shelf.old) (H.failed_looks shelf.new)) (IsRefused (Upgrade file.now cert.now renewed.now) (H.contents shelf.old)) (CanBeDone (Upgrade file.now cert.now renewed.now) (H.contents shelf.old)) result }
+    ensures job { IfOk result (IsJobOf H.tells (Upgrade file.now cert.now renewed.now) (H.contents shelf.old) (H.given shelf.old) (H.given shelf.new)) }
+    ensures tried { let seen : Seen = record { held = H.tells; contents = H.contents shelf.old;
+            looks_before = H.failed_looks shelf.old; looks_now = H.failed_looks shelf.new; given_before = H.given shelf.old; given_now = H.given shelf.new } in
+        IsGathered (Upgrade file.now cert.now renewed.now) seen result }
     ensures contents { IsTrue H.tells → SameContents (H.contents shelf.old) (H.contents shelf.new) }
     ensures keeps { H.failed_keeps shelf.new ≡ H.failed_keeps shelf.old }
 {
@@ -189,8 +199,10 @@ fn gather_round<'a, H: Shelf>(
     file: &str,
     shelf: &mut H,
 ) -> Result<Job<'a>, Fail<Status>>
-    ensures job { IfOk result (IsJobOf H.tells (Postman file.now) (H.contents shelf.old)) }
-    ensures tried { IsTried H.tells (reads (Postman file.now)) (H.failed_looks shelf.old) (H.failed_looks shelf.new) (H.given shelf.old) (H.given shelf.new) (IsRefusalOf (Postman file.now)) (IsUnread (Postman file.now) (H.contents shelf.old) (H.failed_looks shelf.old) (H.failed_looks shelf.new)) (IsRefused (Postman file.now) (H.contents shelf.old)) (CanBeDone (Postman file.now) (H.contents shelf.old)) result }
+    ensures job { IfOk result (IsJobOf H.tells (Postman file.now) (H.contents shelf.old) (H.given shelf.old) (H.given shelf.new)) }
+    ensures tried { let seen : Seen = record { held = H.tells; contents = H.contents shelf.old;
+            looks_before = H.failed_looks shelf.old; looks_now = H.failed_looks shelf.new; given_before = H.given shelf.old; given_now = H.given shelf.new } in
+        IsGathered (Postman file.now) seen result }
     ensures contents { IsTrue H.tells → SameContents (H.contents shelf.old) (H.contents shelf.new) }
     ensures keeps { H.failed_keeps shelf.new ≡ H.failed_keeps shelf.old }
 {
@@ -209,8 +221,10 @@ fn gather_fleet<'a, H: Shelf>(
 ) -> Result<Job<'a>, Fail<Status>>
     requires some_turns { 1 ≤ turns }
     requires turns_in_range { turns ≤ 1048576 }
-    ensures job { IfOk result (IsJobOf H.tells (Fleet file.now turns) (H.contents shelf.old)) }
-    ensures tried { IsTried H.tells (reads (Fleet file.now turns)) (H.failed_looks shelf.old) (H.failed_looks shelf.new) (H.given shelf.old) (H.given shelf.new) (IsRefusalOf (Fleet file.now turns)) (IsUnread (Fleet file.now turns) (H.contents shelf.old) (H.failed_looks shelf.old) (H.failed_looks shelf.new)) (IsRefused (Fleet file.now turns) (H.contents shelf.old)) (CanBeDone (Fleet file.now turns) (H.contents shelf.old)) result }
+    ensures job { IfOk result (IsJobOf H.tells (Fleet file.now turns) (H.contents shelf.old) (H.given shelf.old) (H.given shelf.new)) }
+    ensures tried { let seen : Seen = record { held = H.tells; contents = H.contents shelf.old;
+            looks_before = H.failed_looks shelf.old; looks_now = H.failed_looks shelf.new; given_before = H.given shelf.old; given_now = H.given shelf.new } in
+        IsGathered (Fleet file.now turns) seen result }
     ensures contents { IsTrue H.tells → SameContents (H.contents shelf.old) (H.contents shelf.new) }
     ensures keeps { H.failed_keeps shelf.new ≡ H.failed_keeps shelf.old }
 {
@@ -230,8 +244,11 @@ fn gather_edited<'a, H: Shelf>(
     carried: &'a str,
     shelf: &mut H,
 ) -> Result<Job<'a>, Fail<Status>>
-    ensures job { IfOk result (IsJobOf H.tells (Edit file.now cert.now edits.now edited.now carried.now) (H.contents shelf.old)) }
-    ensures tried { IsTried H.tells (reads (Edit file.now cert.now edits.now edited.now carried.now)) (H.failed_looks shelf.old) (H.failed_looks shelf.new) (H.given shelf.old) (H.given shelf.new) (IsRefusalOf (Edit file.now cert.now edits.now edited.now carried.now)) (IsUnread (Edit file.now cert.now edits.now edited.now carried.now) (H.contents shelf.old) (H.failed_looks shelf.old) (H.failed_looks shelf.new)) (IsRefused (Edit file.now cert.now edits.now edited.now carried.now) (H.contents shelf.old)) (CanBeDone (Edit file.now cert.now edits.now edited.now carried.now) (H.contents shelf.old)) result }
+    ensures job { IfOk result (IsJobOf H.tells (Edit file.now cert.now edits.now edited.now carried.now) (H.contents shelf.old)
+        (H.given shelf.old) (H.given shelf.new)) }
+    ensures tried { let seen : Seen = record { held = H.tells; contents = H.contents shelf.old;
+            looks_before = H.failed_looks shelf.old; looks_now = H.failed_looks shelf.new; given_before = H.given shelf.old; given_now = H.given shelf.new } in
+        IsGathered (Edit file.now cert.now edits.now edited.now carried.now) seen result }
     ensures contents { IsTrue H.tells → SameContents (H.contents shelf.old) (H.contents shelf.new) }
     ensures keeps { H.failed_keeps shelf.new ≡ H.failed_keeps shelf.old }
 {

@@ -8,7 +8,7 @@ ghost use Rattle.cert_lines.specs.Texts as certificates;
 ghost use Rattle.cert_format.specs.Certs.{certificate_in};
 ghost use Rattle.command_words.specs.Commands.{instance_at, certificate_at};
 ghost use Rattle.command_jobs.specs.Files.{IsInstance, IsBadInstance, IsGoodText, IsBadCertificate};
-ghost use Rattle.command_jobs.specs.Reads.{IsFileRead, IsOfCertificate, IsOfInstance, IsOfNone, IsParsed, AreBytes, NoneIsBad, EachIsGood, IsAcceptedText, IsGoodCert, accepted_of};
+ghost use Rattle.command_jobs.specs.Reads.{IsFileRead, IsOfCertificate, IsOfInstance, IsOfNone, IsParsed, AreBytes, NoneIsBad, EachIsGood, IsAcceptedText, IsGoodCert, Seen, accepted_of};
 
 use crate::status::Status;
 use carp_base::{Fail, Instance, Memory};
@@ -48,7 +48,9 @@ pub fn read_instance<H: Shelf>(
     shelf: &mut H,
     file: &str,
 ) -> Result<Instance, Fail<Status>>
-    ensures read { IsFileRead H.tells (instance_at file.now) (H.contents shelf.old) (H.failed_looks shelf.old) (H.failed_looks shelf.new) (H.given shelf.old) (H.given shelf.new) IsOfInstance IsTextOf IsBadInstance IsInstance result }
+    ensures read { let seen : Seen = record { held = H.tells; contents = H.contents shelf.old;
+            looks_before = H.failed_looks shelf.old; looks_now = H.failed_looks shelf.new; given_before = H.given shelf.old; given_now = H.given shelf.new } in
+        IsFileRead seen (instance_at file.now) IsOfInstance IsTextOf IsBadInstance IsInstance result }
     ensures contents { IsTrue H.tells → SameContents (H.contents shelf.old) (H.contents shelf.new) }
     ensures keeps { H.failed_keeps shelf.new ≡ H.failed_keeps shelf.old }
     ensures given { H.given shelf.old ≤ H.given shelf.new }
@@ -70,9 +72,12 @@ pub fn check_file<H: Shelf>(
     shelf: &mut H,
     file: &str,
 ) -> Result<Stated, Fail<Status>>
-    ensures read { IsFileRead H.tells (certificate_at file.now) (H.contents shelf.old) (H.failed_looks shelf.old) (H.failed_looks shelf.new) (H.given shelf.old) (H.given shelf.new) IsOfCertificate (IsAcceptedText inst.now) (IsBadCertificate inst.now) (IsGoodText inst.now) result }
+    ensures read { let seen : Seen = record { held = H.tells; contents = H.contents shelf.old;
+            looks_before = H.failed_looks shelf.old; looks_now = H.failed_looks shelf.new; given_before = H.given shelf.old; given_now = H.given shelf.new } in
+        IsFileRead seen (certificate_at file.now) IsOfCertificate (IsAcceptedText inst.now) (IsBadCertificate inst.now) (IsGoodText inst.now) result }
     ensures contents { IsTrue H.tells → SameContents (H.contents shelf.old) (H.contents shelf.new) }
     ensures keeps { H.failed_keeps shelf.new ≡ H.failed_keeps shelf.old }
+    ensures given { H.given shelf.old ≤ H.given shelf.new }
     ensures looks { (other : List ℕ) → H.failed_looks shelf.old other ≤ H.failed_looks shelf.new other }
 {
     texts_are_unique();
@@ -114,9 +119,12 @@ pub fn read_good<H: Shelf>(
     shelf: &mut H,
     file: &str,
 ) -> Result<Cert, Fail<Status>>
-    ensures read { IsFileRead H.tells (certificate_at file.now) (H.contents shelf.old) (H.failed_looks shelf.old) (H.failed_looks shelf.new) (H.given shelf.old) (H.given shelf.new) IsOfCertificate (IsGoodCert inst.now) (IsBadCertificate inst.now) (IsGoodText inst.now) result }
+    ensures read { let seen : Seen = record { held = H.tells; contents = H.contents shelf.old;
+            looks_before = H.failed_looks shelf.old; looks_now = H.failed_looks shelf.new; given_before = H.given shelf.old; given_now = H.given shelf.new } in
+        IsFileRead seen (certificate_at file.now) IsOfCertificate (IsGoodCert inst.now) (IsBadCertificate inst.now) (IsGoodText inst.now) result }
     ensures contents { IsTrue H.tells → SameContents (H.contents shelf.old) (H.contents shelf.new) }
     ensures keeps { H.failed_keeps shelf.new ≡ H.failed_keeps shelf.old }
+    ensures given { H.given shelf.old ≤ H.given shelf.new }
     ensures looks { (other : List ℕ) → H.failed_looks shelf.old other ≤ H.failed_looks shelf.new other }
 {
     match read_file(alloc, shelf, file, CERTIFICATE_LIMIT) {
@@ -135,7 +143,9 @@ pub(crate) fn read_file<H: Shelf>(
     limit: u64,
 ) -> Result<Vec<u8>, Fail<Status>>
     requires { limit < 2 ^ 32 }
-    ensures read { IsFileRead H.tells (record { name = file.now; limit = limit }) (H.contents shelf.old) (H.failed_looks shelf.old) (H.failed_looks shelf.new) (H.given shelf.old) (H.given shelf.new) IsOfNone AreBytes NoneIsBad EachIsGood result }
+    ensures read { let seen : Seen = record { held = H.tells; contents = H.contents shelf.old;
+            looks_before = H.failed_looks shelf.old; looks_now = H.failed_looks shelf.new; given_before = H.given shelf.old; given_now = H.given shelf.new } in
+        IsFileRead seen (record { name = file.now; limit = limit }) IsOfNone AreBytes NoneIsBad EachIsGood result }
     ensures within { IfOk result (λ bytes. length bytes.items ≤ limit) }
     ensures contents { IsTrue H.tells → SameContents (H.contents shelf.old) (H.contents shelf.new) }
     ensures keeps { H.failed_keeps shelf.new ≡ H.failed_keeps shelf.old }

@@ -6,7 +6,7 @@ ghost use Rattle.carp_outside.specs.Told.{SameContents};
 ghost use Rattle.dat_text.specs.Text.{IsTextOf};
 ghost use Rattle.command_words.specs.Commands.{instance_at};
 ghost use Rattle.command_jobs.specs.Files.{IsBadRound, IsJoinedText};
-ghost use Rattle.command_jobs.specs.Reads.{IsFileRead, IsNamed, IsOfRound, IsParsed, IsRoundOf};
+ghost use Rattle.command_jobs.specs.Reads.{IsFileRead, IsNamed, IsOfRound, IsParsed, IsRoundOf, Seen};
 
 use crate::reading::{INSTANCE_LIMIT, parse_instance, read_file};
 use crate::status::Status;
@@ -32,7 +32,9 @@ pub struct Laid {
 /// It is refused with [`Status::ReadFault`], [`Status::TooLong`] with [`INSTANCE_LIMIT`], [`Status::BadInstance`] or [`Status::NotJoined`]. `Fail::Memory` says only that memory was not
 /// to be had. It takes the time of reading, of least paths between all vertices and of [`postman::postman`].
 pub fn read_round<H: Shelf>(alloc: Global, shelf: &mut H, file: &str) -> Result<Laid, Fail<Status>>
-    ensures read { IsFileRead H.tells (instance_at file.now) (H.contents shelf.old) (H.failed_looks shelf.old) (H.failed_looks shelf.new) (H.given shelf.old) (H.given shelf.new) IsOfRound IsRoundOf IsBadRound IsJoinedText result }
+    ensures read { let seen : Seen = record { held = H.tells; contents = H.contents shelf.old;
+            looks_before = H.failed_looks shelf.old; looks_now = H.failed_looks shelf.new; given_before = H.given shelf.old; given_now = H.given shelf.new } in
+        IsFileRead seen (instance_at file.now) IsOfRound IsRoundOf IsBadRound IsJoinedText result }
     ensures contents { IsTrue H.tells → SameContents (H.contents shelf.old) (H.contents shelf.new) }
     ensures keeps { H.failed_keeps shelf.new ≡ H.failed_keeps shelf.old }
 {

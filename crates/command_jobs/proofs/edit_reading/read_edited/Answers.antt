@@ -1,17 +1,24 @@
 use Rattle.std.proofs.Common.{inl}
 use Rattle.std.proofs.Math.Path.{fun_ext}
-use Rattle.command_jobs.specs.Files.{HeldIn}
+use Rattle.command_words.specs.Commands.{instance_at}
+use Rattle.command_jobs.specs.Files.{GivenIn, HeldIn}
 use Rattle.command_jobs.specs.Stages.{AreBadTwo, AreGoodTwo, AreOfTwo}
+use Rattle.command_jobs.proofs.Given.{founded_by, two_since}
 use Rattle.command_jobs.proofs.Order.{unread_later}
-use Rattle.command_jobs.proofs.Several.{first_stops, made_of, of_ok, others_decide, same_tried}
+use Rattle.command_jobs.proofs.Several.{first_stops, made_of, others_decide, same_tried}
 use Rattle.command_jobs.proofs.edit_reading.read_edited.Goals as goal
 
 pub returns-in-Ok-clause-made : goal.returns-in-Ok-clause-made
 returns-in-Ok-clause-made g c = λ told.
     made_of (λ contents a x. AreOfTwo a c.args.cert.now c.args.edits.now (HeldIn contents) x) c.in-Ok.text c.read_two.result c.in-Ok.ensures.read told (fun_ext (c.in-Ok.ensures.contents told)) (c.read_two.ensures.made told)
 
-pub returns-in-Ok-clause-some : goal.returns-in-Ok-clause-some
-returns-in-Ok-clause-some g c = of_ok c.read_two.result c.read_two.ensures.some (λ x is. (c.in-Ok.text.items, is))
+pub returns-in-Ok-clause-founded : goal.returns-in-Ok-clause-founded
+returns-in-Ok-clause-founded g c =
+    let before = g.H.Shelf.given c.args.shelf.now in
+    let mid = g.H.Shelf.given c.read_file.new.shelf in
+    let now = g.H.Shelf.given c.read_two.new.shelf in
+    founded_by {P = λ a x. AreOfTwo a c.args.cert.now c.args.edits.now (GivenIn mid now) x} (instance_at c.args.file.now) before mid now c.in-Ok.text c.read_two.result c.read_two.ensures.given c.in-Ok.ensures.read.founded
+    (λ a x is. two_since a c.args.cert.now c.args.edits.now x before mid now c.in-Ok.ensures.given is) c.read_two.ensures.founded
 
 pub returns-in-Ok-clause-tried : goal.returns-in-Ok-clause-tried
 returns-in-Ok-clause-tried g c =

@@ -1,6 +1,9 @@
 use Rattle.std.proofs.Common.{arith, inl, inr, refl}
+use Rattle.command_words.specs.Commands.{edits_at}
 use Rattle.command_jobs.specs.Edited.{AreBadTexts, AreGoodTexts, IsEditedBy}
-use Rattle.command_jobs.proofs.Several.{first_stops, made_of, of_ok, others_decide, parsed_of, tried_alone, tried_none}
+use Rattle.command_jobs.proofs.Given.{founded_by}
+use Rattle.command_jobs.proofs.Results.{of_ok}
+use Rattle.command_jobs.proofs.Several.{first_stops, made_of, others_decide, parsed_of, tried_alone, tried_none}
 use Rattle.command_jobs.proofs.ThreeTexts.{of_texts}
 use Rattle.command_jobs.proofs.edit_reading.read_third.Goals as goal
 
@@ -9,8 +12,12 @@ returns-in-Ok-clause-made g c = λ told.
     let parsed = parsed_of c.deref.ensures.value c.parse_texts.ensures in
     made_of (λ contents b x. IsEditedBy c.args.text.items c.args.cert.items b x) c.in-Ok.bytes c.parse_texts.result c.in-Ok.ensures.read told refl parsed.made
 
-pub returns-in-Ok-clause-some : goal.returns-in-Ok-clause-some
-returns-in-Ok-clause-some g c = of_ok c.parse_texts.result c.parse_texts.ensures.made (λ x is. (c.deref.result.now, is))
+pub returns-in-Ok-clause-founded : goal.returns-in-Ok-clause-founded
+returns-in-Ok-clause-founded g c =
+    let parsed = parsed_of c.deref.ensures.value c.parse_texts.ensures in
+    let now = g.H.Shelf.given c.read_file.new.shelf in
+    founded_by {P = λ b x. IsEditedBy c.args.text.items c.args.cert.items b x} (edits_at c.args.edits.now) (g.H.Shelf.given c.args.shelf.now) now now c.in-Ok.bytes c.parse_texts.result (omega arith) c.in-Ok.ensures.read.founded
+    (λ b x is. is) parsed.made
 
 pub returns-in-Ok-clause-sound : goal.returns-in-Ok-clause-sound
 returns-in-Ok-clause-sound g c = of_ok c.parse_texts.result c.parse_texts.ensures.made (λ x is. is.is)

@@ -11,7 +11,7 @@ returns-in-Ok-clause-read g c =
       good = c.good_has_no_reason.ensures;
       reason = c.reason_is_unique.ensures;
     } in
-    file_checked laws c.in-Ok.checked c.accept.result c.accept.ensures c.in-Ok.ensures.checked c.in-Ok.ensures.some_text
+    file_checked laws c.in-Ok.checked c.accept.result c.accept.ensures c.in-Ok.ensures.checked c.in-Ok.ensures.given_text
 
 pub returns-in-Err-Refused-Bad-clause-read : goal.returns-in-Err-Refused-Bad-clause-read
 returns-in-Err-Refused-Bad-clause-read g c =
