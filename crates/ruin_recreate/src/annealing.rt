@@ -7,13 +7,11 @@ ghost use Rattle.ruin_recreate.specs.Search.{IsSearchOn};
 use crate::board::Board;
 use crate::draws::draw;
 use crate::neighbours::{Neighbours, neighbours};
-use crate::ordering::{order, shuffle};
+use crate::ordering::order;
 use crate::pricing::{fine_of, first_price, next_price};
 use crate::recreating::put;
-use crate::regretting::Regret;
 use crate::rounds::Round;
 use crate::ruining::{Ruin, locate};
-use crate::stirring::FEW_EDGES;
 use carp_base::Memory;
 use rand_pcg::Lcg64Xsh32;
 use std::alloc::Global;
@@ -22,20 +20,11 @@ use std::mem;
 // After so many steps the price of load follows how many of their rounds were lawful.
 const STEPS_AT_A_PRICE: u32 = 16;
 
-// In how many of 16 steps services are put back by regret: always where there are few edges. Where there are many it takes longer
-// than it gains.
-fn regret_share(edges: u32) -> u32 {
-    if edges <= FEW_EDGES { 16 } else { 4 }
-}
-
 // What a search works on.
 #[derive(Drop)]
 pub(crate) struct Search {
     near: Vec<Neighbours>,
     ruin: Ruin,
-    regret: Regret,
-    // In so many of 16 steps the services are put back by regret.
-    share: u32,
     pub(crate) current: Round,
     trial: Round,
     // The load above the room in the current round.
@@ -61,8 +50,6 @@ impl Search {
         Ok(Search {
             near: neighbours(alloc, board)?,
             ruin: Ruin::new(alloc, board.width)?,
-            regret: Regret::new(alloc),
-            share: regret_share(board.edges()),
             current,
             trial: Round::new(alloc, board.width)?,
             excess: 0,
@@ -99,32 +86,11 @@ impl Search {
         self.ruin
             .take_out(board, &self.current, &self.near, generator)?;
         self.trial.rest(board, &self.current, &self.ruin.gone)?;
-        self.ruin.unmark(board);
-        if draw(generator, 16) < self.share {
-            shuffle(board, &mut self.ruin.removed, generator);
-            self.regret.put_back(
-                board,
-                costs,
-                &mut self.trial,
-                self.price,
-                &mut self.ruin.removed,
-            )
-        } else {
-            order(board, &mut self.ruin.removed, generator);
-            self.put_in_order(board, costs)
-        }
-    }
-
-    // Puts the services back one after another, each where it costs least.
-    fn put_in_order(&mut self, board: &Board, costs: &[u32]) -> Result<(), Memory>
-        requires board { IsBoard board.now }
-        requires search { IsSearchOn board.now.width self.old }
-        requires costs { length costs.now ≡ board.now.width }
-        ensures { OnOk result (IsSearchOn board.now.width self.new) }
-    {
+        order(board, &mut self.ruin.removed, generator);
         for i in 0..self.ruin.removed.len() {
             let stop = self.ruin.removed[i].stop;
             put(board, costs, &mut self.trial, self.price, stop)?;
+            self.ruin.gone[stop as usize / 2] = false;
         }
         Ok(())
     }

@@ -7,7 +7,6 @@
 //! - `rounds`: tours one after another, as gaps between stops.
 //! - `neighbours`, `ruining`: edges near one another, and strings of services that are taken out.
 //! - `ordering`, `recreating`: in what order they are put back, and where.
-//! - `regretting`: the same by regret, first the service that loses most by waiting.
 //! - `pricing`, `annealing`, `stirring`: what is taken up, and how long.
 #![tactic(auto)]
 
@@ -19,7 +18,6 @@ mod neighbours;
 mod ordering;
 mod pricing;
 mod recreating;
-mod regretting;
 mod rounds;
 mod ruining;
 mod stirring;

@@ -42,7 +42,7 @@ impl Rule {
     }
 }
 
-fn permute(removed: &mut [Removed], generator: &mut Lcg64Xsh32)
+fn shuffle(removed: &mut [Removed], generator: &mut Lcg64Xsh32)
     ensures { IsPermutation removed.old removed.new }
 {
     for i in 1..removed.len() {
@@ -51,14 +51,6 @@ fn permute(removed: &mut [Removed], generator: &mut Lcg64Xsh32)
         };
         removed.swap(i, draw(generator, limit) as usize);
     }
-}
-
-// Puts services in random order.
-pub(crate) fn shuffle(_board: &Board, removed: &mut [Removed], generator: &mut Lcg64Xsh32)
-    requires within { AreOn _board.now.width removed.old }
-    ensures { AreOn _board.now.width removed.new }
-{
-    permute(removed, generator);
 }
 
 // Sorts services by a rule.
@@ -80,7 +72,7 @@ pub(crate) fn order(board: &Board, removed: &mut [Removed], generator: &mut Lcg6
     ensures { AreOn board.now.width removed.new }
 {
     let rule = Rule::of(draw(generator, 11));
-    shuffle(board, removed, generator);
+    shuffle(removed, generator);
     if let Some(rule) = rule {
         sort(board, removed, rule);
     }

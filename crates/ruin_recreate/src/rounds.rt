@@ -198,11 +198,6 @@ impl Round {
         Ok(())
     }
 
-    // The place of the first gap of a tour, or past all gaps.
-    pub(crate) fn start(&self, tour: usize) -> usize {
-        self.tours.get(tour).map_or(usize::MAX, |open| open.first)
-    }
-
     // The place behind the last gap of a tour.
     pub(crate) fn end(&self, tour: usize) -> usize
         ensures { result ≤ length self.now.gaps.items }

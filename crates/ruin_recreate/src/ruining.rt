@@ -73,18 +73,6 @@ impl Ruin {
         })
     }
 
-    // Marks no edge as taken out.
-    pub(crate) fn unmark(&mut self, board: &Board)
-        requires board { IsBoard board.now }
-        requires ruin { IsRuinOn board.now.width self.old }
-        ensures { IsRuinOn board.now.width self.new }
-    {
-        for i in 0..self.removed.len() {
-            let stop = self.removed[i].stop;
-            self.gone[stop as usize / 2] = false;
-        }
-    }
-
     // Where a string begins: so many services before an edge, or at the start of its tour.
     fn start(&self, round: &Round, edge: u32, back: u32) -> usize
         requires { edge < length self.now.places.items }

@@ -9,39 +9,29 @@ use carp_base::Memory;
 use rand_pcg::Lcg64Xsh32;
 use std::alloc::Global;
 
-// So many required edges are few.
-pub(crate) const FEW_EDGES: u32 = 64;
-
 // The greatest number of steps in all.
-const MOST_STEPS: u32 = 90_000;
+const MOST_STEPS: u32 = 120_000;
 
 // How many steps there are in all: more for more pairs of edges, so that few edges are done soon.
 fn steps(edges: u32) -> u32
     requires { edges ≤ 600 }
 {
-    if edges <= FEW_EDGES {
-        8_000 + 18 * edges * edges
-    } else {
-        (6_000 + 13 * edges * edges).min(MOST_STEPS)
-    }
+    (8_000 + 18 * edges * edges).min(MOST_STEPS)
 }
 
 /// Looks for a cheaper round by ruin and recreate (Schrimpf, Schneider, Stamm-Wilbrandt and Dueck 2000): strings of services near
-/// one another are taken out of their tours (Christiaens and Vanden Berghe 2020) and put back, and annealing decides whether to go
-/// on from there. With at most 64 required edges they are put back by regret (Potvin and Rousseau 1993): first the service whose
-/// second-best tour is worst beside its best one. With more this is done in a fourth of the steps, and else each is put back where
-/// it costs least, in an order that is drawn. Loads above the room are permitted on the way, at a price that follows how many
-/// rounds are lawful.
+/// one another are taken out of their tours (Christiaens and Vanden Berghe 2020) and each is put back where it costs least, and
+/// annealing decides whether to go on from there. Loads above the room are permitted on the way, at a price that follows how
+/// many rounds are lawful.
 ///
 /// A round is a list of stops of the board: the depot before, between and after the tours. `costs` has what a crossing of its
 /// edge costs, for each stop. The answer is meant to be the start, or a round with the same services that costs fewer deadheads
 /// and loads no tour above the room. It is promised to have stops of the board alone, so the caller has to test it.
 ///
 /// The same generator gives the same answer. With m required edges there are up to six annealings, the first from the start and
-/// the others from one tour for each service, of 8,000 + 18 * m * m steps in all for m up to 64, and 6,000 + 13 * m * m and at most
-/// 90,000 for more, rounded down to as many for each. With fewer than two required edges the start is given back. A step takes out
-/// at most 28 services and takes time in proportion to m, and the neighbours of all edges, once, in proportion to m * m log m. Beside
-/// the board it takes space in proportion to m.
+/// the others from one tour for each service, of 8,000 + 18 * m * m steps in all and at most 120,000, rounded down to as many for
+/// each. With fewer than two required edges the start is given back. A step takes time in proportion to m, and the neighbours of
+/// all edges, once, in proportion to m * m log m. Beside the board it takes space in proportion to m.
 pub fn stir(
     alloc: Global,
     board: &Board,
