@@ -31,6 +31,8 @@ own_edges [] = refl
 own_edges (x ∷ xs) = let first = own_edge x in let rest = own_edges xs in search rules
 
 -- an instance is its numbers and its edges
-pub same_problem : (p q : Problem) → p.vertices ≡ q.vertices → p.depot ≡ q.depot → p.capacity ≡ q.capacity → p.required ≡ q.required → p.edges ≡ q.edges → p ≡ q
+pub same_problem :
+    (p q : Problem) → p.vertices ≡ q.vertices → p.depot ≡ q.depot → p.capacity ≡ q.capacity → p.required ≡ q.required →
+    p.edges ≡ q.edges → p ≡ q
 same_problem p q vertices depot capacity required edges =
     λ i. record { vertices = vertices i; depot = depot i; capacity = capacity i; required = required i; edges = edges i }

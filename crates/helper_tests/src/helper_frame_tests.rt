@@ -113,6 +113,7 @@ fn keeps_distances_of_one_instance(rt: HostRuntime) -> Result<(), Fail> {
     let mut known = KnownDistances::new();
     for (first, least) in [(1, 1), (100, 9), (100, 9), (1, 1)] {
         let inst = block(alloc, first)?;
+        assert!(rt; inst.vertices() == 4);
         let dist = known.distances(alloc, &inst)?;
         assert_eq!(rt; dist.get(1, 2), Some(least));
     }

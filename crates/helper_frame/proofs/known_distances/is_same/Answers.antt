@@ -15,5 +15,6 @@ returns-then-eq-clause-same c = λ so.
 pub returns-then-eq-clause-other : goal.returns-then-eq-clause-other
 returns-then-eq-clause-other c = λ same.
     let edges : c.edges.result.now ≡ c.edges-then-eq.result.now = search rules in
-    let told : c.eq-then-eq.result ≡ true = c.eq-then-eq.ensures ∙ subst (λ xs. pointwise edge_eq c.edges.result.now xs ≡ true) edges (own_edges c.edges.result.now) in
+    let told : c.eq-then-eq.result ≡ true =
+    c.eq-then-eq.ensures ∙ subst (λ xs. pointwise edge_eq c.edges.result.now xs ≡ true) edges (own_edges c.edges.result.now) in
     search rules
