@@ -287,7 +287,7 @@ pub job_prepared : {held : Bool} {c : Command} {found : Finding} {gb gn : ℕ} (
 job_prepared {held} {c} {found} {gb} {gn} job status work is tried made =
     let rests = performed (GivenIn gb gn) found.offered status work (given_apart gb gn) c job is.is_for is.sound is.founded made in
     let reports : HasReport status = done_reports c status rests.status_is in record {
-      right = λ known. inr (inr (rests.status_is, (performed (HeldIn found.contents) found.offered status work (held_apart found.contents) c job is.is_for is.sound (read_or_told {Reads = GivenIn gb gn} found.contents c job is.was_read is.founded known) made).done));
+      right = λ known. inr (inr (rests.status_is, (performed (HeldIn found.contents) found.offered status work (held_apart found.contents) c job is.is_for is.sound (read_or_told (GivenIn gb gn) found.contents c job is.was_read is.founded known) made).done));
       founded = inr (rests.status_is, rests.done);
       refusal = λ no. absurd (no reports);
       written = λ is. subst HasReport is reports;

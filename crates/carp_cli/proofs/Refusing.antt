@@ -90,24 +90,24 @@ reads_nothing_refuses_nothing (Fleet file turns) status none is = cc
 reads_nothing_refuses_nothing (Edit file cert edits edited carried) status none is = cc
 
 -- what a job without files says is so of any contents
-pub read_or_told : {held : Bool} {Reads : Source → (List ℕ → Type 0) → Type 0} (contents : List ℕ → Option (List ℕ)) (c : Command) (job : Job) → (IsTrue held → WasRead (HeldIn contents) c job) → WasRead Reads c job
+pub read_or_told : {held : Bool} (Reads : Source → (List ℕ → Type 0) → Type 0) (contents : List ℕ → Option (List ℕ)) (c : Command) (job : Job) → (IsTrue held → WasRead (HeldIn contents) c job) → WasRead Reads c job
     → IsKnown held (Some c) → WasRead (HeldIn contents) c job
-read_or_told contents c job told some (inl tells) = told tells
-read_or_told contents (Solve file cert turns seed) job told some (inr none) = cc
-read_or_told contents (Check file cert) job told some (inr none) = cc
-read_or_told contents (Sheet file cert) job told some (inr none) = cc
-read_or_told {Reads = Reads} contents (Make file seed) job told some (inr none) = by job some where
+read_or_told Reads contents c job told some (inl tells) = told tells
+read_or_told Reads contents (Solve file cert turns seed) job told some (inr none) = cc
+read_or_told Reads contents (Check file cert) job told some (inr none) = cc
+read_or_told Reads contents (Sheet file cert) job told some (inr none) = cc
+read_or_told Reads contents (Make file seed) job told some (inr none) = by job some where
   by : (job : Job) → WasRead Reads (Make file seed) job → WasRead (HeldIn contents) (Make file seed) job
   by (jobs.Make name drawn) some = tt
   by _ fails = absurd fails
-read_or_told {Reads = Reads} contents (Drill turns seed) job told some (inr none) = by job some where
+read_or_told Reads contents (Drill turns seed) job told some (inr none) = by job some where
   by : (job : Job) → WasRead Reads (Drill turns seed) job → WasRead (HeldIn contents) (Drill turns seed) job
   by (jobs.Drill asked drawn) some = tt
   by _ fails = absurd fails
-read_or_told contents (Upgrade file cert renewed) job told some (inr none) = cc
-read_or_told contents (Postman file) job told some (inr none) = cc
-read_or_told contents (Fleet file turns) job told some (inr none) = cc
-read_or_told contents (Edit file cert edits edited carried) job told some (inr none) = cc
+read_or_told Reads contents (Upgrade file cert renewed) job told some (inr none) = cc
+read_or_told Reads contents (Postman file) job told some (inr none) = cc
+read_or_told Reads contents (Fleet file turns) job told some (inr none) = cc
+read_or_told Reads contents (Edit file cert edits edited carried) job told some (inr none) = cc
 
 -- nor is what names hold refused
 pub refuses_only_read : {held : Bool} {P : Type 0} (contents : List ℕ → Option (List ℕ)) (status : Status) (c : Command) → IsKnown held (Some c) → IsRefused c contents status → (IsTrue held → P) → P
