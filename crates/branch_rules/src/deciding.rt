@@ -15,9 +15,9 @@ ghost use Rattle.plan_model.specs.Plans.{IsLawful, plan_cost, steps_of};
 
 use crate::{Branch, Decision, Node};
 use carp_base::{Allowed, Instance, Memory};
-use decision_chains::{Chains, plan};
 use cut_pool::ShorePool;
 use deadhead_paths::Distances;
+use decision_chains::{Chains, plan};
 use plan_model::Plan;
 use std::alloc::Global;
 

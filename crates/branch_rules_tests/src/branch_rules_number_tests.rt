@@ -2,8 +2,8 @@ ghost use Rattle.std.specs.Prelude.{◌≢◌, ◌≤◌, All, IsTrue, pos};
 ghost use Rattle.branch_rules.specs.Limits.{IsPriceNumber, IsShoreOf};
 ghost use Rattle.cut_pool.specs.Pools.{IsShoreNumber};
 
-use branch_rules::{Branch, NoUpper, Node, PriceSet, TooHeavy, Tree, Weight};
 use crate::signs::{branch_of, is_shore_of, one_street, other_vertex, triangle};
+use branch_rules::{Branch, NoUpper, Node, PriceSet, TooHeavy, Tree, Weight};
 use carp_base::{Fail as Refusal, Instance, Memory, RawEdge};
 use cut_pool::{Shore, ShorePool};
 use std::alloc::Global;

@@ -17,8 +17,8 @@ use grown_trees::GrowingTree;
 use plan_model::Plan;
 use road_network::Network;
 use route_pricing::Table;
-use task_tours::{cost_distances, lawful_cost, short_plans_cost_little};
 use std::alloc::Global;
+use task_tours::{cost_distances, lawful_cost, short_plans_cost_little};
 
 // What a search works with.
 #[derive(Drop)]

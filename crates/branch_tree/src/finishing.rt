@@ -10,8 +10,8 @@ use carp_base::{Instance, Memory};
 use cut_pool::ShorePool;
 use grown_trees::sound_trees_are_lean;
 use plan_model::Plan;
-use task_tours::short_plans_cost_little;
 use std::alloc::Global;
+use task_tours::short_plans_cost_little;
 
 /// What a search has found.
 #[derive(Drop)]

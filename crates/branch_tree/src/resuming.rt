@@ -12,8 +12,8 @@ use carp_base::{Instance, Memory};
 use cut_pool::ShorePool;
 use grown_trees::{GrowingNode, GrowingTree, sound_trees_are_lean};
 use plan_model::Plan;
-use task_tours::short_plans_cost_little;
 use std::alloc::Global;
+use task_tours::short_plans_cost_little;
 
 // The most turns of a budget.
 const MOST_TURNS: u64 = 1_048_576;

@@ -1,8 +1,8 @@
 // Certificates that are carried over to edited instances, and then checked.
 ghost use Rattle.std.specs.Prelude.{◌<◌};
 
-use carp_outside::{MemShelf, MemSink};
 use carp_cli_tests::runs::{REPORT_ROOM, run_words};
+use carp_outside::{MemShelf, MemSink};
 use std::alloc::Global;
 use std::process::Abort;
 use std::test::Fail;

@@ -2,8 +2,8 @@
 ghost use Rattle.std.specs.Prelude.{◌<◌};
 
 use carp_cli::Status;
-use carp_outside::{MemShelf, MemSink};
 use carp_cli_tests::runs::{REPORT_ROOM, run_words, shelf_with};
+use carp_outside::{MemShelf, MemSink};
 use std::alloc::Global;
 use std::process::Abort;
 use std::test::Fail;

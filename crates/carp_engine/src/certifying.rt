@@ -13,8 +13,8 @@ use branch_tree::Found;
 use carp_base::{Instance, Memory};
 use cert_format::{Cert, counts_of};
 use cut_pool::ShorePool;
-use task_tours::{lawful_cost, short_plans_cost_little};
 use std::alloc::Global;
+use task_tours::{lawful_cost, short_plans_cost_little};
 
 // The certificate of what was found, and the turns of its tree.
 pub(crate) fn certify(

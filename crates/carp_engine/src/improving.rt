@@ -15,12 +15,12 @@ use branch_tree::resumed_trees_have_turns;
 use carp_base::{Instance, Memory};
 use cert_format::{Cert, counts_are_in_range, good_is_proof, plans_are_on_edges};
 use cert_lines::{fine_is_spellable, shores_are_fine, spellable_is_fine};
-use decision_chains::fixed_values_compare;
 use deadhead_paths::tidy;
+use decision_chains::fixed_values_compare;
 use helper_rounds::ask_all;
 use plan_model::Proposer;
-use task_tours::{cost_distances, short_plans_are_allowed, short_plans_cost_little};
 use std::alloc::Global;
+use task_tours::{cost_distances, short_plans_are_allowed, short_plans_cost_little};
 use tree_transfer::note_nodes;
 
 /// The best plan that the helpers find from that of a good certificate on, whoever made it, and what a search shows that goes on from its

@@ -15,8 +15,8 @@ use cert_lines::{fine_is_spellable, shores_are_fine};
 use deadhead_paths::{single_tours, tidy};
 use helper_rounds::ask_all;
 use plan_model::Proposer;
-use task_tours::{cost_distances, short_plans_are_allowed, short_plans_cost_little};
 use std::alloc::Global;
+use task_tours::{cost_distances, short_plans_are_allowed, short_plans_cost_little};
 
 /// A certificate, and the turns of its tree: its inner nodes, and its leaves that show the cost by themselves.
 #[derive(Drop)]

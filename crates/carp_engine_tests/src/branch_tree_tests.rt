@@ -8,9 +8,9 @@ use carp_base::{Instance, Memory};
 use deadhead_paths::tidy;
 use plan_model::{JudgeRoom, Plan, Step, Verdict, Walk, judge, verdicts_are_exact};
 use samples::street;
-use task_tours::{cost_distances, short_plans_are_allowed};
 use std::alloc::Global;
 use std::test::Fail;
+use task_tours::{cost_distances, short_plans_are_allowed};
 
 fn one_vertex(alloc: Global) -> Result<Instance, Fail> {
     Ok(Instance::build(alloc, 1, 1, 1, &[], &[])?)

@@ -6,6 +6,7 @@ ghost use Rattle.cert_format.specs.Certs.{certificate_in};
 ghost use Rattle.cert_format.specs.Good.{IsGood};
 ghost use Rattle.cert_transfer.specs.Transfer.{IsCarriedOver};
 
+use crate::carry_plan;
 use crate::copies::{copy_pool, copy_sets};
 use crate::laws::known_laws;
 use carp_base::{Instance, Memory};
@@ -13,7 +14,6 @@ use cert_format::{Cert, counts_of};
 use instance_edits::Edit;
 use std::alloc::Global;
 use task_tours::{cost_distances, lawful_cost};
-use crate::carry_plan;
 use tree_transfer::{carry_tree, greatest_bound};
 
 /// A certificate that is good for an instance before edits, carried over to the instance `after` them, with the numbers of that one.

@@ -16,8 +16,8 @@ use carp_base::{Instance, Memory};
 use cert_format::{Cert, write_cert};
 use command_jobs::Status;
 use dat_text::write_dat;
-use plan_print::{push_line, push_words, sheet};
 use plan_model::Plan;
+use plan_print::{push_line, push_words, sheet};
 use std::alloc::Global;
 use town_maker::town;
 

@@ -14,8 +14,8 @@ use carp_engine::{Solved, solve};
 use cert_checker::{Answer, check, good_has_no_reason};
 use cert_format::Cert;
 use command_jobs::Status;
-use plan_print::{push_line, push_words};
 use plan_model::Proposer;
+use plan_print::{push_line, push_words};
 use std::alloc::Global;
 use town_maker::town;
 

@@ -14,9 +14,9 @@ use carp_base::{Instance, Memory};
 use command_jobs::Status;
 use fleet_pack::pack;
 use group_plans::{plan_of_groups, plans_are_packings};
-use plan_print::{push_gap, push_line, push_tours, push_words};
 use packing_trees::{PackNode, Packing};
 use plan_model::Plan;
+use plan_print::{push_gap, push_line, push_tours, push_words};
 use std::alloc::Global;
 use task_tours::cost_distances;
 

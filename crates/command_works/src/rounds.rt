@@ -8,8 +8,8 @@ ghost use Rattle.command_works.specs.Works.{work_in};
 use crate::delivery::Delivery;
 use carp_base::{Instance, Memory};
 use command_jobs::{Laid, Status};
-use plan_print::{push_line, push_route};
 use plan_model::Walk;
+use plan_print::{push_line, push_route};
 use std::alloc::Global;
 
 /// A least closed walk over all required edges: its cost, its deadheads and its route.

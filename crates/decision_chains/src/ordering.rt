@@ -5,8 +5,8 @@ ghost use Rattle.decision_chains.specs.ChainTables.{IsChainTable};
 ghost use Rattle.decision_chains.specs.Exclusions.{AreJoined, IsChainEnd};
 ghost use Rattle.carp_base.specs.Problem.{IsRequired};
 
-use carp_base::Memory;
 use crate::{Chains, yes_pairs_join};
+use carp_base::Memory;
 use std::alloc::Global;
 
 // The edges of the chain of an edge that is not marked yet, from one end to the other. They are marked.

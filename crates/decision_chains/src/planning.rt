@@ -10,11 +10,11 @@ ghost use Rattle.deadhead_paths.specs.Prices.{costs_of};
 ghost use Rattle.plan_model.specs.Plans.{IsLawful, plan_cost, steps_of};
 
 use crate::ordering::order;
+use crate::{Chains, direct, yes_pairs_join};
 use carp_base::Memory;
 use deadhead_paths::{
     Distances, least_prices_are_distances, least_prices_are_there, walks_are_task_tours,
 };
-use crate::{Chains, direct, yes_pairs_join};
 use plan_model::{Plan, Walk};
 use std::alloc::Global;
 use task_tours::{join, plans_are_tours};

@@ -3,11 +3,11 @@ ghost use Rattle.std.specs.Prelude.{All, IsTrue};
 ghost use Rattle.carp_base.specs.Problem.{IsRequired};
 
 use carp_base::{Instance, RawEdge};
+use decision_chains::direct;
 use std::alloc::Global;
 use std::process::Abort;
 use std::test::Fail;
 use task_tours::cost_distances;
-use decision_chains::direct;
 
 // A street whose service costs as much as a crossing.
 fn street(u: u64, v: u64, cost: u64) -> RawEdge {

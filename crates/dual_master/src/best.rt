@@ -7,6 +7,7 @@ ghost use Rattle.branch_rules.specs.Limits.{IsShoreOf};
 ghost use Rattle.dual_master.specs.Floors.{FitsAlways, ReachesJoin, ReachesRatio, ReachesShell};
 ghost use Rattle.dual_master.specs.Singles.{IsFloorPool};
 
+use crate::better_sets_reach_as_much;
 use crate::candidate::{better, join_candidate, ratio_candidate, shell_candidate};
 use crate::laws::growth_keeps_sets;
 use crate::singles::place_singles;
@@ -14,7 +15,6 @@ use branch_rules::PriceSet;
 use carp_base::{Instance, Memory};
 use cut_pool::ShorePool;
 use deadhead_paths::Distances;
-use crate::better_sets_reach_as_much;
 use road_network::Network;
 use route_pricing::Table;
 use std::alloc::Global;

@@ -6,11 +6,11 @@ ghost use Rattle.dual_master.specs.Floors.{ReachesJoin, ReachesRatio, ReachesShe
 ghost use Rattle.dual_master.specs.Candidates.{IsCandidate, IsFloorSet, IsNoMore, IsValueWithin};
 
 use crate::values::{is_no_more, value_under};
+use crate::{join_prices, ratio_prices, shell_prices};
 use branch_rules::{Branch, PriceSet};
 use carp_base::{Instance, Memory};
 use cut_pool::ShorePool;
 use deadhead_paths::Distances;
-use crate::{join_prices, ratio_prices, shell_prices};
 use road_network::Network;
 use route_pricing::Table;
 use std::alloc::Global;

@@ -7,9 +7,9 @@ ghost use Rattle.cert_format.specs.Certs.{certificate_in};
 ghost use Rattle.plan_print.specs.NumberLines.{number_line};
 ghost use Rattle.plan_print.specs.Report.{report_text, instance_line, result_lines, gap_line, tour_lines, tours_text, tour_line, route_text, crossing_text};
 
+use crate::{push_line, push_number, push_words};
 use carp_base::{Instance, Memory};
 use cert_format::Cert;
-use crate::{push_line, push_number, push_words};
 use plan_model::{Plan, Step, Walk, cost_of, load_of};
 use std::alloc::Global;
 

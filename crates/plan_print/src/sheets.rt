@@ -5,8 +5,8 @@ ghost use Rattle.plan_model.specs.Plans.{IsLawful, IsOnEdges, step_load, plan_co
 ghost use Rattle.plan_print.specs.NumberLines.{number_line};
 ghost use Rattle.plan_print.specs.Sheet.{crossing_words, step_end, step_line, step_lines, head_line, tour_steps, tours_steps, total_line, sheet_text};
 
-use carp_base::{Instance, Memory};
 use crate::{push_line, push_number, push_words};
+use carp_base::{Instance, Memory};
 use plan_model::{Plan, Step, Walk, cost_of, load_of};
 use std::alloc::Global;
 

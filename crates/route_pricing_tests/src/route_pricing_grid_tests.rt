@@ -5,8 +5,8 @@ ghost use Rattle.route_pricing.specs.Pricing.{IsGridRoom, IsServicePrice};
 
 use carp_base::{Allowed, Instance, RawEdge};
 use deadhead_paths::{Distances, cost_prices, distances};
-use route_pricing::{Grid, LIFT, NO_LABELS, UNREACHED};
 use road_network::Network;
+use route_pricing::{Grid, LIFT, NO_LABELS, UNREACHED};
 use samples::street;
 use std::alloc::Global;
 use std::process::Abort;

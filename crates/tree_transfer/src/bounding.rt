@@ -13,9 +13,9 @@ ghost use Rattle.tree_transfer.specs.Shown.{AreTreeNodes, HasShores, IsGreatestS
 
 use branch_rules::{Branch, Node, Path, PriceSet, Tree, nodes_show_their_tree};
 use carp_base::{Instance, Memory};
-use decision_chains::fixed_values_compare;
 use cut_pool::ShorePool;
 use deadhead_paths::Distances;
+use decision_chains::fixed_values_compare;
 use grown_trees::shown_under;
 use std::alloc::Global;
 use task_tours::lawful_cost;

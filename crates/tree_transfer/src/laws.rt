@@ -1,8 +1,8 @@
 // Laws over raised instances, as functions whose contract is the law.
 ghost use Rattle.tree_transfer.specs.Laws.{DeadheadsStayLight, EditsRaise, FixedValuesRise, NeedsRise, RoomWeightsFall, RoomsFall, SetsStayFit};
 
-use decision_chains::fixed_values_compare;
 use deadhead_paths::least_prices_are_there;
+use decision_chains::fixed_values_compare;
 
 /// Edits raise an instance: they only add to numbers, and close only streets that need no service.
 pub fn edits_raise_instances()
