@@ -16,7 +16,7 @@ use deadhead_paths::Distances;
 use plan_model::{Plan, Proposer, Walk};
 use rand_pcg::Lcg64Xsh32;
 use std::alloc::Global;
-use task_tours::{Standing, cost_distances, lawful_cost, plans_are_tours};
+use task_tours::{Standing, cost_distances, lawful_cost, plans_are_tours, served_once_are_as_many};
 
 // How many changes are drawn for one offer at most.
 const MOST_DRAWS: usize = 400;
@@ -62,6 +62,7 @@ fn improve(
     requires order { AreServedOnce inst.now order.old }
     ensures { OnOk result (AreServedOnce inst.now order.new) }
 {
+    served_once_are_as_many();
     let count = order.len();
     // What a read of the instance says of it is needed: that it is valid.
     let _ = inst.vertices();
