@@ -1,5 +1,4 @@
 pub mod Ranges
-pub mod Counting
 pub mod TourParts
 pub mod Whole
 pub mod SameServices

@@ -12,11 +12,10 @@ use Rattle.plan_model.specs.declared.step.Step.{Step}
 use Rattle.plan_model.specs.Plans.{IsLawful, steps_of, walk_at}
 use Rattle.deadhead_paths.specs.Tidy.{GoByLeastPaths, served_steps}
 use Rattle.deadhead_paths.specs.Tours.{task_of, tasks_of}
-use Rattle.task_tours.specs.Laws.{LawfulToursMakeLawfulPlans}
+use Rattle.task_tours.specs.Laws.{LawfulToursMakeLawfulPlans, ServedOnceAreAsMany}
 use Rattle.task_tours.specs.Tours.{AreLawfulTours, AreServedOnce, PlanGoesByLeastPaths, all_tasks, plan_tours, tour_load}
 use Rattle.cert_transfer.specs.Cutting.{cut_from, cut_tour, cut_tours}
 use Rattle.cert_transfer.specs.TourParts.{IsCarriedUpTo}
-use Rattle.cert_transfer.proofs.Counting.{few_tasks}
 use Rattle.cert_transfer.proofs.Ranges.{all_joined, all_left, all_right}
 
 module _ (p : Problem) where
@@ -127,9 +126,9 @@ module _ (p : Problem) where
   walk_required (walk ∷ old) zero below required = all_left (λ t. IsRequired p t.edge) (tasks_of walk) (all_tasks (plan_tours old)) required
   walk_required (walk ∷ old) (suc place) below required = walk_required old place (omega (arith, below)) (all_right (λ t. IsRequired p t.edge) (tasks_of walk) (all_tasks (plan_tours old)) required)
 
-  module _ (valid : IsValid p) (old : List (List Step)) (services : AreServedOnce p (all_tasks (plan_tours old))) where
+  module _ (count : ServedOnceAreAsMany) (valid : IsValid p) (old : List (List Step)) (services : AreServedOnce p (all_tasks (plan_tours old))) where
     pub walk_few : (place : ℕ) (plan : List (List Step)) → place < length old → IsCarriedUpTo p old place plan → length plan + length (tasks_of (walk_at old place)) ≤ 600
-    walk_few place plan below so_far = omega (arith, so_far.few, few_before old place below, few_tasks p (all_tasks (plan_tours old)) services, valid.few_required)
+    walk_few place plan below so_far = omega (arith, so_far.few, few_before old place below, count p (all_tasks (plan_tours old)) services, valid.few_required)
 
     module _ (place : ℕ) (plan : List (List Step)) (past : length old ≤ place) (so_far : IsCarriedUpTo p old place plan) where
       pub whole_tours : plan_tours plan ≡ cut_tours p (plan_tours old)
@@ -143,7 +142,7 @@ module _ (p : Problem) where
         arith,
         so_far.few,
         ap (λ walks. length (all_tasks (plan_tours walks))) (take_all place old past),
-        few_tasks p (all_tasks (plan_tours old)) services,
+        count p (all_tasks (plan_tours old)) services,
       )
 
       pub whole_short : length (steps_of plan) ≤ 2000000
@@ -153,6 +152,6 @@ module _ (p : Problem) where
         whole_few,
         ap (λ tours. length (all_tasks tours)) whole_tours,
         ap length (tours_serve (plan_tours old)),
-        few_tasks p (all_tasks (plan_tours old)) services,
+        count p (all_tasks (plan_tours old)) services,
         valid.few_required,
       )

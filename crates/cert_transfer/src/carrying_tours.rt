@@ -14,7 +14,7 @@ use carp_base::{Instance, Memory, Task};
 use deadhead_paths::Distances;
 use plan_model::{Plan, Walk};
 use std::alloc::Global;
-use task_tours::{add_tour, plans_are_tours};
+use task_tours::{add_tour, plans_are_tours, served_once_are_as_many};
 
 // Adds the tours into which these tasks are cut.
 fn add_parts(
@@ -86,6 +86,7 @@ pub fn carry_plan(
     ensures few_steps { IfOk result (λ new. length (steps_of new) ≤ 2000000) }
 {
     plans_are_tours();
+    served_once_are_as_many();
     // What a read of the instance says of it is needed: that it is valid.
     let _ = inst.vertices();
     let mut carried = Plan::new(alloc);

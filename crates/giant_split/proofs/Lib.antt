@@ -1,7 +1,6 @@
 pub mod Rising
 pub mod Ending
 pub mod Touring
-pub mod Counting
 pub mod Measuring
 pub mod Growing
 pub mod Exchanging

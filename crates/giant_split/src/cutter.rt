@@ -10,7 +10,7 @@ use crate::legs::{Leg, measure};
 use carp_base::{Instance, Memory, Task};
 use deadhead_paths::Distances;
 use std::alloc::Global;
-use task_tours::tours_are_linked;
+use task_tours::{served_once_are_as_many, tours_are_linked};
 
 // Cuts an order in these tables.
 fn cut_tasks(
@@ -30,6 +30,7 @@ fn cut_tasks(
     ensures { IsCutOrder inst.now order.now costs.new lasts.new }
 {
     tours_are_linked();
+    served_once_are_as_many();
     let capacity = inst.capacity();
     measure(inst, dist, order, legs);
     cut_legs(legs, capacity, costs, lasts);

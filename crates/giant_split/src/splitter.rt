@@ -14,7 +14,7 @@ use helper_frame::{Finder, Helper};
 use plan_model::{Plan, Walk};
 use rand_pcg::Lcg64Xsh32;
 use std::alloc::Global;
-use task_tours::plans_are_tours;
+use task_tours::{plans_are_tours, served_once_are_as_many};
 
 // How many changes are drawn for one offer at most.
 const MOST_DRAWS: usize = 400;
@@ -60,6 +60,7 @@ fn improve(
     requires order { AreServedOnce inst.now order.old }
     ensures { OnOk result (AreServedOnce inst.now order.new) }
 {
+    served_once_are_as_many();
     let count = order.len();
     // What a read of the instance says of it is needed: that it is valid.
     let _ = inst.vertices();

@@ -10,7 +10,7 @@ use carp_base::{Instance, Memory, Task};
 use deadhead_paths::Distances;
 use plan_model::Plan;
 use std::alloc::Global;
-use task_tours::{add_tour, plans_are_tours, tours_are_linked};
+use task_tours::{add_tour, plans_are_tours, served_once_are_as_many, tours_are_linked};
 
 // The plan of the tours into which the order was cut.
 fn join_tours(
@@ -28,6 +28,7 @@ fn join_tours(
 {
     plans_are_tours();
     tours_are_linked();
+    served_once_are_as_many();
     // What a read of the instance says of it is needed: that it is valid.
     let _ = inst.vertices();
     let mut plan = Plan::new(alloc);
@@ -59,6 +60,7 @@ pub fn split(
     requires order { AreServedOnce inst.now order.now }
     ensures { IfOk result (IsSplit inst.now order.now) }
 {
+    served_once_are_as_many();
     // What a read of the instance says of it is needed: that it is valid.
     let _ = inst.vertices();
     let mut cutter = Cutter::new(alloc, order.len())?;

@@ -3,3 +3,4 @@ pub mod Going
 pub mod Linking
 pub mod Plans
 pub mod Deadheads
+pub mod Counting

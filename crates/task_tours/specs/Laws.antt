@@ -1,12 +1,12 @@
 -- Laws over plans and their tours, over all valid instances.
-use Rattle.std.specs.Prelude.{◌≡◌, ℕ, ◌+◌, ◌≤◌, List}
+use Rattle.std.specs.Prelude.{◌≡◌, ℕ, ◌+◌, ◌≤◌, List, length}
 use Rattle.std.specs.List.{AllByRecursion}
 use Rattle.carp_base.specs.declared.edge.Task.{Task}
 use Rattle.carp_base.specs.Problem.{Problem, IsValid, IsRequired, required_cost}
 use Rattle.plan_model.specs.declared.step.Step.{Step}
 use Rattle.plan_model.specs.Plans.{IsLawful, plan_cost}
 use Rattle.deadhead_paths.specs.Prices.{IsLeastPrice, price_of, costs_of}
-use Rattle.task_tours.specs.Tours.{IsStand, plan_tours, all_tasks, PlanGoesByLeastPaths, AreLawfulTours, ToursDeadhead}
+use Rattle.task_tours.specs.Tours.{IsStand, plan_tours, all_tasks, AreServedOnce, PlanGoesByLeastPaths, AreLawfulTours, ToursDeadhead}
 
 -- from where a tour can stand there is a least price to where one can stand
 abbrev pub StandsAreLinked : Type 0
@@ -44,3 +44,7 @@ abbrev pub ToursCostAtLeast : Type 0
 ToursCostAtLeast =
     (p : Problem) → IsValid p → (plan : List (List Step)) (n : ℕ) → IsLawful p plan →
     ToursDeadhead p (price_of (costs_of p)) (plan_tours plan) n → required_cost p + n ≤ plan_cost p plan
+
+-- tasks that serve each required edge once are as many as these edges
+abbrev pub ServedOnceAreAsMany : Type 0
+ServedOnceAreAsMany = (p : Problem) (tasks : List Task) → AreServedOnce p tasks → length tasks ≡ p.required

@@ -1,5 +1,5 @@
 // Laws over plans and their tours, as functions whose contract is the law.
-ghost use Rattle.task_tours.specs.Laws.{JoinedPlanCosts, LawfulPlansHaveLawfulTours, LawfulToursMakeLawfulPlans, LeastCostIsSmall, StandsAreLinked, ToursCostAtLeast, ToursDeadheadIsThere, ToursDeadheadIsUnique};
+ghost use Rattle.task_tours.specs.Laws.{JoinedPlanCosts, LawfulPlansHaveLawfulTours, LawfulToursMakeLawfulPlans, LeastCostIsSmall, ServedOnceAreAsMany, StandsAreLinked, ToursCostAtLeast, ToursDeadheadIsThere, ToursDeadheadIsUnique};
 
 use deadhead_paths::{least_prices_are_there, walks_are_task_tours};
 use plan_model::required_edges_are_served_once;
@@ -27,3 +27,8 @@ pub fn plans_are_tours()
     walks_are_task_tours();
     required_edges_are_served_once();
 }
+
+/// Tasks that serve each required edge once, and no other edge, are as many as there are required edges.
+pub fn served_once_are_as_many()
+    ensures { ServedOnceAreAsMany }
+{}

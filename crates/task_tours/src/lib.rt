@@ -20,6 +20,6 @@ mod stands;
 
 pub use costs::{cost_distances, lawful_cost, least_cost};
 pub use joining::{add_tour, join};
-pub use laws::{plans_are_tours, tours_are_linked};
+pub use laws::{plans_are_tours, served_once_are_as_many, tours_are_linked};
 pub use short_laws::{short_plans_are_allowed, short_plans_cost_little};
 pub use stands::ends;

@@ -1,11 +1,10 @@
-use Rattle.std.proofs.Common.{subst}
+use Rattle.std.proofs.Common.{arith, subst}
 use Rattle.giant_split.specs.Cuts.{AreCutFrom}
-use Rattle.giant_split.proofs.Counting.{few_tasks}
 use Rattle.giant_split.proofs.Touring.{cut_order, fine_legs}
 use Rattle.giant_split.proofs.cutter.cut_tasks.Goals as goal
 
 pub measure-requires-clause-few : goal.measure-requires-clause-few
-measure-requires-clause-few c = few_tasks c.args.inst.now c.capacity-capacity.ensures.valid c.args.order.now c.requires.order
+measure-requires-clause-few c = omega (arith, c.served_once_are_as_many.ensures c.args.inst.now c.args.order.now c.requires.order, c.capacity-capacity.ensures.valid.few_required)
 
 pub cut_legs-requires-clause-fine : goal.cut_legs-requires-clause-fine
 cut_legs-requires-clause-fine c = rw c.capacity-capacity.ensures.value (fine_legs c.args.inst.now c.args.order.now c.measure.new.legs c.measure.ensures)

@@ -1,11 +1,11 @@
+use Rattle.std.proofs.Common.{arith}
 use Rattle.task_tours.specs.Tours.{AreServedOnce}
-use Rattle.giant_split.proofs.Counting.{few_tasks}
 use Rattle.giant_split.proofs.Exchanging.{served_alike}
 use Rattle.giant_split.proofs.splitter.improve.Goals as goal
 use Rattle.giant_split.proofs.splitter.improve.Goals.{then-cost-least, else-cost-least}
 
 pub new-requires : goal.new-requires
-new-requires c = few_tasks c.args.inst.now c.vertices.ensures.valid c.args.order.now c.requires.order
+new-requires c = omega (arith, c.served_once_are_as_many.ensures c.args.inst.now c.args.order.now c.requires.order, c.vertices.ensures.valid.few_required)
 
 pub cut-cost-requires-clause-order : goal.cut-cost-requires-clause-order
 cut-cost-requires-clause-order c = served_alike c.args.inst.now c.loop.order c.apply.new.order c.apply.ensures c.loop.invariant.order

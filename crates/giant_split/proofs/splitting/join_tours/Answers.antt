@@ -1,5 +1,4 @@
 use Rattle.std.proofs.Common.{arith}
-use Rattle.giant_split.proofs.Counting.{few_tasks}
 use Rattle.giant_split.proofs.Growing.{few_in_tour, split_more, split_whole}
 use Rattle.giant_split.proofs.splitting.join_tours.Goals as goal
 
@@ -14,7 +13,7 @@ add_tour-requires-clause-few c =
 
 pub add_tour-requires-clause-room : goal.add_tour-requires-clause-room
 add_tour-requires-clause-room c =
-    omega (arith, few_tasks c.args.inst.now c.vertices.ensures.valid c.args.order.now c.requires.order, c.loop-from.invariant.few, c.loop-from-test.true)
+    omega (arith, c.served_once_are_as_many.ensures c.args.inst.now c.args.order.now c.requires.order, c.vertices.ensures.valid.few_required, c.loop-from.invariant.few, c.loop-from-test.true)
 
 pub loop-from-preserved : goal.loop-from-preserved
 loop-from-preserved c =

@@ -1,5 +1,5 @@
-use Rattle.giant_split.proofs.Counting.{few_tasks}
+use Rattle.std.proofs.Common.{arith}
 use Rattle.giant_split.proofs.splitting.split.Goals as goal
 
 pub new-requires : goal.new-requires
-new-requires c = few_tasks c.args.inst.now c.vertices.ensures.valid c.args.order.now c.requires.order
+new-requires c = omega (arith, c.served_once_are_as_many.ensures c.args.inst.now c.args.order.now c.requires.order, c.vertices.ensures.valid.few_required)

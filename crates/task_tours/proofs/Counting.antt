@@ -4,7 +4,7 @@ use Rattle.std.specs.List.{AllByRecursion, count_by}
 use Rattle.std.proofs.lemmas.Bool.Decides.{nat_tests}
 use Rattle.std.proofs.lemmas.List.Sums.{sum_by-cons}
 use Rattle.carp_base.specs.declared.edge.Task.{Task}
-use Rattle.carp_base.specs.Problem.{Problem, IsValid, IsRequired}
+use Rattle.carp_base.specs.Problem.{Problem, IsRequired}
 use Rattle.task_tours.specs.Tours.{AreServedOnce}
 
 -- the tasks on edges up to a number
@@ -50,5 +50,5 @@ module _ (p : Problem) where
   counted tasks served (suc k) within =
       omega (arith, up_to_more k tasks, counted tasks served k (omega arith), served.once (suc k) (record { from_one = omega arith; in_range = within }))
 
-  pub few_tasks : IsValid p → (tasks : List Task) → AreServedOnce p tasks → length tasks ≤ 600
-  few_tasks valid tasks served = omega (arith, counted tasks served p.required (omega arith), all_up_to tasks served.required, valid.few_required)
+  pub as_many : (tasks : List Task) → AreServedOnce p tasks → length tasks ≡ p.required
+  as_many tasks served = omega (arith, counted tasks served p.required (omega arith), all_up_to tasks served.required)
