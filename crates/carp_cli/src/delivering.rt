@@ -17,12 +17,24 @@ pub(crate) fn deliver<H: Shelf, O: Sink>(
     ensures answer { result ≡ delivery.now.status ⊎ (result ≡ Status.WriteFault) }
     ensures kept { IsTrue H.tells → result ≢ Status.WriteFault → AreKept (work_in delivery.now).kept (H.contents shelf.old) (H.contents shelf.new) }
     ensures wrote { IsTrue O.tells → result ≢ Status.WriteFault → O.written out.new ≡ O.written out.old ++ delivery.now.text.items }
-    ensures cut { let before : Outside = record { contents = H.contents shelf.old; failed_looks = H.failed_looks shelf.old;
-            failed_keeps = H.failed_keeps shelf.old; given = H.given shelf.old; written = O.written out.old; failed_puts = O.faults out.old;
-            offered = [] } in
-        let now : Outside = record { contents = H.contents shelf.new; failed_looks = H.failed_looks shelf.new;
-            failed_keeps = H.failed_keeps shelf.new; given = H.given shelf.new; written = O.written out.new; failed_puts = O.faults out.new;
-            offered = [] } in
+    ensures cut { let before : Outside = record {
+      contents = H.contents shelf.old;
+      failed_looks = H.failed_looks shelf.old;
+      failed_keeps = H.failed_keeps shelf.old;
+      given = H.given shelf.old;
+      written = O.written out.old;
+      failed_puts = O.faults out.old;
+      offered = [];
+    } in
+        let now : Outside = record {
+          contents = H.contents shelf.new;
+          failed_looks = H.failed_looks shelf.new;
+          failed_keeps = H.failed_keeps shelf.new;
+          given = H.given shelf.new;
+          written = O.written out.new;
+          failed_puts = O.faults out.new;
+          offered = [];
+        } in
         result ≡ Status.WriteFault → (delivery.now.status ≡ Status.WriteFault) ⊎ IsLeftShort H.tells O.tells (work_in delivery.now) before now }
     ensures looks { (name : List ℕ) → H.failed_looks shelf.new name ≡ H.failed_looks shelf.old name }
     ensures given { H.given shelf.new ≡ H.given shelf.old }

@@ -4,7 +4,9 @@ ghost use Rattle.carp_cli.specs.Refusals.{apart_line, limit_line, refusal_text, 
 
 use carp_base::Memory;
 use command_jobs::Status;
-use plan_print::{certificate_fault_line, edit_fault_line, instance_fault_line, push_words, rejection_line};
+use plan_print::{
+    certificate_fault_line, edit_fault_line, instance_fault_line, push_words, rejection_line,
+};
 use std::alloc::Global;
 
 /// What is written for an answer: nothing where the answer has a report, or none is to be had.

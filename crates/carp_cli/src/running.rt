@@ -62,12 +62,24 @@ pub fn run<H: Shelf, O: Sink>(
     out: &mut O,
     helpers: &mut Vec<Box<dyn Proposer>>,
 ) -> Status
-    ensures leaves { let before : Outside = record { contents = H.contents shelf.old; failed_looks = H.failed_looks shelf.old;
-            failed_keeps = H.failed_keeps shelf.old; given = H.given shelf.old; written = O.written out.old; failed_puts = O.faults out.old;
-            offered = map (λ helper. (tally helper).least) helpers.old.items } in
-        let now : Outside = record { contents = H.contents shelf.new; failed_looks = H.failed_looks shelf.new;
-            failed_keeps = H.failed_keeps shelf.new; given = H.given shelf.new; written = O.written out.new; failed_puts = O.faults out.new;
-            offered = map (λ helper. (tally helper).least) helpers.new.items } in
+    ensures leaves { let before : Outside = record {
+      contents = H.contents shelf.old;
+      failed_looks = H.failed_looks shelf.old;
+      failed_keeps = H.failed_keeps shelf.old;
+      given = H.given shelf.old;
+      written = O.written out.old;
+      failed_puts = O.faults out.old;
+      offered = map (λ helper. (tally helper).least) helpers.old.items;
+    } in
+        let now : Outside = record {
+          contents = H.contents shelf.new;
+          failed_looks = H.failed_looks shelf.new;
+          failed_keeps = H.failed_keeps shelf.new;
+          given = H.given shelf.new;
+          written = O.written out.new;
+          failed_puts = O.faults out.new;
+          offered = map (λ helper. (tally helper).least) helpers.new.items;
+        } in
         Leaves H.tells O.tells (command_of (texts_of words.now)) before now result }
 
     // The helpers are those that came, in their order, and are left as they are but by a command that asks them.
@@ -91,8 +103,12 @@ fn prepare<'a, H: Shelf, P: Proposer>(
     shelf: &mut H,
     helpers: &mut Vec<P>,
 ) -> Result<Delivery<'a>, Memory>
-    ensures prepared { let finding : Finding = record { contents = H.contents shelf.old; looks_before = H.failed_looks shelf.old;
-            looks_now = H.failed_looks shelf.new; offered = map (λ helper. (P.tally helper).least) helpers.new.items } in
+    ensures prepared { let finding : Finding = record {
+      contents = H.contents shelf.old;
+      looks_before = H.failed_looks shelf.old;
+      looks_now = H.failed_looks shelf.new;
+      offered = map (λ helper. (P.tally helper).least) helpers.new.items;
+    } in
         IfOk result (λ d. IsPrepared H.tells (command_of (texts_of words.now)) finding (H.given shelf.old) (H.given shelf.new) d.status (work_in d)) }
     ensures contents { IsTrue H.tells → SameContents (H.contents shelf.old) (H.contents shelf.new) }
     ensures keeps { H.failed_keeps shelf.new ≡ H.failed_keeps shelf.old }
@@ -119,8 +135,12 @@ fn perform<'a, H: Shelf, P: Proposer>(
     helpers: &mut Vec<P>,
 ) -> Result<Delivery<'a>, Memory>
     requires { HasBudget (command_in command) }
-    ensures prepared { let finding : Finding = record { contents = H.contents shelf.old; looks_before = H.failed_looks shelf.old;
-            looks_now = H.failed_looks shelf.new; offered = map (λ helper. (P.tally helper).least) helpers.new.items } in
+    ensures prepared { let finding : Finding = record {
+      contents = H.contents shelf.old;
+      looks_before = H.failed_looks shelf.old;
+      looks_now = H.failed_looks shelf.new;
+      offered = map (λ helper. (P.tally helper).least) helpers.new.items;
+    } in
         IfOk result (λ d. IsPrepared H.tells (Some (command_in command.entry)) finding (H.given shelf.old) (H.given shelf.new) d.status (work_in d)) }
     ensures contents { IsTrue H.tells → SameContents (H.contents shelf.old) (H.contents shelf.new) }
     ensures keeps { H.failed_keeps shelf.new ≡ H.failed_keeps shelf.old }

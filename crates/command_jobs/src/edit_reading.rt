@@ -6,12 +6,12 @@ ghost use Rattle.command_jobs.specs.Reads.{Seen};
 ghost use Rattle.command_jobs.specs.Edited.{AreTried, IsEdited, IsEditedFrom};
 ghost use Rattle.command_jobs.specs.Stages.{AreOfThird, AreOfTwo, AreTriedTwo, IsTriedThird};
 
+use crate::Status;
 use crate::edited::Edited;
+use crate::reading::{CERTIFICATE_LIMIT, INSTANCE_LIMIT, read_file};
 use crate::texts::parse_texts;
 use carp_base::Fail;
 use carp_outside::Shelf;
-use crate::Status;
-use crate::reading::{CERTIFICATE_LIMIT, INSTANCE_LIMIT, read_file};
 use std::alloc::Global;
 
 /// The most bytes of a file of edits; contracts have the number from `edits_at`.
@@ -34,8 +34,14 @@ pub fn read_edited<H: Shelf>(
     ensures made { IsTrue H.tells → IfOk result (IsEditedFrom file.now cert.now edits.now (HeldIn (H.contents shelf.old))) }
     ensures founded { IfOk result (IsEditedFrom file.now cert.now edits.now (GivenIn (H.given shelf.old) (H.given shelf.new))) }
     ensures sound { IfOk result IsEdited }
-    ensures tried { let seen : Seen = record { held = H.tells; contents = H.contents shelf.old;
-            looks_before = H.failed_looks shelf.old; looks_now = H.failed_looks shelf.new; given_before = H.given shelf.old; given_now = H.given shelf.new } in
+    ensures tried { let seen : Seen = record {
+      held = H.tells;
+      contents = H.contents shelf.old;
+      looks_before = H.failed_looks shelf.old;
+      looks_now = H.failed_looks shelf.new;
+      given_before = H.given shelf.old;
+      given_now = H.given shelf.new;
+    } in
         AreTried file.now cert.now edits.now seen result }
     ensures contents { IsTrue H.tells → SameContents (H.contents shelf.old) (H.contents shelf.new) }
     ensures keeps { H.failed_keeps shelf.new ≡ H.failed_keeps shelf.old }
@@ -58,8 +64,14 @@ fn read_two<H: Shelf>(
     ensures made { IsTrue H.tells → IfOk result (AreOfTwo text.items cert.now edits.now (HeldIn (H.contents shelf.old))) }
     ensures founded { IfOk result (AreOfTwo text.items cert.now edits.now (GivenIn (H.given shelf.old) (H.given shelf.new))) }
     ensures sound { IfOk result IsEdited }
-    ensures tried { let seen : Seen = record { held = H.tells; contents = H.contents shelf.old;
-            looks_before = H.failed_looks shelf.old; looks_now = H.failed_looks shelf.new; given_before = H.given shelf.old; given_now = H.given shelf.new } in
+    ensures tried { let seen : Seen = record {
+      held = H.tells;
+      contents = H.contents shelf.old;
+      looks_before = H.failed_looks shelf.old;
+      looks_now = H.failed_looks shelf.new;
+      given_before = H.given shelf.old;
+      given_now = H.given shelf.new;
+    } in
         AreTriedTwo text.items cert.now edits.now seen result }
     ensures contents { IsTrue H.tells → SameContents (H.contents shelf.old) (H.contents shelf.new) }
     ensures keeps { H.failed_keeps shelf.new ≡ H.failed_keeps shelf.old }
@@ -84,8 +96,14 @@ fn read_third<H: Shelf>(
     ensures made { IsTrue H.tells → IfOk result (AreOfThird text.items cert.items edits.now (HeldIn (H.contents shelf.old))) }
     ensures founded { IfOk result (AreOfThird text.items cert.items edits.now (GivenIn (H.given shelf.old) (H.given shelf.new))) }
     ensures sound { IfOk result IsEdited }
-    ensures tried { let seen : Seen = record { held = H.tells; contents = H.contents shelf.old;
-            looks_before = H.failed_looks shelf.old; looks_now = H.failed_looks shelf.new; given_before = H.given shelf.old; given_now = H.given shelf.new } in
+    ensures tried { let seen : Seen = record {
+      held = H.tells;
+      contents = H.contents shelf.old;
+      looks_before = H.failed_looks shelf.old;
+      looks_now = H.failed_looks shelf.new;
+      given_before = H.given shelf.old;
+      given_now = H.given shelf.new;
+    } in
         IsTriedThird text.items cert.items edits.now seen result }
     ensures contents { IsTrue H.tells → SameContents (H.contents shelf.old) (H.contents shelf.new) }
     ensures keeps { H.failed_keeps shelf.new ≡ H.failed_keeps shelf.old }

@@ -10,10 +10,10 @@ ghost use Rattle.command_jobs.specs.Reads.{Seen};
 ghost use Rattle.command_jobs.specs.Jobs.{IsGathered, IsJobOf};
 
 use crate::job::Job;
+use crate::{Status, check_file, read_edited, read_good, read_instance, read_round};
 use carp_base::{Fail, Instance};
 use carp_outside::Shelf;
 use cert_format::{Cert, counts_keep_good, counts_of, good_is_proof};
-use crate::{Status, check_file, read_edited, read_good, read_instance, read_round};
 use command_words::Command;
 use dat_text::readings_are_unique;
 use std::alloc::Global;
@@ -36,8 +36,14 @@ pub fn gather<'a, H: Shelf>(
 ) -> Result<Job<'a>, Fail<Status>>
     requires { HasBudget (command_in command) }
     ensures job { IfOk result (IsJobOf H.tells (command_in command.entry) (H.contents shelf.old) (H.given shelf.old) (H.given shelf.new)) }
-    ensures tried { let seen : Seen = record { held = H.tells; contents = H.contents shelf.old;
-            looks_before = H.failed_looks shelf.old; looks_now = H.failed_looks shelf.new; given_before = H.given shelf.old; given_now = H.given shelf.new } in
+    ensures tried { let seen : Seen = record {
+      held = H.tells;
+      contents = H.contents shelf.old;
+      looks_before = H.failed_looks shelf.old;
+      looks_now = H.failed_looks shelf.new;
+      given_before = H.given shelf.old;
+      given_now = H.given shelf.new;
+    } in
         IsGathered (command_in command.entry) seen result }
     ensures contents { IsTrue H.tells → SameContents (H.contents shelf.old) (H.contents shelf.new) }
     ensures keeps { H.failed_keeps shelf.new ≡ H.failed_keeps shelf.old }
@@ -82,8 +88,14 @@ fn gather_instance<'a, H: Shelf>(
     requires some_turns { 1 ≤ turns }
     requires turns_in_range { turns ≤ 1048576 }
     ensures job { IfOk result (IsJobOf H.tells (Solve file.now cert.now turns seed) (H.contents shelf.old) (H.given shelf.old) (H.given shelf.new)) }
-    ensures tried { let seen : Seen = record { held = H.tells; contents = H.contents shelf.old;
-            looks_before = H.failed_looks shelf.old; looks_now = H.failed_looks shelf.new; given_before = H.given shelf.old; given_now = H.given shelf.new } in
+    ensures tried { let seen : Seen = record {
+      held = H.tells;
+      contents = H.contents shelf.old;
+      looks_before = H.failed_looks shelf.old;
+      looks_now = H.failed_looks shelf.new;
+      given_before = H.given shelf.old;
+      given_now = H.given shelf.new;
+    } in
         IsGathered (Solve file.now cert.now turns seed) seen result }
     ensures contents { IsTrue H.tells → SameContents (H.contents shelf.old) (H.contents shelf.new) }
     ensures keeps { H.failed_keeps shelf.new ≡ H.failed_keeps shelf.old }
@@ -107,8 +119,14 @@ fn gather_checked<'a, H: Shelf>(
     shelf: &mut H,
 ) -> Result<Job<'a>, Fail<Status>>
     ensures job { IfOk result (IsJobOf H.tells (Check file.now cert.now) (H.contents shelf.old) (H.given shelf.old) (H.given shelf.new)) }
-    ensures tried { let seen : Seen = record { held = H.tells; contents = H.contents shelf.old;
-            looks_before = H.failed_looks shelf.old; looks_now = H.failed_looks shelf.new; given_before = H.given shelf.old; given_now = H.given shelf.new } in
+    ensures tried { let seen : Seen = record {
+      held = H.tells;
+      contents = H.contents shelf.old;
+      looks_before = H.failed_looks shelf.old;
+      looks_now = H.failed_looks shelf.new;
+      given_before = H.given shelf.old;
+      given_now = H.given shelf.new;
+    } in
         IsGathered (Check file.now cert.now) seen result }
     ensures contents { IsTrue H.tells → SameContents (H.contents shelf.old) (H.contents shelf.new) }
     ensures keeps { H.failed_keeps shelf.new ≡ H.failed_keeps shelf.old }
@@ -135,8 +153,14 @@ fn gather_plan<'a, H: Shelf>(
     shelf: &mut H,
 ) -> Result<Job<'a>, Fail<Status>>
     ensures job { IfOk result (IsJobOf H.tells (Sheet file.now cert.now) (H.contents shelf.old) (H.given shelf.old) (H.given shelf.new)) }
-    ensures tried { let seen : Seen = record { held = H.tells; contents = H.contents shelf.old;
-            looks_before = H.failed_looks shelf.old; looks_now = H.failed_looks shelf.new; given_before = H.given shelf.old; given_now = H.given shelf.new } in
+    ensures tried { let seen : Seen = record {
+      held = H.tells;
+      contents = H.contents shelf.old;
+      looks_before = H.failed_looks shelf.old;
+      looks_now = H.failed_looks shelf.new;
+      given_before = H.given shelf.old;
+      given_now = H.given shelf.new;
+    } in
         IsGathered (Sheet file.now cert.now) seen result }
     ensures contents { IsTrue H.tells → SameContents (H.contents shelf.old) (H.contents shelf.new) }
     ensures keeps { H.failed_keeps shelf.new ≡ H.failed_keeps shelf.old }
@@ -164,8 +188,14 @@ fn gather_renewed<'a, H: Shelf>(
     shelf: &mut H,
 ) -> Result<Job<'a>, Fail<Status>>
     ensures job { IfOk result (IsJobOf H.tells (Upgrade file.now cert.now renewed.now) (H.contents shelf.old) (H.given shelf.old) (H.given shelf.new)) }
-    ensures tried { let seen : Seen = record { held = H.tells; contents = H.contents shelf.old;
-            looks_before = H.failed_looks shelf.old; looks_now = H.failed_looks shelf.new; given_before = H.given shelf.old; given_now = H.given shelf.new } in
+    ensures tried { let seen : Seen = record {
+      held = H.tells;
+      contents = H.contents shelf.old;
+      looks_before = H.failed_looks shelf.old;
+      looks_now = H.failed_looks shelf.new;
+      given_before = H.given shelf.old;
+      given_now = H.given shelf.new;
+    } in
         IsGathered (Upgrade file.now cert.now renewed.now) seen result }
     ensures contents { IsTrue H.tells → SameContents (H.contents shelf.old) (H.contents shelf.new) }
     ensures keeps { H.failed_keeps shelf.new ≡ H.failed_keeps shelf.old }
@@ -200,8 +230,14 @@ fn gather_round<'a, H: Shelf>(
     shelf: &mut H,
 ) -> Result<Job<'a>, Fail<Status>>
     ensures job { IfOk result (IsJobOf H.tells (Postman file.now) (H.contents shelf.old) (H.given shelf.old) (H.given shelf.new)) }
-    ensures tried { let seen : Seen = record { held = H.tells; contents = H.contents shelf.old;
-            looks_before = H.failed_looks shelf.old; looks_now = H.failed_looks shelf.new; given_before = H.given shelf.old; given_now = H.given shelf.new } in
+    ensures tried { let seen : Seen = record {
+      held = H.tells;
+      contents = H.contents shelf.old;
+      looks_before = H.failed_looks shelf.old;
+      looks_now = H.failed_looks shelf.new;
+      given_before = H.given shelf.old;
+      given_now = H.given shelf.new;
+    } in
         IsGathered (Postman file.now) seen result }
     ensures contents { IsTrue H.tells → SameContents (H.contents shelf.old) (H.contents shelf.new) }
     ensures keeps { H.failed_keeps shelf.new ≡ H.failed_keeps shelf.old }
@@ -222,8 +258,14 @@ fn gather_fleet<'a, H: Shelf>(
     requires some_turns { 1 ≤ turns }
     requires turns_in_range { turns ≤ 1048576 }
     ensures job { IfOk result (IsJobOf H.tells (Fleet file.now turns) (H.contents shelf.old) (H.given shelf.old) (H.given shelf.new)) }
-    ensures tried { let seen : Seen = record { held = H.tells; contents = H.contents shelf.old;
-            looks_before = H.failed_looks shelf.old; looks_now = H.failed_looks shelf.new; given_before = H.given shelf.old; given_now = H.given shelf.new } in
+    ensures tried { let seen : Seen = record {
+      held = H.tells;
+      contents = H.contents shelf.old;
+      looks_before = H.failed_looks shelf.old;
+      looks_now = H.failed_looks shelf.new;
+      given_before = H.given shelf.old;
+      given_now = H.given shelf.new;
+    } in
         IsGathered (Fleet file.now turns) seen result }
     ensures contents { IsTrue H.tells → SameContents (H.contents shelf.old) (H.contents shelf.new) }
     ensures keeps { H.failed_keeps shelf.new ≡ H.failed_keeps shelf.old }
@@ -246,8 +288,14 @@ fn gather_edited<'a, H: Shelf>(
 ) -> Result<Job<'a>, Fail<Status>>
     ensures job { IfOk result (IsJobOf H.tells (Edit file.now cert.now edits.now edited.now carried.now) (H.contents shelf.old)
         (H.given shelf.old) (H.given shelf.new)) }
-    ensures tried { let seen : Seen = record { held = H.tells; contents = H.contents shelf.old;
-            looks_before = H.failed_looks shelf.old; looks_now = H.failed_looks shelf.new; given_before = H.given shelf.old; given_now = H.given shelf.new } in
+    ensures tried { let seen : Seen = record {
+      held = H.tells;
+      contents = H.contents shelf.old;
+      looks_before = H.failed_looks shelf.old;
+      looks_now = H.failed_looks shelf.new;
+      given_before = H.given shelf.old;
+      given_now = H.given shelf.new;
+    } in
         IsGathered (Edit file.now cert.now edits.now edited.now carried.now) seen result }
     ensures contents { IsTrue H.tells → SameContents (H.contents shelf.old) (H.contents shelf.new) }
     ensures keeps { H.failed_keeps shelf.new ≡ H.failed_keeps shelf.old }

@@ -1,8 +1,8 @@
 // What a command has to do.
 
+use crate::{Edited, Laid};
 use carp_base::Instance;
 use cert_format::Cert;
-use crate::{Edited, Laid};
 use plan_model::Plan;
 
 /// What a command has to do: its names and its numbers, and what was read of its files.

@@ -48,8 +48,14 @@ pub fn read_instance<H: Shelf>(
     shelf: &mut H,
     file: &str,
 ) -> Result<Instance, Fail<Status>>
-    ensures read { let seen : Seen = record { held = H.tells; contents = H.contents shelf.old;
-            looks_before = H.failed_looks shelf.old; looks_now = H.failed_looks shelf.new; given_before = H.given shelf.old; given_now = H.given shelf.new } in
+    ensures read { let seen : Seen = record {
+      held = H.tells;
+      contents = H.contents shelf.old;
+      looks_before = H.failed_looks shelf.old;
+      looks_now = H.failed_looks shelf.new;
+      given_before = H.given shelf.old;
+      given_now = H.given shelf.new;
+    } in
         IsFileRead seen (instance_at file.now) IsOfInstance IsTextOf IsBadInstance IsInstance result }
     ensures contents { IsTrue H.tells → SameContents (H.contents shelf.old) (H.contents shelf.new) }
     ensures keeps { H.failed_keeps shelf.new ≡ H.failed_keeps shelf.old }
@@ -72,8 +78,14 @@ pub fn check_file<H: Shelf>(
     shelf: &mut H,
     file: &str,
 ) -> Result<Stated, Fail<Status>>
-    ensures read { let seen : Seen = record { held = H.tells; contents = H.contents shelf.old;
-            looks_before = H.failed_looks shelf.old; looks_now = H.failed_looks shelf.new; given_before = H.given shelf.old; given_now = H.given shelf.new } in
+    ensures read { let seen : Seen = record {
+      held = H.tells;
+      contents = H.contents shelf.old;
+      looks_before = H.failed_looks shelf.old;
+      looks_now = H.failed_looks shelf.new;
+      given_before = H.given shelf.old;
+      given_now = H.given shelf.new;
+    } in
         IsFileRead seen (certificate_at file.now) IsOfCertificate (IsAcceptedText inst.now) (IsBadCertificate inst.now) (IsGoodText inst.now) result }
     ensures contents { IsTrue H.tells → SameContents (H.contents shelf.old) (H.contents shelf.new) }
     ensures keeps { H.failed_keeps shelf.new ≡ H.failed_keeps shelf.old }
@@ -119,8 +131,14 @@ pub fn read_good<H: Shelf>(
     shelf: &mut H,
     file: &str,
 ) -> Result<Cert, Fail<Status>>
-    ensures read { let seen : Seen = record { held = H.tells; contents = H.contents shelf.old;
-            looks_before = H.failed_looks shelf.old; looks_now = H.failed_looks shelf.new; given_before = H.given shelf.old; given_now = H.given shelf.new } in
+    ensures read { let seen : Seen = record {
+      held = H.tells;
+      contents = H.contents shelf.old;
+      looks_before = H.failed_looks shelf.old;
+      looks_now = H.failed_looks shelf.new;
+      given_before = H.given shelf.old;
+      given_now = H.given shelf.new;
+    } in
         IsFileRead seen (certificate_at file.now) IsOfCertificate (IsGoodCert inst.now) (IsBadCertificate inst.now) (IsGoodText inst.now) result }
     ensures contents { IsTrue H.tells → SameContents (H.contents shelf.old) (H.contents shelf.new) }
     ensures keeps { H.failed_keeps shelf.new ≡ H.failed_keeps shelf.old }
@@ -143,8 +161,14 @@ pub(crate) fn read_file<H: Shelf>(
     limit: u64,
 ) -> Result<Vec<u8>, Fail<Status>>
     requires { limit < 2 ^ 32 }
-    ensures read { let seen : Seen = record { held = H.tells; contents = H.contents shelf.old;
-            looks_before = H.failed_looks shelf.old; looks_now = H.failed_looks shelf.new; given_before = H.given shelf.old; given_now = H.given shelf.new } in
+    ensures read { let seen : Seen = record {
+      held = H.tells;
+      contents = H.contents shelf.old;
+      looks_before = H.failed_looks shelf.old;
+      looks_now = H.failed_looks shelf.new;
+      given_before = H.given shelf.old;
+      given_now = H.given shelf.new;
+    } in
         IsFileRead seen (record { name = file.now; limit = limit }) IsOfNone AreBytes NoneIsBad EachIsGood result }
     ensures within { IfOk result (λ bytes. length bytes.items ≤ limit) }
     ensures contents { IsTrue H.tells → SameContents (H.contents shelf.old) (H.contents shelf.new) }

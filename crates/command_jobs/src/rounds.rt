@@ -32,8 +32,14 @@ pub struct Laid {
 /// It is refused with [`Status::ReadFault`], [`Status::TooLong`] with [`INSTANCE_LIMIT`], [`Status::BadInstance`] or [`Status::NotJoined`]. `Fail::Memory` says only that memory was not
 /// to be had. It takes the time of reading, of least paths between all vertices and of [`postman::postman`].
 pub fn read_round<H: Shelf>(alloc: Global, shelf: &mut H, file: &str) -> Result<Laid, Fail<Status>>
-    ensures read { let seen : Seen = record { held = H.tells; contents = H.contents shelf.old;
-            looks_before = H.failed_looks shelf.old; looks_now = H.failed_looks shelf.new; given_before = H.given shelf.old; given_now = H.given shelf.new } in
+    ensures read { let seen : Seen = record {
+      held = H.tells;
+      contents = H.contents shelf.old;
+      looks_before = H.failed_looks shelf.old;
+      looks_now = H.failed_looks shelf.new;
+      given_before = H.given shelf.old;
+      given_now = H.given shelf.new;
+    } in
         IsFileRead seen (instance_at file.now) IsOfRound IsRoundOf IsBadRound IsJoinedText result }
     ensures contents { IsTrue H.tells → SameContents (H.contents shelf.old) (H.contents shelf.new) }
     ensures keeps { H.failed_keeps shelf.new ≡ H.failed_keeps shelf.old }

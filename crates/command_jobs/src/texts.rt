@@ -8,11 +8,11 @@ ghost use Rattle.command_jobs.specs.Reads.{IsGoodCert, IsParsed};
 ghost use Rattle.command_jobs.specs.Edited.{AreBadTexts, AreGoodTexts, IsBadEdits, IsEditedBy, IsGoodEdits};
 ghost use Rattle.command_jobs.specs.Stages.{IsChangedBy, IsReadCert, IsReadInstance};
 
+use crate::Status;
 use crate::edited::Edited;
+use crate::reading::{parse_good, parse_instance};
 use carp_base::{Fail, Instance, valid_where_no_fault};
 use cert_format::Cert;
-use crate::Status;
-use crate::reading::{parse_good, parse_instance};
 use dat_text::readings_are_unique;
 use instance_edits::{Edit, EditFault, edited, edits_are_unique, read_edits};
 use std::alloc::Global;
