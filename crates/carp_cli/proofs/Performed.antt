@@ -5,7 +5,7 @@ use Rattle.std.specs.Prelude.{Result, Ok, Err, IsSomeAnd}
 use Rattle.carp_base.specs.declared.fail.Fail.{Fail}
 use Rattle.carp_base.specs.declared.fail.Fail.TheVariants.{Refused}
 use Rattle.cert_lines.specs.Texts as certificates
-use Rattle.command_words.specs.Commands.{Command, Solve, Check, Sheet, Make, Drill, Upgrade, Postman, Fleet, Edit, Source, asks_helpers, keeps, reads, seed_of}
+use Rattle.command_words.specs.Commands.{Command, Solve, Check, Sheet, Make, Drill, Upgrade, Postman, Fleet, Edit, Source, asks_helpers, keeps, seed_of}
 use Rattle.command_jobs.specs.Files.{GivenIn, HeldIn}
 use Rattle.command_jobs.specs.Reads.{IsTried, Seen}
 use Rattle.command_jobs.specs.declared.status.Status.{Status}
