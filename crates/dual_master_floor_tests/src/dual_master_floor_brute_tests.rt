@@ -1,5 +1,5 @@
 // The Shell floor of drawn instances, beside its sum over all levels as the definition says it.
-use crate::floor_prices_tests::ways;
+use crate::dual_master_floor_tests::ways;
 use branch_rules::Branch;
 use carp_base::{Instance, RawEdge};
 use cut_pool::ShorePool;

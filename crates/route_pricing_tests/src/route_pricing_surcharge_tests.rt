@@ -4,7 +4,7 @@ ghost use Rattle.route_pricing.specs.Pricing.{AreSurcharges, IsSurcharge};
 ghost use Rattle.route_pricing.specs.Tables.{IsReady, IsRoom};
 ghost use Rattle.route_pricing.specs.Values.{IsRate};
 
-use crate::pricing_grid_tests::{are_prices, least_ways, town};
+use crate::route_pricing_grid_tests::{are_prices, least_ways, town};
 use crate::route_pricing_tests::{NOTHING, draw, drawn_price, drawn_street, judged, weighed};
 use carp_base::{Allowed, Instance, Task};
 use deadhead_paths::Distances;

@@ -2,7 +2,7 @@
 ghost use Rattle.std.specs.Prelude.{◌≡◌, ◌<◌, ◌≤◌, IfOk};
 ghost use Rattle.route_pricing.specs.Tables.{IsReady, IsRoom};
 
-use crate::pricing_grid_tests::{are_prices, least_ways, town};
+use crate::route_pricing_grid_tests::{are_prices, least_ways, town};
 use carp_base::{Allowed, Edge, Instance, RawEdge, Task};
 use deadhead_paths::Distances;
 use route_pricing::{Rate, Ratio, Table};
