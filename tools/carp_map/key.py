@@ -1,8 +1,7 @@
 """Reads an instance, the tours of a certificate and the key of a map, and checks that they belong together.
 
-The instance and the certificate are in the formats of `docs/FORMATS.md`. Both are read after `carp check` accepted them, so
-that what it refuses need not be told here. The key is JSON: the position of each vertex, and for each edge, in the order of
-the instance, its name, length, direction and line.
+The instance and the certificate are in the formats of `docs/FORMATS.md`. Both are read after `carp check` accepted
+them, so that what it refuses need not be told here. The key is what `carp_map/instance.py` describes.
 """
 import json
 import os
@@ -12,7 +11,7 @@ import unicodedata
 from dataclasses import dataclass
 from typing import Any
 
-from .geometry import Place
+from carp_map.geometry import Place
 
 BLANK = rb"[\t\r\x1a ]*"
 KEY_LINE = re.compile(BLANK + rb"(\w+)" + BLANK + rb":?" + BLANK + rb"(\d*)")
@@ -47,7 +46,7 @@ class Instance:
 
 @dataclass(frozen=True)
 class Move:
-    """A step of a tour: the number of its edge, whether it goes from the first end to the second, and whether it serves."""
+    """A step of a tour: the number of its edge, whether it goes from its first end to its second, and if it serves."""
 
     edge: int
     forward: bool
@@ -87,6 +86,11 @@ class Step:
         return self.edge.ends if self.move.forward else self.edge.ends[::-1]
 
     @property
+    def do(self) -> str:
+        """What the step does in a word."""
+        return "serve" if self.move.serves else "drive"
+
+    @property
     def cost(self) -> int:
         """What the step costs."""
         return self.edge.service if self.move.serves else self.edge.cost
@@ -103,7 +107,7 @@ class Step:
 
 
 def check(path: str, certificate: str) -> tuple[int, int]:
-    """Returns the cost and the bound that `carp check` accepts; CARP names another program than the one that ./carp builds."""
+    """Returns the cost and the bound that `carp check` accepts; CARP names a program in place of that of ./carp."""
     home = os.path.dirname(os.path.dirname(os.path.dirname(os.path.abspath(__file__))))
     program = os.environ.get("CARP", os.path.join(home, "crates", "carp", "out", "carp"))
     if not os.path.exists(program):

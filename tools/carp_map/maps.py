@@ -1,8 +1,8 @@
 """Writes tours as GeoJSON and GPX, and draws them as SVG.
 
-A drawing shows all streets in grey and the tours over them: whole lines where they serve, dashed ones where they drive without
-service, small arrows in their direction. Where tours use a street more than once, their lines lie side by side, each on the right
-of its direction as far as it can. The depot is a square.
+A drawing shows all streets in grey and the tours over them: whole lines where they serve, dashed ones where they drive
+without service, with small arrows in their direction. Where a street is used more than once, the lines lie side by
+side, those of the two directions on their right. The depot is a square.
 """
 import colorsys
 import json
@@ -10,15 +10,25 @@ import math
 from collections.abc import Iterable, Iterator, Sequence
 from dataclasses import dataclass, field
 from html import escape
+from unicodedata import east_asian_width
 
-from .geometry import Place, Projection
-from .key import Instance, Key, Move, Step
+from carp_map.geometry import Place, Projection
+from carp_map.key import Instance, Key, Move, Step
 
 Point = tuple[float, float]
+Box = tuple[float, float, float, float]
 
-# In pixels: between lines on one street, a street's middle length, the most and the least that the map is wide or high.
+# In pixels: between lines on one street, the middle length of streets, the most and the least extent of a map.
 GAP, STREET, MOST, LEAST = 3.5, 60.0, 4000.0, 300.0
-ARROW, MARGIN, LEGEND_WIDTH, LEGEND_LINE = 4.0, 20.0, 220.0, 16.0
+ARROW, MARGIN, LEGEND_WIDTH, LEGEND_LINE, LEGEND_SCALE = 4.0, 20.0, 220.0, 16.0, 150.0
+
+ROUND = 'stroke-linecap="round"'
+STYLE = """
+path { fill: none }
+text { font-family: sans-serif; font-size: 8px; text-anchor: middle }
+text.halo { stroke: white; stroke-width: 2px }
+text.legend { font-size: 11px; text-anchor: start }
+"""
 
 
 @dataclass(frozen=True)
@@ -32,12 +42,12 @@ class Tour:
 
 @dataclass(frozen=True)
 class Ground:
-    """What tours are drawn on: the line of each edge, the point of each vertex, where names stand, and pixels in a metre."""
+    """What tours are drawn on: the lines and the names of edges, the points of vertices, and the pixels of a metre."""
 
     lines: list[list[Point]]
     points: list[Point]
     depot: int
-    names: dict[str, int] = field(default_factory=dict)
+    names: list[str | None] = field(default_factory=list)
     scale: float | None = None
 
 
@@ -53,25 +63,33 @@ def ground_of(instance: Instance, key: Key) -> Ground:
     flat = [[projection.flat(place) for place in street.line] for street in key.streets]
     points = [projection.flat(place) for place in key.places]
     middle = sorted([0.0, *map(reach, flat)])[(len(flat) + 1) // 2]
-    size = max(*extent([*points, *(point for line in flat for point in line)])[2:], 1.0)
+    left, top, right, bottom = box_of([*points, *(point for line in flat for point in line)])
+    size = max(right - left, bottom - top, 1.0)
     scale = min(max(STREET / max(middle, 1.0), LEAST / size), MOST / size)
     lines = [[(scale * x, scale * y) for x, y in line] for line in flat]
-    names: dict[str, int] = {}
-    for edge, (street, line) in enumerate(zip(key.streets, lines), 1):
-        if street.name and (street.name not in names or reach(line) > reach(lines[names[street.name] - 1])):
-            names[street.name] = edge
+    names = [street.name for street in key.streets]
     return Ground(lines, [(scale * x, scale * y) for x, y in points], instance.depot, names, scale)
 
 
-def extent(points: Iterable[Point]) -> tuple[float, float, float, float]:
-    """Returns the left, the top, the width and the height of points."""
+def box_of(points: Iterable[Point], margin: float = 0.0) -> Box:
+    """Returns the left, the top, the right and the bottom of points with a margin."""
     xs, ys = zip(*points)
-    return min(xs), min(ys), max(xs) - min(xs), max(ys) - min(ys)
+    return min(xs) - margin, min(ys) - margin, max(xs) + margin, max(ys) + margin
+
+
+def is_in(box: Box, point: Point) -> bool:
+    """Returns whether a point lies in a box."""
+    return box[0] <= point[0] <= box[2] and box[1] <= point[1] <= box[3]
 
 
 def reach(line: Sequence[Point]) -> float:
     """Returns how long a line is."""
     return math.fsum(math.dist(a, b) for a, b in zip(line, line[1:]))
+
+
+def longest_piece(line: Sequence[Point]) -> tuple[Point, Point]:
+    """Returns the ends of the longest straight piece of a line."""
+    return max(zip(line, line[1:]), key=lambda ends: math.dist(*ends))
 
 
 def beside(line: Sequence[Point], shift: float) -> list[Point]:
@@ -82,7 +100,7 @@ def beside(line: Sequence[Point], shift: float) -> list[Point]:
     sides = [((a[1] - b[1]) / math.dist(a, b), (b[0] - a[0]) / math.dist(a, b)) for a, b in zip(points, points[1:])]
     moved = []
     for (x, y), (x1, y1), (x2, y2) in zip(points, [sides[0], *sides], [*sides, sides[-1]]):
-        # At a bend both pieces are moved by the shift, but not where it is so sharp that their meeting point is far away.
+        # At a bend both pieces move by the shift, but not if it is so sharp that they would meet far away.
         part = max(1 + x1 * x2 + y1 * y2, 0.5)
         moved.append((x + shift * (x1 + x2) / part, y + shift * (y1 + y2) / part))
     return moved
@@ -102,7 +120,7 @@ def along(line: Sequence[Point], part: float) -> tuple[Point, Point]:
 
 def path(line: Sequence[Point], style: str) -> str:
     """Returns a line in SVG."""
-    return f'<path d="M{" L".join(f"{x:.1f} {y:.1f}" for x, y in line)}" fill="none" {style}/>'
+    return f'<path d="M{" L".join(f"{x:.1f} {y:.1f}" for x, y in line)}" {style}/>'
 
 
 def arrow(line: Sequence[Point], tint: str) -> str:
@@ -116,7 +134,7 @@ def arrow(line: Sequence[Point], tint: str) -> str:
 
 
 def uses_of(tours: Sequence[Tour], edges: int) -> list[list[tuple[Move, str]]]:
-    """Returns how each edge is used: the moves along it with their colours, those back to its first end before the others."""
+    """Returns the moves along each edge with their colours, those back to its first end before the others."""
     uses: list[list[tuple[Move, str]]] = [[] for _ in range(edges)]
     for tour in tours:
         for move in tour.moves:
@@ -139,17 +157,24 @@ def moves_along(line: Sequence[Point], uses: Sequence[tuple[Move, str]]) -> Iter
             yield arrow(moved if move.forward else moved[::-1], tint)
 
 
-def name_of(name: str, line: Sequence[Point], width: float) -> str:
-    """Returns the name of a street beside its line in SVG."""
-    (x, y), (right, down) = along(line, 0.5)
-    angle = math.degrees(math.atan2(down, right))
-    angle = angle - 180 if angle > 90 else angle + 180 if angle <= -90 else angle
-    place = f"translate({x:.1f} {y:.1f}) rotate({angle:.1f})"
-    return f'<text transform="{place}" y="{-2 - width / 2:.1f}">{escape(name)}</text>'
+def name_along(name: str, line: Sequence[Point], width: float) -> tuple[str, list[Point]]:
+    """Returns a name beside the longest piece of its line in SVG, on white, and about the corners of its letters."""
+    (x, y), (right, down) = along(longest_piece(line), 0.5)
+    if (right, down) < (0.0, 0.0):
+        right, down = -right, -down
+    half = sum(8.0 if east_asian_width(letter) in "WF" else 5.0 for letter in name) / 2
+    side = width / 2 + 2
+    corners = [(part, high) for part in (-half, half) for high in (side, side + 8)]
+    place = f"translate({x:.1f} {y:.1f}) rotate({math.degrees(math.atan2(down, right)):.1f})"
+    text = f'transform="{place}" y="{-side:.1f}">{escape(name)}</text>'
+    return (
+        f'<text class="halo" {text}<text {text}',
+        [(x + part * right + high * down, y + part * down - high * right) for part, high in corners],
+    )
 
 
 def legend(tours: Sequence[Tour], scale: float, left: float, top: float) -> Iterator[str]:
-    """Returns the legend in SVG: the tours, the two kinds of lines, and how long a hundred or so metres are."""
+    """Returns the legend in SVG: the tours, the two kinds of lines, and a length in metres."""
     rows = [(f'stroke="{tour.colour}" stroke-width="4"', tour.title) for tour in tours]
     rows.append(('stroke="#333" stroke-width="2.5"', "serves"))
     rows.append(('stroke="#333" stroke-width="1.5" stroke-dasharray="4 3"', "drives without service"))
@@ -157,34 +182,57 @@ def legend(tours: Sequence[Tour], scale: float, left: float, top: float) -> Iter
         y = top + LEGEND_LINE * (number + 0.5)
         yield path([(left, y), (left + 24, y)], style)
         yield f'<text class="legend" x="{left + 32:.1f}" y="{y + 4:.1f}">{escape(title)}</text>'
-    power = 10 ** math.floor(math.log10(150 / scale))
-    metres = max(power * part for part in (1, 2, 5) if power * part * scale <= 150)
+    lengths = (part * 10.0**power for power in range(-2, 8) for part in (1, 2, 5))
+    metres = max(length for length in lengths if length * scale <= LEGEND_SCALE)
     y = top + LEGEND_LINE * (len(rows) + 1.5)
     yield path([(left, y - 4), (left, y), (left + metres * scale, y), (left + metres * scale, y - 4)], 'stroke="black"')
-    yield f'<text class="legend" x="{left:.1f}" y="{y + 14:.1f}">{metres:g} m, north is up</text>'
+    yield f'<text class="legend" x="{left:.1f}" y="{y + 14:.1f}">{metres:.12g} m, north is up</text>'
 
 
-def svg(ground: Ground, tours: Sequence[Tour], has_legend: bool = False) -> str:
-    """Returns the drawing of tours; a legend needs a ground with a scale."""
-    left, top, width, height = extent([*ground.points, *(point for line in ground.lines for point in line)])
-    left, top, width, height = left - MARGIN, top - MARGIN, width + 2 * MARGIN, height + 2 * MARGIN
-    x, y = ground.points[ground.depot - 1]
-    uses = uses_of(tours, len(ground.lines))
-    widths = [width_of(each) for each in uses]
-    parts = [
-        *(path(line, f'stroke="#ddd" stroke-width="{w}" stroke-linecap="round"') for line, w in zip(ground.lines, widths)),
-        *(part for line, each in zip(ground.lines, uses) for part in moves_along(line, each)),
-        *(f'<circle cx="{x:.1f}" cy="{y:.1f}" r="2.5"/>' for x, y in ground.points),
-        f'<rect x="{x - 7:.1f}" y="{y - 7:.1f}" width="14" height="14"/>',
-        *(name_of(name, ground.lines[edge - 1], widths[edge - 1]) for name, edge in ground.names.items()),
+def names_in(ground: Ground, edges: Iterable[int], uses: Sequence[Sequence[object]]) -> dict[str, int]:
+    """Returns for each name the edge where it stands: one that is used, if there is one, and has the most room."""
+    best: dict[str, tuple[bool, float, int]] = {}
+    for edge in edges:
+        name = ground.names[edge] if ground.names else None
+        if name:
+            room = math.dist(*longest_piece(ground.lines[edge]))
+            best[name] = max(best.get(name, (False, -1.0, -1)), (bool(uses[edge]), room, edge))
+    return {name: edge for name, (_, _, edge) in best.items()}
+
+
+def drawn(ground: Ground, uses: Sequence[Sequence[tuple[Move, str]]], frame: Box) -> tuple[list[str], Box]:
+    """Returns what lies in a frame in SVG, and the frame with the names that stand out of it."""
+    edges = [edge for edge, line in enumerate(ground.lines) if any(is_in(frame, point) for point in line)]
+    widths = {edge: width_of(uses[edge]) for edge in edges}
+    names = [
+        name_along(name, ground.lines[edge], widths[edge]) for name, edge in names_in(ground, edges, uses).items()
     ]
+    x, y = ground.points[ground.depot - 1]
+    parts = [
+        *(path(ground.lines[edge], f'stroke="#ddd" stroke-width="{widths[edge]}" {ROUND}') for edge in edges),
+        *(part for edge in edges for part in moves_along(ground.lines[edge], uses[edge])),
+        *(f'<circle cx="{x:.1f}" cy="{y:.1f}" r="2.5"/>' for x, y in ground.points if is_in(frame, (x, y))),
+        f'<rect x="{x - 5:.1f}" y="{y - 5:.1f}" width="10" height="10"/>',
+        *(text for text, _ in names),
+    ]
+    return parts, box_of([frame[:2], frame[2:], *(corner for _, corners in names for corner in corners)])
+
+
+def svg(ground: Ground, tours: Sequence[Tour], is_close: bool = False, has_legend: bool = False) -> str:
+    """Returns the drawing of tours, on all streets or those near the tours; a legend needs a ground with a scale."""
+    uses = uses_of(tours, len(ground.lines))
+    shown = [line for line, each in zip(ground.lines, uses) if each or not is_close]
+    points = [ground.points[ground.depot - 1]] if is_close else ground.points
+    frame = box_of([*points, *(point for line in shown for point in line)], MARGIN)
+    parts, (left, top, right, bottom) = drawn(ground, uses, frame)
     if has_legend and ground.scale:
-        parts.extend(legend(tours, ground.scale, left + width, top + MARGIN))
-        width, height = width + LEGEND_WIDTH, max(height, LEGEND_LINE * (len(tours) + 4) + 2 * MARGIN)
-    style = "text { font: 8px sans-serif; text-anchor: middle; paint-order: stroke; stroke: white; stroke-width: 2px }"
+        parts.extend(legend(tours, ground.scale, right, top + MARGIN))
+        right, bottom = right + LEGEND_WIDTH, max(bottom, top + LEGEND_LINE * (len(tours) + 5) + 2 * MARGIN)
+    width, height = right - left, bottom - top
+    size = f'width="{width:.0f}" height="{height:.0f}" viewBox="{left:.1f} {top:.1f} {width:.1f} {height:.1f}"'
     return "\n".join([
-        f'<svg xmlns="http://www.w3.org/2000/svg" viewBox="{left:.1f} {top:.1f} {width:.1f} {height:.1f}">',
-        f"<style>{style} text.legend {{ font-size: 11px; text-anchor: start }}</style>",
+        f'<svg xmlns="http://www.w3.org/2000/svg" {size}>',
+        f"<style>{STYLE}</style>",
         *parts,
         "</svg>\n",
     ])
@@ -195,9 +243,10 @@ def geojson(number: int, steps: Sequence[Step], tint: str, depot: Place) -> str:
     features = [feature("Point", depot[::-1], {"tour": number, "depot": True})]
     for place, step in enumerate(steps, 1):
         features.append(feature("LineString", [point[::-1] for point in step.line], {
-            "tour": number, "step": place, "street": step.move.edge, "name": step.street.name, "served": step.move.serves,
-            "from": step.ends[0], "to": step.ends[1], "cost": step.cost, "length": step.street.metres, "load": step.load,
-            "against_oneway": step.is_against, "stroke": tint, "stroke-width": 4 if step.move.serves else 2,
+            "tour": number, "step": place, "street": step.move.edge, "name": step.street.name,
+            "from": step.ends[0], "to": step.ends[1], "served": step.move.serves, "against_oneway": step.is_against,
+            "cost": step.cost, "length": step.street.metres, "load": step.load,
+            "stroke": tint, "stroke-width": 4 if step.move.serves else 2,
         }))
     lines = ",\n".join(json.dumps(each, ensure_ascii=False) for each in features)
     return f'{{"type": "FeatureCollection", "features": [\n{lines}\n]}}\n'
@@ -209,7 +258,7 @@ def feature(kind: str, coordinates: Sequence[object], properties: dict[str, obje
 
 
 def gpx(title: str, steps: Sequence[Step], ways: Sequence[str], depot: Place) -> str:
-    """Returns a tour as GPX: the depot, a route with a point and its words for each step, and the track along the streets."""
+    """Returns a tour as GPX: the depot, a route with the words of each step, and the track along the streets."""
     track = [place for step in steps for place in step.line]
     track = [place for before, place in zip([None, *track], track) if place != before]
     lines = [
@@ -218,7 +267,7 @@ def gpx(title: str, steps: Sequence[Step], ways: Sequence[str], depot: Place) ->
         f"{spot('wpt', depot)}<name>depot</name></wpt>",
         f"<rte><name>{escape(title)}</name>",
         *(
-            f"{spot('rtept', step.line[0])}<name>{escape(where)}</name><cmt>{'serve' if step.move.serves else 'drive'}</cmt></rtept>"
+            f"{spot('rtept', step.line[0])}<name>{escape(where)}</name><cmt>{step.do}</cmt></rtept>"
             for step, where in zip(steps, ways)
         ),
         f"{spot('rtept', depot)}<name>depot</name></rtept></rte>",

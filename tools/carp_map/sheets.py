@@ -2,8 +2,8 @@
 from collections.abc import Sequence
 from html import escape
 
-from .geometry import arrival, departure, turn
-from .key import Step
+from carp_map.geometry import arrival, departure, turn
+from carp_map.key import Step
 
 COMPASS = ("north", "north-east", "east", "south-east", "south", "south-west", "west", "north-west")
 AGAINST = "AGAINST ONE-WAY"
@@ -13,7 +13,7 @@ STYLE = """
 @page { size: A4; margin: 15mm }
 body { font-family: sans-serif; font-size: 11pt; max-width: 60em; margin: 1em auto }
 h1 { font-size: 16pt; margin: 0 }
-svg { display: block; width: 100%; max-height: 45vh; margin: 1em 0 }
+svg { display: block; width: 100%; max-height: 12cm; margin: 1em 0 }
 table { border-collapse: collapse; width: 100% }
 thead { display: table-header-group }
 tr { break-inside: avoid }
@@ -69,32 +69,36 @@ def text_sheet(title: str, steps: Sequence[Step], capacity: int) -> str:
     """Returns the street sheet of a tour as text."""
     lines = [title, *facts(steps, capacity), "", " step  do     street  metres   load  way"]
     for number, (step, where) in enumerate(zip(steps, ways(steps)), 1):
-        do, load = ("serve", step.load) if step.move.serves else ("drive", "")
+        load = step.load if step.move.serves else ""
         mark = f"  {AGAINST}" if step.is_against else ""
-        lines.append(f"{number:5}  {do}  {step.move.edge:6}  {step.street.metres:6.0f} {load:>6}  {where}{mark}")
+        lines.append(f"{number:5}  {step.do}  {step.move.edge:6}  {step.street.metres:6.0f} {load:>6}  {where}{mark}")
     return "\n".join([*lines, " " * 37 + "the depot", ""])
 
 
 def row(number: int, step: Step, where: str) -> str:
     """Returns the row of a step in the table of a sheet."""
-    do, load, box = ("serve", step.load, "&#9744;") if step.move.serves else ("drive", "", "")
+    load, box = (step.load, "&#9744;") if step.move.serves else ("", "")
     mark = f' <span class="against">{AGAINST}</span>' if step.is_against else ""
     numbers = (f'<td class="number">{value}</td>' for value in (step.move.edge, f"{step.street.metres:.0f}", load))
     return (
-        f'<tr class="{do}"><td class="number">{number}</td><td>{do}</td><td>{escape(where)}{mark}</td>'
+        f'<tr class="{step.do}"><td class="number">{number}</td><td>{step.do}</td><td>{escape(where)}{mark}</td>'
         f'{"".join(numbers)}<td>{box}</td></tr>'
     )
 
 
 def html_sheet(title: str, steps: Sequence[Step], capacity: int, picture: str) -> str:
     """Returns the street sheet of a tour as HTML to print, with a picture in SVG."""
-    heads = ("step", "number"), ("do", ""), ("way", ""), ("street", "number"), ("metres", "number"), ("load", "number"), ("done", "")
+    numbers = {"step", "street", "metres", "load"}
+    heads = "".join(
+        f'<th class="{"number" if name in numbers else "word"}">{name}</th>'
+        for name in ("step", "do", "way", "street", "metres", "load", "done")
+    )
     return "\n".join([
         '<!DOCTYPE html>\n<html lang="en">\n<head>\n<meta charset="utf-8">',
         f"<title>{escape(title)}</title>\n<style>{STYLE}</style>\n</head>\n<body>\n<h1>{escape(title)}</h1>",
         *(f"<p>{escape(line)}</p>" for line in facts(steps, capacity)),
         picture,
-        "<table>\n<thead><tr>" + "".join(f'<th class="{kind}">{name}</th>' for name, kind in heads) + "</tr></thead>\n<tbody>",
+        f"<table>\n<thead><tr>{heads}</tr></thead>\n<tbody>",
         *(row(number, step, where) for number, (step, where) in enumerate(zip(steps, ways(steps)), 1)),
         "</tbody>\n</table>\n<p>The last step ends at the depot.</p>\n</body>\n</html>\n",
     ])
