@@ -67,8 +67,8 @@ def divided(total: int, lengths: Sequence[float]) -> list[int]:
     if total == 0:
         return [0] * len(lengths)
     left = total - len(lengths)
-    whole = sum(lengths) or 1.0
-    shares = [left * each / whole for each in lengths]
+    weights = lengths if sum(lengths) > 0 else [1.0] * len(lengths)
+    shares = [left * each / sum(weights) for each in weights]
     parts = [int(share) for share in shares]
     by_remainder = sorted(range(len(lengths)), key=lambda at: parts[at] - shares[at])
     for at in by_remainder[: left - sum(parts)]:
@@ -103,18 +103,18 @@ def faults(streets: Sequence[Street], capacity: int) -> list[str]:
         ("edges", counts.edges, MOST_EDGES),
         ("required edges", counts.required, MOST_REQUIRED),
         ("capacity", capacity, MOST_CAPACITY),
-        (f"states, 2 * {counts.required} * ({capacity} + 1)", states, MOST_STATES),
+        (f"states 2 * {counts.required} * ({capacity} + 1) =", states, MOST_STATES),
     ]
     found = [f"{what} {value:,}: {above(value, most)}" for what, value, most in measures if value > most]
     for what, most in (("cost", MOST_COST), ("demand", capacity)):
-        values = sorted(((getattr(each, what), at) for at, each in enumerate(streets)), reverse=True)
-        excess = sum(value > most for value, _ in values)
+        values = [getattr(each, what) for each in streets]
+        excess = sum(value > most for value in values)
         if excess:
-            value, at = values[0]
-            name = f"{streets[at].name or 'a street without a name'} ({streets[at].length:,.0f} m)"
-            more = f", and that of {excess - 1} more streets is above it" if excess > 1 else ""
+            greatest = streets[values.index(max(values))]
+            name = f"{greatest.name or 'a street without a name'} ({greatest.length:,.0f} m)"
+            more = f"; {excess} streets are above it" if excess > 1 else ""
             limit = "capacity" if what == "demand" else "limit"
-            found.append(f"{what} {value:,} of {name}: {above(value, most, limit)}{more}")
+            found.append(f"{what} {max(values):,} of {name}: {above(max(values), most, limit)}{more}")
     return found
 
 

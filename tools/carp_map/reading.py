@@ -9,6 +9,7 @@ import re
 import unicodedata
 from collections.abc import Callable, Mapping, Sequence
 from dataclasses import dataclass
+from typing import Any
 
 from carp_map.geometry import Place
 
@@ -113,7 +114,7 @@ def name_of(tags: Mapping[str, str]) -> str | None:
     return plain_name(tags.get("name", "")) or plain_name(tags.get("ref", "")) or None
 
 
-def scan(path: str, **callbacks: Callable) -> None:
+def scan(path: str, **callbacks: Callable[[Any], None]) -> None:
     """Calls the callbacks for the objects of an extract, `way` or `node`."""
     try:
         import osmium
@@ -138,14 +139,14 @@ def read_map(path: str, require: Sequence[Pattern], exclude: Sequence[Pattern]) 
     places: dict[int, Place] = {}
     houses: set[int] = set()
 
-    def take_way(way) -> None:
+    def take_way(way: Any) -> None:
         tags = {tag.k: tag.v for tag in way.tags}
         if is_drivable(tags) and not matches(tags, exclude):
             nodes = tuple(node.ref for node in way.nodes)
             required = not require or matches(tags, require)
             ways.append(Way(nodes, name_of(tags), direction_of(tags), speed_of(tags), required))
 
-    def take_node(node) -> None:
+    def take_node(node: Any) -> None:
         if node.id in wanted and node.location.valid():
             places[node.id] = (node.location.lat, node.location.lon)
             if "addr:housenumber" in node.tags:
