@@ -345,6 +345,15 @@ class Refusals(FolderTest):
         self.write("town.cert", "no certificate\n")
         self.refuse("carp check: bad certificate: line 1", *NAMES, "--out", "out")
 
+    def test_a_cost_that_the_steps_do_not_have(self) -> None:
+        """Files that change while they are read do not lead to routes."""
+        self.write("other", "#!/bin/sh\nprintf 'accepted\\ncost 1\\nbound 0\\n'\n")
+        (self.folder / "other").chmod(0o755)
+        other = str(self.folder / "other")
+        self.refuse("the steps of town.cert cost 980, and carp check says 1", *NAMES, "--out", "out", program=other)
+        self.write("town.dat", "")
+        self.refuse("town.dat is no instance any more", *NAMES, "--out", "out", program=other)
+
     def test_files_that_are_not_there(self) -> None:
         self.refuse("carp check: read fault", "none", *NAMES[1:], "--out", "out")
         self.refuse("none cannot be read", *NAMES[:2], "none", "--out", "out")
@@ -402,8 +411,9 @@ class Refusals(FolderTest):
             self.refuse_key("the geometry of edge 4 has no place [latitude, longitude]")
         self.edge_with(1, name=7)
         self.refuse_key("edge 1 has a name that is no text")
-        self.edge_with(1, length=-1)
-        self.refuse_key("edge 1 has no length")
+        for length in -1, "1", True, float("nan"), float("inf"), 10**400:
+            self.edge_with(1, length=length)
+            self.refuse_key("edge 1 has no length")
         self.edge_with(1, oneway=2)
         self.refuse_key("edge 1 has no oneway of -1, 0 or 1")
         self.key_with(edges=[7] * 6)

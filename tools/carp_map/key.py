@@ -147,6 +147,8 @@ def read_instance(path: str) -> Instance:
                 current = name
             elif name in NUMBERS:
                 numbers[name] = int(found[2])
+    if any(name not in numbers for name in NUMBERS):
+        raise Refusal(f"{path} is no instance any more")
     vertices, capacity, depot = (numbers[name] for name in NUMBERS)
     return Instance(vertices, capacity, depot, [edge for name in LISTS for edge in edges[name]])
 

@@ -18,9 +18,14 @@ from carp_map.key import Instance, Key, Move, Step
 Point = tuple[float, float]
 Box = tuple[float, float, float, float]
 
-# In pixels: between lines on one street, the middle length of streets, the most and the least extent of a map.
-GAP, STREET, MOST, LEAST = 3.5, 60.0, 4000.0, 300.0
+# In pixels: between lines on one street, the least and the most that a street is wide by them.
+GAP, NARROW, WIDE = 3.5, 6.0, 30.0
+# In pixels: the middle length of streets, the most and the least extent of a map.
+STREET, MOST, LEAST = 60.0, 4000.0, 300.0
 ARROW, MARGIN, LEGEND_WIDTH, LEGEND_LINE, LEGEND_SCALE = 4.0, 20.0, 220.0, 16.0, 150.0
+
+# Steps of this part of a circle come near to none of the places where they were before.
+GOLDEN = (math.sqrt(5) - 1) / 2
 
 ROUND = 'stroke-linecap="round"'
 STYLE = """
@@ -51,9 +56,9 @@ class Ground:
     scale: float | None = None
 
 
-def colour(number: int, count: int) -> str:
-    """Returns the colour of a tour, by its number from 0 and how many there are."""
-    parts = colorsys.hsv_to_rgb(number / max(count, 1), 0.85, 0.75 if number % 2 else 0.6)
+def colour(number: int) -> str:
+    """Returns the colour of a tour by its number; those of tours with near numbers are far apart."""
+    parts = colorsys.hsv_to_rgb(number * GOLDEN % 1, 0.9, (0.6, 0.8, 0.45)[number % 3])
     return "#" + "".join(f"{round(255 * part):02x}" for part in parts)
 
 
@@ -142,15 +147,16 @@ def uses_of(tours: Sequence[Tour], edges: int) -> list[list[tuple[Move, str]]]:
     return [sorted(each, key=lambda use: use[0].forward) for each in uses]
 
 
-def width_of(uses: Sequence[object]) -> float:
-    """Returns how wide a street is drawn that is used so often."""
-    return max(6.0, GAP * len(uses) + 2.5)
+def width_of(line: Sequence[Point], uses: Sequence[object]) -> float:
+    """Returns how wide a street is drawn for its uses, less if it is short."""
+    return max(NARROW, min(GAP * len(uses) + 2.5, reach(line) / 2, WIDE))
 
 
 def moves_along(line: Sequence[Point], uses: Sequence[tuple[Move, str]]) -> Iterator[str]:
     """Returns the moves along a street in SVG, side by side."""
+    gap = min(GAP, width_of(line, uses) / max(len(uses), 1))
     for slot, (move, tint) in enumerate(uses):
-        moved = beside(line, GAP * (slot - (len(uses) - 1) / 2))
+        moved = beside(line, gap * (slot - (len(uses) - 1) / 2))
         dash = "" if move.serves else ' stroke-dasharray="4 3"'
         yield path(moved, f'stroke="{tint}" stroke-width="{2.5 if move.serves else 1.5}"{dash}')
         if reach(moved) > 4 * ARROW:
@@ -203,7 +209,7 @@ def names_in(ground: Ground, edges: Iterable[int], uses: Sequence[Sequence[objec
 def drawn(ground: Ground, uses: Sequence[Sequence[tuple[Move, str]]], frame: Box) -> tuple[list[str], Box]:
     """Returns what lies in a frame in SVG, and the frame with the names that stand out of it."""
     edges = [edge for edge, line in enumerate(ground.lines) if any(is_in(frame, point) for point in line)]
-    widths = {edge: width_of(uses[edge]) for edge in edges}
+    widths = {edge: width_of(ground.lines[edge], uses[edge]) for edge in edges}
     names = [
         name_along(name, ground.lines[edge], widths[edge]) for name, edge in names_in(ground, edges, uses).items()
     ]

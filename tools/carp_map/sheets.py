@@ -29,6 +29,13 @@ def kilometres(steps: Sequence[Step]) -> str:
     return f"{sum(step.street.metres for step in steps) / 1000:.2f} km"
 
 
+def lengths(steps: Sequence[Step]) -> str:
+    """Returns how long the steps are, and how much of them is served."""
+    served = [step for step in steps if step.move.serves]
+    driven = [step for step in steps if not step.move.serves]
+    return f"{kilometres(steps)}: {kilometres(served)} served, {kilometres(driven)} driven without service"
+
+
 def counted(count: int, what: str) -> str:
     """Returns a number of things in words."""
     return f"{count} {what}" if count == 1 else f"{count} {what}s"
@@ -52,14 +59,9 @@ def ways(steps: Sequence[Step]) -> list[str]:
 
 def facts(steps: Sequence[Step], capacity: int) -> list[str]:
     """Returns what is said of a tour above its steps."""
-    served = [step for step in steps if step.move.serves]
-    driven = [step for step in steps if not step.move.serves]
     against = [step for step in steps if step.is_against]
     load = steps[-1].load if steps else 0
-    lines = [
-        f"load {load} of {capacity}, cost {sum(step.cost for step in steps)}",
-        f"{kilometres(steps)}: {kilometres(served)} served, {kilometres(driven)} driven without service",
-    ]
+    lines = [f"load {load} of {capacity}, cost {sum(step.cost for step in steps)}", lengths(steps)]
     if against:
         lines += [f"{counted(len(against), 'step')} against a one-way street, {kilometres(against)}", NO_ONEWAYS]
     return lines
@@ -110,8 +112,7 @@ def summary(tours: Sequence[Sequence[Step]], capacity: int, cost: int, bound: in
     against = [step for step in steps if step.is_against]
     lines = [
         f"{counted(len(tours), 'tour')}, cost {cost}; every plan costs at least {bound}",
-        f"{kilometres(steps)}: {kilometres([step for step in steps if step.move.serves])} served, "
-        f"{kilometres([step for step in steps if not step.move.serves])} driven without service",
+        lengths(steps),
         f"{counted(len(against), 'step')} against a one-way street, {kilometres(against)}",
     ]
     for number, tour in enumerate(tours, 1):
