@@ -130,7 +130,7 @@ class FolderTest(unittest.TestCase):
     """A test that works in a new folder, with the small town, its certificate and its key."""
 
     def setUp(self) -> None:
-        self.folder = Path(tempfile.mkdtemp())
+        self.folder = Path(os.path.realpath(tempfile.mkdtemp()))
         self.addCleanup(shutil.rmtree, self.folder)
         self.key = small_key()
         self.write("town.dat", small_instance(self.key))
@@ -148,8 +148,9 @@ class FolderTest(unittest.TestCase):
     def call(self, *words: str, program: str | None = None) -> subprocess.CompletedProcess[str]:
         """Runs a command in the folder."""
         environment = {**os.environ, "CARP": program or PROGRAM}
-        options = {"cwd": self.folder, "env": environment, "capture_output": True, "encoding": "utf-8", "timeout": 60}
-        return subprocess.run(words, **options)
+        return subprocess.run(
+            words, cwd=self.folder, env=environment, capture_output=True, encoding="utf-8", timeout=60
+        )
 
     def routes(self, *names: str) -> Path:
         """Runs `tools/routes` on files that it takes, and returns the folder of the routes."""
@@ -349,17 +350,15 @@ class Refusals(FolderTest):
         """Files that change while they are read do not lead to routes."""
         self.write("other", "#!/bin/sh\nprintf 'accepted\\ncost 1\\nbound 0\\n'\n")
         (self.folder / "other").chmod(0o755)
-        other = str(self.folder / "other")
-        self.refuse("the steps of town.cert cost 980, and carp check says 1", *NAMES, "--out", "out", program=other)
+        self.refuse("the steps of town.cert cost 980, and carp check says 1", *NAMES, "--out", "out", program="other")
         self.write("town.dat", "")
-        self.refuse("town.dat is no instance any more", *NAMES, "--out", "out", program=other)
+        self.refuse("town.dat is no instance any more", *NAMES, "--out", "out", program="other")
 
     def test_files_that_are_not_there(self) -> None:
         self.refuse("carp check: read fault", "none", *NAMES[1:], "--out", "out")
         self.refuse("none cannot be read", *NAMES[:2], "none", "--out", "out")
-        self.refuse("no program at none", *NAMES, "--out", "out", program="none")
-        instance = str(self.folder / "town.dat")
-        self.refuse(f"{instance} cannot be run", *NAMES, "--out", "out", program=instance)
+        self.refuse(f"no program at {self.folder / 'none'}", *NAMES, "--out", "out", program="none")
+        self.refuse(f"{self.folder / 'town.dat'} cannot be run", *NAMES, "--out", "out", program="town.dat")
 
     def test_a_folder_that_cannot_be_written(self) -> None:
         self.refuse("town.key is there already", *NAMES, "--out", "town.key")

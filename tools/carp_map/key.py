@@ -9,7 +9,7 @@ import re
 import subprocess
 import unicodedata
 from dataclasses import dataclass
-from typing import Any
+from typing import Any, TypeGuard
 
 from carp_map.geometry import Place
 
@@ -109,7 +109,7 @@ class Step:
 def check(path: str, certificate: str) -> tuple[int, int]:
     """Returns the cost and the bound that `carp check` accepts; CARP names a program in place of that of ./carp."""
     home = os.path.dirname(os.path.dirname(os.path.dirname(os.path.abspath(__file__))))
-    program = os.environ.get("CARP", os.path.join(home, "crates", "carp", "out", "carp"))
+    program = os.path.abspath(os.environ.get("CARP", os.path.join(home, "crates", "carp", "out", "carp")))
     if not os.path.exists(program):
         raise Refusal(f"no program at {program}; run ./carp once, which builds it, or name another in CARP")
     try:
@@ -223,10 +223,10 @@ def street_of(part: Any, edge: Edge, places: list[Place], owner: str) -> Street:
     line = [place_of(point, f"the geometry of {owner}") for point in points]
     if [line[0], line[-1]] != [places[end - 1] for end in edge.ends]:
         raise Refusal(f"the geometry of {owner} does not lead from the place of one end to that of the other")
-    return Street(printable(name) if name else None, float(metres), oneway, line)
+    return Street(printable(name) if name else None, metres, oneway, line)
 
 
-def is_number(value: Any) -> bool:
+def is_number(value: Any) -> TypeGuard[float]:
     """Returns whether a JSON value is a number of a size that a map can have."""
     return type(value) in (int, float) and abs(value) <= 1e9
 
