@@ -84,6 +84,13 @@ class FolderTest(unittest.TestCase):
         self.assertTrue(checked.stdout.startswith("accepted\n"), checked.stdout)
 
 
+def direction_of(place: geometry.Place) -> tuple[float, float, float]:
+    """Returns the direction of a place from the middle of the Earth."""
+    latitude, longitude = (math.radians(angle) for angle in place)
+    flat = math.cos(latitude)
+    return flat * math.cos(longitude), flat * math.sin(longitude), math.sin(latitude)
+
+
 class Geometry(unittest.TestCase):
     def test_distances(self) -> None:
         degree = math.pi * geometry.EARTH_RADIUS / 180
@@ -93,12 +100,16 @@ class Geometry(unittest.TestCase):
         self.assertAlmostEqual(geometry.haversine((60, 0), (60, 0.001)) / degree, 0.0005, 9)
         self.assertAlmostEqual(geometry.haversine((10, 10), (-10, -170)), 180 * degree, -1)
         self.assertEqual(geometry.haversine((45, 7), (45, 7)), 0)
+        for a, b in (((52.5, 13.4), (48.9, 2.4)), ((-33.9, 151.2), (51.5, -0.1)), ((89, 10), (80, -120))):
+            angle = math.acos(sum(x * y for x, y in zip(direction_of(a), direction_of(b))))
+            self.assertAlmostEqual(geometry.haversine(a, b), angle * geometry.EARTH_RADIUS, 2)
         self.assertAlmostEqual(geometry.length([(0, 0), (0, 1), (1, 1), (0, 1)]), 3 * degree, 6)
         self.assertEqual(geometry.length([(0, 0)]), 0)
 
     def test_directions(self) -> None:
         for place, angle in (((1, 0), 0), ((0, 1), 90), ((-1, 0), 180), ((0, -1), 270), ((0, 0), 0)):
             self.assertAlmostEqual(geometry.bearing((0, 0), place), angle)
+        self.assertEqual(geometry.bearing((0, 0), (1, -1e-20)), 0)
         self.assertAlmostEqual(geometry.departure([(0, 0), (0, 0), (0, 1), (1, 1)]), 90)
         self.assertAlmostEqual(geometry.arrival([(0, 0), (0, 1), (1, 1), (1, 1)]), 0)
 
@@ -212,6 +223,9 @@ class Network(unittest.TestCase):
         self.assertAlmostEqual(street.length, 4 * 111195.08 / 1112, 1)
         self.assertEqual(street.reach, math.ceil(street.length))
         self.assertAlmostEqual(street.seconds, street.length * 3.6 / 30)
+        street_map = make_map(make_way(1, 2, speed=10), make_way(2, 3, speed=50))
+        (street,) = network.streets_of(street_map, network.link(street_map), 1)
+        self.assertAlmostEqual(street.seconds, street.length * 3.6 * (1 / 10 + 1 / 50) / 2)
 
     def test_stops(self) -> None:
         for other in (
@@ -257,6 +271,11 @@ class Network(unittest.TestCase):
         streets = network.streets_of(street_map, network.link(street_map), 0)
         self.assertEqual(network.cut_out(streets, 0, 10_000), streets)
         self.assertEqual(network.cut_out(streets, 0, 50), [])
+        # A street that is near, and is joined to the depot only by one that is far.
+        returning = make_map(make_way(0, 5, name="B"), make_way(5, 11, name="A"), make_way(11, 10, name="C"))
+        near = network.streets_of(returning, network.link(returning), 0)
+        self.assertEqual(network.cut_out(near, 0, 200), [])
+        self.assertEqual(network.cut_out(near, 0, 600), near)
         for most in (2, 7, 20, 60):
             found = network.largest_cut_out(streets, 0, lambda some: len(some) <= most)
             assert found is not None
@@ -469,6 +488,8 @@ class Town(FolderTest):
         some = self.streets("--require", "highway=tertiary,name=Am Wendehammer", "--demand-per-100m", "2.5")
         required = {edge["name"] for edge in some["edges"] if edge["demand"]}
         self.assertEqual(len(some["edges"]), len(whole["edges"]))
+        for edge in (edge for edge in some["edges"] if edge["demand"]):
+            self.assertEqual(edge["demand"], max(1, int(edge["length"] * 2.5 / 100 + 0.5)))
         self.assertLessEqual({"Mill Road", "Am Wendehammer"}, required)
         self.assertFalse({"Größe Straße", "Blindgasse", None} & required)
         self.accepts("town.dat")
