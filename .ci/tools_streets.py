@@ -371,6 +371,11 @@ class Instances(FolderTest):
         with open("b/c", "rb") as file:
             self.assertEqual(file.read(), b"\xc3\x9f\n")
         self.assertEqual(os.listdir("b"), ["c"])
+        os.symlink("b/c", "link")
+        instance.write_all({"link": "newer"})
+        self.assertTrue(os.path.islink("link"))
+        with open("b/c", encoding="utf-8") as kept:
+            self.assertEqual(kept.read(), "newer")
 
 
 class Words(FolderTest):
@@ -598,9 +603,19 @@ class Refusals(FolderTest):
     def test_places_that_cannot_be_written(self) -> None:
         os.mkdir("folder")
         words = [TOWN, "--depot", "45,-30", "--capacity", "20"]
-        self.assertEqual(self.refused(*words, "a.dat", "folder"), ["folder cannot be written: it is a folder"])
-        (line,) = self.refused(*words, "a.dat", "none/a.key")
-        self.assertRegex(line, "^none/a.key.* cannot be written: No such file or directory$")
+        os.mkfifo("pipe")
+        said = "cannot be written: it is not a plain file"
+        self.assertEqual(self.refused(*words, "a.dat", "folder"), [f"folder {said}"])
+        self.assertEqual(self.refused(*words, "pipe", "a.key"), [f"pipe {said}"])
+        said = "none/a.key cannot be written: No such file or directory"
+        self.assertEqual(self.refused(*words, "a.dat", "none/a.key"), [said])
+
+    def test_full_disk(self) -> None:
+        # Files may have 4,096 bytes, which the instance has and the key passes.
+        limited = ["bash", "-c", 'ulimit -f 4; exec "$@"', "limited"]
+        done = self.call(*limited, STREETS, TOWN, "--depot", "45,-30", "--capacity", "20", "a.dat", "a.key")
+        self.assertEqual((done.returncode, done.stderr), (1, "streets: a.key cannot be written: File too large\n"))
+        self.assertEqual(os.listdir(), [])
 
 
 def main() -> None:
