@@ -192,20 +192,26 @@ def key_of(instance: Instance) -> str:
 
 def write_all(texts: Mapping[str, str]) -> None:
     """Writes each text beside its path, and then renames them all, so that nothing is written if one cannot be."""
-    made: list[str] = []
+    beside: dict[str, str] = {}
     try:
         for path, text in texts.items():
-            if os.path.isdir(path):
-                raise MapError(f"{path} cannot be written: it is a folder")
-            beside = f"{path}.{os.getpid()}.new"
-            with open(beside, "x", encoding="utf-8", newline="\n") as file:
-                made.append(beside)
-                file.write(text)
-        for path, beside in zip(texts, list(made)):
-            os.replace(beside, path)
-            made.remove(beside)
+            write_beside(path, text, beside)
+        for path in texts:
+            os.replace(beside[path], os.path.realpath(path))
+            del beside[path]
     except OSError as error:
-        raise MapError(f"{error.filename} cannot be written: {error.strerror}") from None
+        raise MapError(f"{path} cannot be written: {error.strerror}") from None
     finally:
-        for beside in made:
-            os.remove(beside)
+        for name in beside.values():
+            os.remove(name)
+
+
+def write_beside(path: str, text: str, beside: dict[str, str]) -> None:
+    """Writes a text to a new file beside what a path leads to, and notes its name."""
+    target = os.path.realpath(path)
+    if os.path.exists(target) and not os.path.isfile(target):
+        raise MapError(f"{path} cannot be written: it is not a plain file")
+    name = f"{target}.{os.getpid()}.new"
+    with open(name, "x", encoding="utf-8", newline="\n") as file:
+        beside[path] = name
+        file.write(text)
