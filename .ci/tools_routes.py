@@ -157,6 +157,7 @@ class FolderTest(unittest.TestCase):
         done = self.call(ROUTES, *(names or NAMES), "--out", "out")
         self.assertEqual((done.returncode, done.stderr), (0, ""))
         self.assertEqual(done.stdout, (self.folder / "out" / "summary.txt").read_text(encoding="utf-8"))
+        self.assertFalse([name for name in self.listing() if name.endswith(".new")])
         return self.folder / "out"
 
     def refuse(self, message: str, *words: str, code: int = 1, program: str | None = None) -> None:
@@ -232,6 +233,7 @@ class FolderTest(unittest.TestCase):
         track = [(float(point.get("lat")), float(point.get("lon"))) for point in tree.iter(f"{GPX}trkpt")]
         metres = sum(step["properties"]["length"] for step in steps)
         self.assertAlmostEqual(geometry.length(track), metres, delta=0.1 + 0.001 * metres)
+        self.assertTrue(all(a != b for a, b in zip(track, track[1:])))
         self.assertEqual(len(list(tree.iter(f"{GPX}rtept"))), len(steps) + 1)
         self.assertEqual([child.tag for child in tree], [GPX + tag for tag in ("wpt", "rte", "trk")])
 
@@ -272,6 +274,7 @@ class SmallTown(FolderTest):
         self.assertIn("\n1 step against a one-way street, 0.08 km\n", text)
         self.assertIn(sheets.NO_ONEWAYS, text)
         self.assertRegex(text, r"\ntour 1: load 10 of 10, cost \d+, 0\.53 km, 0 steps against a one-way street\n")
+        self.assertRegex(text, r"\ntour 2: load 1 of 10, cost \d+, 0\.45 km, 1 step against a one-way street\n")
 
     def test_nothing_is_marked_without_one_way_streets(self) -> None:
         for edge in self.key["edges"]:
@@ -430,6 +433,15 @@ class Parts(unittest.TestCase):
         self.assertEqual(maps.beside([(0, 0), (0, -10)], 2), [(2, 0), (2, -10)])
         self.assertEqual(maps.beside([(0, 0), (10, 0), (10, 0), (10, 10)], 1), [(0, 1), (9, 1), (9, 10)])
         self.assertEqual(maps.beside([(1, 1), (1, 1)], 2), [(1, 1)])
+
+    def test_arrows_show_directions(self) -> None:
+        """Moves to the east and back lie on their right, and the first corner of an arrow is its tip."""
+        uses = [(key.Move(1, forward, True), "red") for forward in (False, True)]
+        back, back_arrow, there, there_arrow = maps.moves_along([(0.0, 0.0), (100.0, 0.0)], uses)
+        self.assertIn('d="M0.0 -1.8 L100.0 -1.8"', back)
+        self.assertIn('d="M0.0 1.8 L100.0 1.8"', there)
+        self.assertIn('points="64.0,1.8 57.2,', there_arrow)
+        self.assertIn('points="36.0,-1.8 42.8,', back_arrow)
 
     def test_a_tour_that_stays(self) -> None:
         self.assertIn("load 0 of 3, cost 0", sheets.text_sheet("Tour 1 of 1", [], 3))
