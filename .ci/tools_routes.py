@@ -436,7 +436,8 @@ class Parts(unittest.TestCase):
 
     def test_arrows_show_directions(self) -> None:
         """Moves to the east and back lie on their right, and the first corner of an arrow is its tip."""
-        uses = [(key.Move(1, forward, True), "red") for forward in (False, True)]
+        tour = maps.Tour("red", [key.Move(1, forward, True) for forward in (True, False)])
+        uses = maps.uses_of([tour], 1)[0]
         back, back_arrow, there, there_arrow = maps.moves_along([(0.0, 0.0), (100.0, 0.0)], uses)
         self.assertIn('d="M0.0 -1.8 L100.0 -1.8"', back)
         self.assertIn('d="M0.0 1.8 L100.0 1.8"', there)
