@@ -22,7 +22,7 @@ Box = tuple[float, float, float, float]
 GAP, NARROW, WIDE = 3.5, 6.0, 30.0
 # In pixels: the middle length of streets, the most and the least extent of a map.
 STREET, MOST, LEAST = 60.0, 4000.0, 300.0
-ARROW, MARGIN, LEGEND_WIDTH, LEGEND_LINE, LEGEND_SCALE = 4.0, 20.0, 220.0, 16.0, 150.0
+ARROW, MARGIN, LEGEND_WIDTH, LEGEND_LINE, LEGEND_SCALE = 4.0, 20.0, 220.0, 16.0, 90.0
 
 # Steps of this part of a circle come near to none of the places where they were before.
 GOLDEN = (math.sqrt(5) - 1) / 2
@@ -179,20 +179,23 @@ def name_along(name: str, line: Sequence[Point], width: float) -> tuple[str, lis
     )
 
 
-def legend(tours: Sequence[Tour], scale: float, left: float, top: float) -> Iterator[str]:
-    """Returns the legend in SVG: the tours, the two kinds of lines, and a length in metres."""
-    rows = [(f'stroke="{tour.colour}" stroke-width="4"', tour.title) for tour in tours]
-    rows.append(('stroke="#333" stroke-width="2.5"', "serves"))
-    rows.append(('stroke="#333" stroke-width="1.5" stroke-dasharray="4 3"', "drives without service"))
-    for number, (style, title) in enumerate(rows):
-        y = top + LEGEND_LINE * (number + 0.5)
-        yield path([(left, y), (left + 24, y)], style)
-        yield f'<text class="legend" x="{left + 32:.1f}" y="{y + 4:.1f}">{escape(title)}</text>'
+def legend(tours: Sequence[Tour], scale: float, box: Box) -> tuple[list[str], Box]:
+    """Returns the legend on the right of a box in SVG, and the box with it: tours, kinds of lines and a length."""
     lengths = (part * 10.0**power for power in range(-2, 8) for part in (1, 2, 5))
     metres = max(length for length in lengths if length * scale <= LEGEND_SCALE)
-    y = top + LEGEND_LINE * (len(rows) + 1.5)
-    yield path([(left, y - 4), (left, y), (left + metres * scale, y), (left + metres * scale, y - 4)], 'stroke="black"')
-    yield f'<text class="legend" x="{left:.1f}" y="{y + 14:.1f}">{metres:.12g} m, north is up</text>'
+    rows = [(24.0, f'stroke="{tour.colour}" stroke-width="4"', tour.title) for tour in tours]
+    rows.append((24.0, 'stroke="#333" stroke-width="2.5"', "serves"))
+    rows.append((24.0, 'stroke="#333" stroke-width="1.5" stroke-dasharray="4 3"', "drives without service"))
+    rows.append((metres * scale, 'stroke="black"', f"{metres:.12g} m, north is up"))
+    _, top, right, bottom = box
+    high = max(int((bottom - top - 2 * MARGIN) / LEGEND_LINE), 8)
+    parts = []
+    for number, (width, style, title) in enumerate(rows):
+        x, y = right + LEGEND_WIDTH * (number // high), top + MARGIN + LEGEND_LINE * (number % high + 0.5)
+        parts.append(path([(x, y), (x + width, y)], style))
+        parts.append(f'<text class="legend" x="{x + width + 8:.1f}" y="{y + 4:.1f}">{escape(title)}</text>')
+    right += LEGEND_WIDTH * math.ceil(len(rows) / high)
+    return parts, (*box[:2], right, max(bottom, top + 2 * MARGIN + LEGEND_LINE * min(high, len(rows))))
 
 
 def names_in(ground: Ground, edges: Iterable[int], uses: Sequence[Sequence[object]]) -> dict[str, int]:
@@ -230,11 +233,11 @@ def svg(ground: Ground, tours: Sequence[Tour], is_close: bool = False, has_legen
     shown = [line for line, each in zip(ground.lines, uses) if each or not is_close]
     points = [ground.points[ground.depot - 1]] if is_close else ground.points
     frame = box_of([*points, *(point for line in shown for point in line)], MARGIN)
-    parts, (left, top, right, bottom) = drawn(ground, uses, frame)
+    parts, box = drawn(ground, uses, frame)
     if has_legend and ground.scale:
-        parts.extend(legend(tours, ground.scale, right, top + MARGIN))
-        right, bottom = right + LEGEND_WIDTH, max(bottom, top + LEGEND_LINE * (len(tours) + 5) + 2 * MARGIN)
-    width, height = right - left, bottom - top
+        lines, box = legend(tours, ground.scale, box)
+        parts.extend(lines)
+    left, top, width, height = box[0], box[1], box[2] - box[0], box[3] - box[1]
     size = f'width="{width:.0f}" height="{height:.0f}" viewBox="{left:.1f} {top:.1f} {width:.1f} {height:.1f}"'
     return "\n".join([
         f'<svg xmlns="http://www.w3.org/2000/svg" {size}>',
