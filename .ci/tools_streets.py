@@ -488,6 +488,14 @@ class Town(FolderTest):
         key = self.streets(depot="44.9973,-30.0116")
         self.assertEqual({edge["name"] for edge in key["edges"]}, {"Østervej", "Vestervej", "Møllevej"})
 
+    def test_node_without_a_place(self) -> None:
+        nodes = "".join(f'<node id="{at}" lat="{lat}" lon="-30"/>' for at, lat in ((1, 45), (2, 45.001), (3, 95)))
+        way = '<way id="1"><nd ref="1"/><nd ref="2"/><nd ref="3"/><tag k="highway" v="road"/></way>'
+        self.write("odd.osm", f'<osm version="0.6">{nodes}{way}</osm>')
+        (edge,) = self.streets(town="odd.osm")["edges"]
+        self.assertEqual((edge["cost"], edge["name"]), (111, None))
+        self.assertIn("nodes that the map lacks 1: streets end there", self.said)
+
     def test_choices(self) -> None:
         whole = self.streets()
         some = self.streets("--require", "highway=tertiary,name=Am Wendehammer", "--demand-per-100m", "2.5")
