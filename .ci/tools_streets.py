@@ -17,7 +17,7 @@ from tools_parts import (  # noqa: F401 (the tests of the modules are run too)
     FolderTest, Geometry, Instances, Network, Reading, needs_osmium,
 )
 
-from carp_map import geometry, instance  # noqa: E402
+from carp_map import geometry  # noqa: E402
 
 
 class Words(FolderTest):
