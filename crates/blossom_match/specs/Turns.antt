@@ -22,7 +22,8 @@ label_of state s = label_at state.label.items s
 
 -- the weights of the tree may be moved by this amount
 pub record IsLawful (costs : Costs) (state : State) (amount : ℕ) : Type 0 where
-  pub meets : (u v : ℕ) → u < state.size → v < state.size → top_of state u ≢ top_of state v → label_of state (top_of state u) ≡ Outer → label_of state (top_of state v) ≡ Outer → sum_of state u + sum_of state v + 2 * amount ≤ 2 * cost costs u v
+  pub meets : (u v : ℕ) → u < state.size → v < state.size → top_of state u ≢ top_of state v → label_of state (top_of state u) ≡ Outer → label_of state (top_of state v) ≡ Outer →
+      sum_of state u + sum_of state v + 2 * amount ≤ 2 * cost costs u v
   pub reaches : (u v : ℕ) → u < state.size → v < state.size → label_of state (top_of state u) ≡ Outer → label_of state (top_of state v) ≡ Free → sum_of state u + sum_of state v + amount ≤ 2 * cost costs u v
   pub enough : (s : ℕ) → s < 2 * state.size → label_of state s ≡ Inner → amount ≤ slice_index state.halves.items s
   pub fits : (v : ℕ) → v < state.size → label_of state (top_of state v) ≡ Outer → sum_of state v + amount ≤ 2 * MAX_COST

@@ -1,5 +1,21 @@
 // Laws over branches, price sets and trees, as functions whose contract is the law.
-ghost use Rattle.branch_rules.specs.Laws.{ApartHasNoSurcharge, BondsAreBounded, SurchargeIsSymmetric, SurchargesAreBondWeights, YesPairsHaveOneBond, ExcludedAreApart, VoidIsMetByNone, NumbersAreKept, FixedValueBounds, FixedBranchBounds, ValueIsBelow, PricesBound, TreeBounds, LeanIsSmall, NodesShowTree};
+ghost use Rattle.branch_rules.specs.Laws.{
+  ApartHasNoSurcharge,
+  BondsAreBounded,
+  SurchargeIsSymmetric,
+  SurchargesAreBondWeights,
+  YesPairsHaveOneBond,
+  ExcludedAreApart,
+  VoidIsMetByNone,
+  NumbersAreKept,
+  FixedValueBounds,
+  FixedBranchBounds,
+  ValueIsBelow,
+  PricesBound,
+  TreeBounds,
+  LeanIsSmall,
+  NodesShowTree,
+};
 ghost use Rattle.decision_chains.specs.Laws.{ExcludedIsSymmetric};
 
 use cut_pool::need_is_met;

@@ -1,7 +1,8 @@
 -- The faults of an instance, and which of them is answered.
 use Rattle.std.specs.Prelude.{◌≡◌, ℕ, ◌+◌, ◌*◌, ◌<◌, ◌≤◌, ◌⊎◌, length}
 use Rattle.carp_base.specs.declared.fault.InstanceFault.{InstanceFault}
-use Rattle.carp_base.specs.declared.fault.InstanceFault.TheVariants.{TooManyVertices, TooManyEdges, TooManyRequired, EndOutOfRange, Loop, CostTooLarge, CapacityOutOfRange, ZeroDemand, Overweight, DepotOutOfRange, TooManyStates, Unreachable, ServiceTooLarge}
+use Rattle.carp_base.specs.declared.fault.InstanceFault.TheVariants.{TooManyVertices, TooManyEdges, TooManyRequired, EndOutOfRange, Loop, CostTooLarge}
+use Rattle.carp_base.specs.declared.fault.InstanceFault.TheVariants.{CapacityOutOfRange, ZeroDemand, Overweight, DepotOutOfRange, TooManyStates, Unreachable, ServiceTooLarge}
 use Rattle.carp_base.specs.Problem.{Problem, IsEdgeNumber, IsRequired, IsVertex, IsReached, edge_at}
 
 -- the fault is there; one that speaks of an edge carries the edge's number, another the number that is out of range

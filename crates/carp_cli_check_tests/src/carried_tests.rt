@@ -10,9 +10,17 @@ use std::test::Fail;
 // Each row: a name, an instance, and a certificate of it; `~` is a line feed. Two streets in a row, each a load for a vehicle; three streets
 // round a far corner, for vehicles that carry two of them; and the same with a pair at the root of the tree.
 const FILES: &str = "\
-    row | VERTICES 3~ARISTAS_REQ 2~CAPACIDAD 2~LISTA_ARISTAS_REQ~(1,2) coste 3 demanda 2~(2,3) coste 4 demanda 2~DEPOSITO 1~ | carp-certificate 1~cost 20~bound 20~tours 2~tour 2 +1 <1~tour 4 >1 +2 <2 <1~shores 2~shore 2 2 3~shore 1 3~sets 1~prices 1 2 3 4~weights 2 1 3 2 4~nodes 1~price 1~end~\n\
-    ring | VERTICES 4~ARISTAS_REQ 3~ARISTAS_NOREQ 1~CAPACIDAD 5~LISTA_ARISTAS_REQ~(2,3) coste 1 demanda 2~(3,4) coste 1 demanda 2~(4,2) coste 1 demanda 2~LISTA_ARISTAS_NOREQ~(1,2) coste 10~DEPOSITO 1~ | carp-certificate 1~cost 45~bound 45~tours 2~tour 5 >4 +1 +2 >3 <4~tour 4 >4 -3 >3 <4~shores 2~shore 3 2 3 4~shore 2 3 4~sets 1~prices 1 3 1 1 1~weights 2 1 10 2 1~nodes 1~price 1~end~\n\
-    split | VERTICES 4~ARISTAS_REQ 3~ARISTAS_NOREQ 1~CAPACIDAD 5~LISTA_ARISTAS_REQ~(2,3) coste 1 demanda 2~(3,4) coste 1 demanda 2~(4,2) coste 1 demanda 2~LISTA_ARISTAS_NOREQ~(1,2) coste 10~DEPOSITO 1~ | carp-certificate 1~cost 45~bound 45~tours 2~tour 5 >4 +1 +2 >3 <4~tour 4 >4 -3 >3 <4~shores 2~shore 3 2 3 4~shore 2 3 4~sets 1~prices 1 3 1 1 1~weights 2 1 10 2 1~nodes 3~pair 1 2~price 1~price 1~end~";
+    row | VERTICES 3~ARISTAS_REQ 2~CAPACIDAD 2~LISTA_ARISTAS_REQ~(1,2) coste 3 demanda 2~(2,3) coste 4 demanda 2~DEPOSITO 1~ | \
+        carp-certificate 1~cost 20~bound 20~tours 2~tour 2 +1 <1~tour 4 >1 +2 <2 <1~shores 2~shore 2 2 3~shore 1 3~sets 1~\
+        prices 1 2 3 4~weights 2 1 3 2 4~nodes 1~price 1~end~\n\
+    ring | VERTICES 4~ARISTAS_REQ 3~ARISTAS_NOREQ 1~CAPACIDAD 5~LISTA_ARISTAS_REQ~(2,3) coste 1 demanda 2~(3,4) coste 1 demanda 2~\
+        (4,2) coste 1 demanda 2~LISTA_ARISTAS_NOREQ~(1,2) coste 10~DEPOSITO 1~ | carp-certificate 1~cost 45~bound 45~tours 2~\
+        tour 5 >4 +1 +2 >3 <4~tour 4 >4 -3 >3 <4~shores 2~shore 3 2 3 4~shore 2 3 4~sets 1~prices 1 3 1 1 1~weights 2 1 10 2 1~\
+        nodes 1~price 1~end~\n\
+    split | VERTICES 4~ARISTAS_REQ 3~ARISTAS_NOREQ 1~CAPACIDAD 5~LISTA_ARISTAS_REQ~(2,3) coste 1 demanda 2~\
+        (3,4) coste 1 demanda 2~(4,2) coste 1 demanda 2~LISTA_ARISTAS_NOREQ~(1,2) coste 10~DEPOSITO 1~ | carp-certificate 1~\
+        cost 45~bound 45~tours 2~tour 5 >4 +1 +2 >3 <4~tour 4 >4 -3 >3 <4~shores 2~shore 3 2 3 4~shore 2 3 4~sets 1~\
+        prices 1 3 1 1 1~weights 2 1 10 2 1~nodes 3~pair 1 2~price 1~price 1~end~";
 
 // Each row: the files, the edits, and the code and the text of `edit`, with those of `check` behind them where it is done.
 const ROWS: &str = "\
@@ -121,7 +129,9 @@ fn a_cut_tour_and_a_dropped_pair(rt: HostRuntime) -> Result<(), Fail> {
 
 // Five streets at the end of a long way, of which a vehicle takes two, with another long way to one of them: a tree of several turns shows what they cost.
 const STAR: &str =
-    "VERTICES 7~ARISTAS_REQ 5~ARISTAS_NOREQ 2~CAPACIDAD 5~LISTA_ARISTAS_REQ~(2,3) coste 1 demanda 2~(2,4) coste 1 demanda 2~(2,5) coste 1 demanda 2~(2,6) coste 1 demanda 2~(2,7) coste 1 demanda 2~LISTA_ARISTAS_NOREQ~(1,2) coste 100~(1,3) coste 110~DEPOSITO 1~";
+    "VERTICES 7~ARISTAS_REQ 5~ARISTAS_NOREQ 2~CAPACIDAD 5~LISTA_ARISTAS_REQ~(2,3) coste 1 demanda 2~(2,4) coste 1 demanda 2~\
+    (2,5) coste 1 demanda 2~(2,6) coste 1 demanda 2~(2,7) coste 1 demanda 2~LISTA_ARISTAS_NOREQ~(1,2) coste 100~(1,3) coste 110~\
+    DEPOSITO 1~";
 
 // The next number of a generator, below a limit.
 fn draw(state: &mut u64, below: u64) -> u64

@@ -35,8 +35,12 @@ const WIDE_RING: &str = "\
 
 // Five streets at the end of a long way, of which a vehicle takes two; with one cut.
 const STAR: &str = "\
-    VERTICES 7~ARISTAS_REQ 5~ARISTAS_NOREQ 1~CAPACIDAD 5~LISTA_ARISTAS_REQ~(2,3) coste 1 demanda 2~(2,4) coste 1 demanda 2~(2,5) coste 1 demanda 2~(2,6) coste 1 demanda 2~(2,7) coste 1 demanda 2~LISTA_ARISTAS_NOREQ~(1,2) coste 100~DEPOSITO 1~\n\
-    carp-certificate 1~cost 610~bound 610~tours 3~tour 6 >6 +1 <1 +2 <2 <6~tour 6 >6 +3 <3 +4 <4 <6~tour 4 >6 +5 <5 <6~shores 6~shore 6 2 3 4 5 6 7~shore 1 3~shore 1 4~shore 1 5~shore 1 6~shore 1 7~sets 2~prices 1 5 201 201 201 201 201~weights 6 1 -100 2 1 3 1 4 1 5 1 6 1~prices 1 5 1 1 1 1 1~weights 6 1 100 2 1 3 1 4 1 5 1 6 1~nodes 3~cut 1 4~price 1~price 2~end~";
+    VERTICES 7~ARISTAS_REQ 5~ARISTAS_NOREQ 1~CAPACIDAD 5~LISTA_ARISTAS_REQ~(2,3) coste 1 demanda 2~(2,4) coste 1 demanda 2~\
+        (2,5) coste 1 demanda 2~(2,6) coste 1 demanda 2~(2,7) coste 1 demanda 2~LISTA_ARISTAS_NOREQ~(1,2) coste 100~DEPOSITO 1~\n\
+    carp-certificate 1~cost 610~bound 610~tours 3~tour 6 >6 +1 <1 +2 <2 <6~tour 6 >6 +3 <3 +4 <4 <6~tour 4 >6 +5 <5 <6~shores 6~\
+        shore 6 2 3 4 5 6 7~shore 1 3~shore 1 4~shore 1 5~shore 1 6~shore 1 7~sets 2~prices 1 5 201 201 201 201 201~\
+        weights 6 1 -100 2 1 3 1 4 1 5 1 6 1~prices 1 5 1 1 1 1 1~weights 6 1 100 2 1 3 1 4 1 5 1 6 1~nodes 3~cut 1 4~price 1~\
+        price 2~end~";
 
 // Two streets at the end of a long way; a tour may serve the first of them twice.
 const FORK: &str = "\

@@ -13,7 +13,8 @@ const TOWNS: &str = "\
     street | VERTICES 2~ARISTAS_REQ 1~CAPACIDAD 1~LISTA_ARISTAS_REQ~(1,2) coste 5 demanda 1~DEPOSITO 1~\n\
     none | VERTICES 1~ARISTAS_REQ 0~CAPACIDAD 1~DEPOSITO 1~\n\
     ring | VERTICES 4~ARISTAS_REQ 3~ARISTAS_NOREQ 1~CAPACIDAD 3~LISTA_ARISTAS_REQ~(2,3) coste 1 demanda 2~(3,4) coste 1 demanda 2~(4,2) coste 1 demanda 2~LISTA_ARISTAS_NOREQ~(1,2) coste 10~DEPOSITO 1~\n\
-    star | VERTICES 7~ARISTAS_REQ 5~ARISTAS_NOREQ 1~CAPACIDAD 5~LISTA_ARISTAS_REQ~(2,3) coste 1 demanda 2~(2,4) coste 1 demanda 2~(2,5) coste 1 demanda 2~(2,6) coste 1 demanda 2~(2,7) coste 1 demanda 2~LISTA_ARISTAS_NOREQ~(1,2) coste 100~DEPOSITO 1~";
+    star | VERTICES 7~ARISTAS_REQ 5~ARISTAS_NOREQ 1~CAPACIDAD 5~LISTA_ARISTAS_REQ~(2,3) coste 1 demanda 2~(2,4) coste 1 demanda 2~\
+        (2,5) coste 1 demanda 2~(2,6) coste 1 demanda 2~(2,7) coste 1 demanda 2~LISTA_ARISTAS_NOREQ~(1,2) coste 100~DEPOSITO 1~";
 
 // Each row: words, how the code and the text begin, and a part of them. `~` is a line feed.
 const ROWS: &str = "\

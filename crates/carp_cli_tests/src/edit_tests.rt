@@ -7,7 +7,9 @@ use std::test::Fail;
 
 // Three streets around, the second of which costs 2 more to drive and as much as before to serve. `~` is a line feed.
 const EDITED: &str =
-    "NOMBRE : carp~COMENTARIO : none~VERTICES : 3~ARISTAS_REQ : 3~ARISTAS_NOREQ : 0~VEHICULOS : 1~CAPACIDAD : 3~TIPO_COSTES_ARISTAS : EXPLICITOS~COSTE_TOTAL_REQ : 16~LISTA_ARISTAS_REQ :~( 1, 2) coste 5 demanda 1~( 2, 3) coste 9 demanda 1 servicio 7~( 1, 3) coste 4 demanda 1~LISTA_ARISTAS_NOREQ :~DEPOSITO : 1~";
+    "NOMBRE : carp~COMENTARIO : none~VERTICES : 3~ARISTAS_REQ : 3~ARISTAS_NOREQ : 0~VEHICULOS : 1~CAPACIDAD : 3~\
+    TIPO_COSTES_ARISTAS : EXPLICITOS~COSTE_TOTAL_REQ : 16~LISTA_ARISTAS_REQ :~( 1, 2) coste 5 demanda 1~\
+    ( 2, 3) coste 9 demanda 1 servicio 7~( 1, 3) coste 4 demanda 1~LISTA_ARISTAS_NOREQ :~DEPOSITO : 1~";
 
 // The plan, the prices and the tree are the old ones.
 const CARRIED: &str =

@@ -20,7 +20,8 @@ const FULL_CERTIFICATE: &str =
 
 // A star of five streets behind a long one, in 238 bytes.
 const STAR: &str =
-    "VERTICES 7~ARISTAS_REQ 5~ARISTAS_NOREQ 1~CAPACIDAD 5~LISTA_ARISTAS_REQ~(2,3) coste 1 demanda 2~(2,4) coste 1 demanda 2~(2,5) coste 1 demanda 2~(2,6) coste 1 demanda 2~(2,7) coste 1 demanda 2~LISTA_ARISTAS_NOREQ~(1,2) coste 100~DEPOSITO 1~";
+    "VERTICES 7~ARISTAS_REQ 5~ARISTAS_NOREQ 1~CAPACIDAD 5~LISTA_ARISTAS_REQ~(2,3) coste 1 demanda 2~(2,4) coste 1 demanda 2~\
+    (2,5) coste 1 demanda 2~(2,6) coste 1 demanda 2~(2,7) coste 1 demanda 2~LISTA_ARISTAS_NOREQ~(1,2) coste 100~DEPOSITO 1~";
 
 // The edits have 9 bytes. Each row: words, behind the name of the instance where it is not the triangle, how many looks of 64 bytes they make (one more than the pieces of each file that they read), how many
 // keeps, the code of the answer where no call fails, and how the text begins.

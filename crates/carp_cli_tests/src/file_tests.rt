@@ -34,7 +34,9 @@ const SOLVED: &str = "\
     proven 10 10 1|vertices : 2\r~aristas_req 1\r~\tComentario café\r~Capacidad: 1\r~lista_aristas_req :\r~\r~(1,2)COSTE 5 Demanda 1\r~deposito : 1\n\
     proven 10 10 1|vertices : 2\r~aristas_req 1\r~Capacidad: 1\r~lista_aristas_req :\r~(1,2)COSTE 5 Demanda 1\r~deposito : 1 central~END~\n\
     proven 10 10 1|VERTICES 2~ARISTAS_REQ 1~CAPACIDAD 1~LISTA_ARISTAS_REQ~(1,2) coste 5 demanda 1~DEPOSITO 1\n\
-    proven 10 10 1|NOMBRE : carp~COMENTARIO : none~VERTICES : 2~ARISTAS_REQ : 1~ARISTAS_NOREQ : 0~VEHICULOS : 2~CAPACIDAD : 1~TIPO_COSTES_ARISTAS : EXPLICITOS~COSTE_TOTAL_REQ : 5~LISTA_ARISTAS_REQ :~( 1, 2) coste 5 demanda 1~LISTA_ARISTAS_NOREQ :~DEPOSITO : 1~\n\
+    proven 10 10 1|NOMBRE : carp~COMENTARIO : none~VERTICES : 2~ARISTAS_REQ : 1~ARISTAS_NOREQ : 0~VEHICULOS : 2~CAPACIDAD : 1~\
+        TIPO_COSTES_ARISTAS : EXPLICITOS~COSTE_TOTAL_REQ : 5~LISTA_ARISTAS_REQ :~( 1, 2) coste 5 demanda 1~LISTA_ARISTAS_NOREQ :~\
+        DEPOSITO : 1~\n\
     proven 2 2 1|VERTICES 4~ARISTAS_REQ 1~ARISTAS_NOREQ 1~CAPACIDAD 1~LISTA_ARISTAS_REQ~(1,2) coste 1 demanda 1~LISTA_ARISTAS_NOREQ~(3,4) coste 1~DEPOSITO 1\n\
     proven 2000000 2000000 1|VERTICES 2~ARISTAS_REQ 1~CAPACIDAD 1~LISTA_ARISTAS_REQ~(1,2) coste 1000000 demanda 1~DEPOSITO 1\n\
     proven 14 14 1|VERTICES 2~ARISTAS_REQ 1~CAPACIDAD 1~LISTA_ARISTAS_REQ~(1,2) coste 5 demanda 1 servicio 9~DEPOSITO 1\n\
@@ -43,8 +45,17 @@ const SOLVED: &str = "\
     proven 20 20 2|VERTICES 3~ARISTAS_REQ 2~CAPACIDAD 2~LISTA_ARISTAS_REQ~(1,2) coste 3 demanda 2~(2,3) coste 4 demanda 2~DEPOSITO 1\n\
     proven 67 67 3|VERTICES 4~ARISTAS_REQ 3~ARISTAS_NOREQ 1~CAPACIDAD 3~LISTA_ARISTAS_REQ~(2,3) coste 1 demanda 2~(3,4) coste 1 demanda 2~(4,2) coste 1 demanda 2~LISTA_ARISTAS_NOREQ~(1,2) coste 10~DEPOSITO 1\n\
     gap 67 45 3|VERTICES 4~ARISTAS_REQ 3~ARISTAS_NOREQ 1~CAPACIDAD 5~LISTA_ARISTAS_REQ~(2,3) coste 1 demanda 2~(3,4) coste 1 demanda 2~(4,2) coste 1 demanda 2~LISTA_ARISTAS_NOREQ~(1,2) coste 10~DEPOSITO 1\n\
-    gap 843 316 22|NOMBRE : sample~COMENTARIO : 22 streets, all required~VERTICES : 12~ARISTAS_REQ : 22~ARISTAS_NOREQ : 0~VEHICULOS : 5~CAPACIDAD : 5~TIPO_COSTES_ARISTAS : EXPLICITOS~COSTE_TOTAL_REQ : 252~LISTA_ARISTAS_REQ :~( 1, 2)   coste 13   demanda 1~( 1, 4)   coste 17   demanda 1~( 1, 7)   coste 19   demanda 1~( 1,10)   coste 19   demanda 1~( 1,12)   coste 4   demanda 1~( 2, 3)   coste 18   demanda 1~( 2, 4)   coste 9   demanda 1~( 2, 9)   coste 2   demanda 1~( 3, 4)   coste 20   demanda 1~( 3, 5)   coste 5   demanda 1~( 5, 6)   coste 7   demanda 1~( 5,11)   coste 20   demanda 1~( 5,12)   coste 11   demanda 1~( 6, 7)   coste 4   demanda 1~( 6,12)   coste 3   demanda 1~( 7, 8)   coste 8   demanda 1~( 7,12)   coste 18   demanda 1~( 8,10)   coste 3   demanda 1~( 8,11)   coste 10   demanda 1~( 9,10)   coste 16   demanda 1~( 9,11)   coste 14   demanda 1~(10,11)   coste 12   demanda 1~DEPOSITO :   1~\n\
-    gap 1010 510 5|NOMBRE : star~VERTICES : 7~ARISTAS_REQ : 5~ARISTAS_NOREQ : 1~VEHICULOS : 3~CAPACIDAD : 5~LISTA_ARISTAS_REQ :~( 2, 3) coste 1 demanda 2~( 2, 4) coste 1 demanda 2~( 2, 5) coste 1 demanda 2~( 2, 6) coste 1 demanda 2~( 2, 7) coste 1 demanda 2~LISTA_ARISTAS_NOREQ :~( 1, 2) coste 100~DEPOSITO : 1~";
+    gap 843 316 22|NOMBRE : sample~COMENTARIO : 22 streets, all required~VERTICES : 12~ARISTAS_REQ : 22~ARISTAS_NOREQ : 0~\
+        VEHICULOS : 5~CAPACIDAD : 5~TIPO_COSTES_ARISTAS : EXPLICITOS~COSTE_TOTAL_REQ : 252~LISTA_ARISTAS_REQ :~\
+        ( 1, 2)   coste 13   demanda 1~( 1, 4)   coste 17   demanda 1~( 1, 7)   coste 19   demanda 1~\
+        ( 1,10)   coste 19   demanda 1~( 1,12)   coste 4   demanda 1~( 2, 3)   coste 18   demanda 1~( 2, 4)   coste 9   demanda 1~\
+        ( 2, 9)   coste 2   demanda 1~( 3, 4)   coste 20   demanda 1~( 3, 5)   coste 5   demanda 1~( 5, 6)   coste 7   demanda 1~\
+        ( 5,11)   coste 20   demanda 1~( 5,12)   coste 11   demanda 1~( 6, 7)   coste 4   demanda 1~( 6,12)   coste 3   demanda 1~\
+        ( 7, 8)   coste 8   demanda 1~( 7,12)   coste 18   demanda 1~( 8,10)   coste 3   demanda 1~( 8,11)   coste 10   demanda 1~\
+        ( 9,10)   coste 16   demanda 1~( 9,11)   coste 14   demanda 1~(10,11)   coste 12   demanda 1~DEPOSITO :   1~\n\
+    gap 1010 510 5|NOMBRE : star~VERTICES : 7~ARISTAS_REQ : 5~ARISTAS_NOREQ : 1~VEHICULOS : 3~CAPACIDAD : 5~LISTA_ARISTAS_REQ :~\
+        ( 2, 3) coste 1 demanda 2~( 2, 4) coste 1 demanda 2~( 2, 5) coste 1 demanda 2~( 2, 6) coste 1 demanda 2~\
+        ( 2, 7) coste 1 demanda 2~LISTA_ARISTAS_NOREQ :~( 1, 2) coste 100~DEPOSITO : 1~";
 
 // The number on a line of cost, bound or tours of a report.
 fn number_on(line: &str) -> Option<&str> {

@@ -35,8 +35,12 @@ impl Search {
         requires nexts { v < length self.old.nexts.items }
         ensures target { self.new.target ≡ self.old.target }
         ensures fits { slice_index self.old.labels.items v ≤ unreached }
-        ensures less { OnOk result (label < slice_index self.old.labels.items v → Lowered v label next self.old.labels.items self.old.nexts.items (heap_items self.old.queue) self.new.labels.items self.new.nexts.items (heap_items self.new.queue)) }
-        ensures not_less { OnOk result (slice_index self.old.labels.items v ≤ label → Unchanged self.old.labels.items self.old.nexts.items (heap_items self.old.queue) self.new.labels.items self.new.nexts.items (heap_items self.new.queue)) }
+        ensures less { OnOk result (label < slice_index self.old.labels.items v →
+            Lowered v label next self.old.labels.items self.old.nexts.items (heap_items self.old.queue)
+            self.new.labels.items self.new.nexts.items (heap_items self.new.queue)) }
+        ensures not_less { OnOk result (slice_index self.old.labels.items v ≤ label →
+            Unchanged self.old.labels.items self.old.nexts.items (heap_items self.old.queue)
+            self.new.labels.items self.new.nexts.items (heap_items self.new.queue)) }
     {
         if label < self.labels[v as usize] {
             self.labels[v as usize] = label;

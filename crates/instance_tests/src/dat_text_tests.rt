@@ -157,12 +157,43 @@ fn answers_the_first_fault(rt: HostRuntime) -> Result<(), Fail> {
 // Texts, and what is written of the instances that they describe: the street in two other layouts, one with a service cost of
 // its own; a file in the layout of the data set gdb; a star; lists that change places behind the depot; and no edge at all.
 const WRITTEN: &str = "\
-    vertices : 2\r~aristas_req 1\r~\tComentario café^\r~Capacidad: 1\r~lista_aristas_req :\r~\r~(1,2)COSTE 5 Demanda 1\r~deposito : 1|NOMBRE : carp~COMENTARIO : none~VERTICES : 2~ARISTAS_REQ : 1~ARISTAS_NOREQ : 0~VEHICULOS : 1~CAPACIDAD : 1~TIPO_COSTES_ARISTAS : EXPLICITOS~COSTE_TOTAL_REQ : 5~LISTA_ARISTAS_REQ :~( 1, 2) coste 5 demanda 1~LISTA_ARISTAS_NOREQ :~DEPOSITO : 1~\n\
-    vertices : 2\r~aristas_req 1\r~Capacidad: 1\r~lista_aristas_req :\r~(1,2)COSTE 5 Demanda 1 servicio 9\r~deposito : 2 central\r~END|NOMBRE : carp~COMENTARIO : none~VERTICES : 2~ARISTAS_REQ : 1~ARISTAS_NOREQ : 0~VEHICULOS : 1~CAPACIDAD : 1~TIPO_COSTES_ARISTAS : EXPLICITOS~COSTE_TOTAL_REQ : 9~LISTA_ARISTAS_REQ :~( 1, 2) coste 5 demanda 1 servicio 9~LISTA_ARISTAS_NOREQ :~DEPOSITO : 2~\n\
-    NOMBRE : sample~COMENTARIO : 22 streets, all required~VERTICES : 12~ARISTAS_REQ : 22~ARISTAS_NOREQ : 0~VEHICULOS : 5~CAPACIDAD : 5~TIPO_COSTES_ARISTAS : EXPLICITOS~COSTE_TOTAL_REQ : 252~LISTA_ARISTAS_REQ :~( 1, 2)   coste 13   demanda 1~( 1, 4)   coste 17   demanda 1~( 1, 7)   coste 19   demanda 1~( 1,10)   coste 19   demanda 1~( 1,12)   coste 4   demanda 1~( 2, 3)   coste 18   demanda 1~( 2, 4)   coste 9   demanda 1~( 2, 9)   coste 2   demanda 1~( 3, 4)   coste 20   demanda 1~( 3, 5)   coste 5   demanda 1~( 5, 6)   coste 7   demanda 1~( 5,11)   coste 20   demanda 1~( 5,12)   coste 11   demanda 1~( 6, 7)   coste 4   demanda 1~( 6,12)   coste 3   demanda 1~( 7, 8)   coste 8   demanda 1~( 7,12)   coste 18   demanda 1~( 8,10)   coste 3   demanda 1~( 8,11)   coste 10   demanda 1~( 9,10)   coste 16   demanda 1~( 9,11)   coste 14   demanda 1~(10,11)   coste 12   demanda 1~DEPOSITO :   1~|NOMBRE : carp~COMENTARIO : none~VERTICES : 12~ARISTAS_REQ : 22~ARISTAS_NOREQ : 0~VEHICULOS : 5~CAPACIDAD : 5~TIPO_COSTES_ARISTAS : EXPLICITOS~COSTE_TOTAL_REQ : 252~LISTA_ARISTAS_REQ :~( 1, 2) coste 13 demanda 1~( 1, 4) coste 17 demanda 1~( 1, 7) coste 19 demanda 1~( 1, 10) coste 19 demanda 1~( 1, 12) coste 4 demanda 1~( 2, 3) coste 18 demanda 1~( 2, 4) coste 9 demanda 1~( 2, 9) coste 2 demanda 1~( 3, 4) coste 20 demanda 1~( 3, 5) coste 5 demanda 1~( 5, 6) coste 7 demanda 1~( 5, 11) coste 20 demanda 1~( 5, 12) coste 11 demanda 1~( 6, 7) coste 4 demanda 1~( 6, 12) coste 3 demanda 1~( 7, 8) coste 8 demanda 1~( 7, 12) coste 18 demanda 1~( 8, 10) coste 3 demanda 1~( 8, 11) coste 10 demanda 1~( 9, 10) coste 16 demanda 1~( 9, 11) coste 14 demanda 1~( 10, 11) coste 12 demanda 1~LISTA_ARISTAS_NOREQ :~DEPOSITO : 1~\n\
-    NOMBRE : star~VERTICES : 7~ARISTAS_REQ : 5~ARISTAS_NOREQ : 1~VEHICULOS : 3~CAPACIDAD : 5~LISTA_ARISTAS_REQ :~( 2, 3) coste 1 demanda 2~( 2, 4) coste 1 demanda 2~( 2, 5) coste 1 demanda 2~( 2, 6) coste 1 demanda 2~( 2, 7) coste 1 demanda 2~LISTA_ARISTAS_NOREQ :~( 1, 2) coste 100~DEPOSITO : 1~|NOMBRE : carp~COMENTARIO : none~VERTICES : 7~ARISTAS_REQ : 5~ARISTAS_NOREQ : 1~VEHICULOS : 2~CAPACIDAD : 5~TIPO_COSTES_ARISTAS : EXPLICITOS~COSTE_TOTAL_REQ : 5~LISTA_ARISTAS_REQ :~( 2, 3) coste 1 demanda 2~( 2, 4) coste 1 demanda 2~( 2, 5) coste 1 demanda 2~( 2, 6) coste 1 demanda 2~( 2, 7) coste 1 demanda 2~LISTA_ARISTAS_NOREQ :~( 1, 2) coste 100~DEPOSITO : 1~\n\
-    DEPOSITO 3~LISTA_ARISTAS_NOREQ~(3,1)coste7demanda0~CAPACIDAD 9~LISTA_ARISTAS_REQ~(1,2)coste5demanda3servicio9~VERTICES 3~( 2 , 3 ) coste 004 demanda 09~ARISTAS_REQ 2|NOMBRE : carp~COMENTARIO : none~VERTICES : 3~ARISTAS_REQ : 2~ARISTAS_NOREQ : 1~VEHICULOS : 2~CAPACIDAD : 9~TIPO_COSTES_ARISTAS : EXPLICITOS~COSTE_TOTAL_REQ : 13~LISTA_ARISTAS_REQ :~( 1, 2) coste 5 demanda 3 servicio 9~( 2, 3) coste 4 demanda 9~LISTA_ARISTAS_NOREQ :~( 3, 1) coste 7~DEPOSITO : 3~\n\
-    VERTICES 1~ARISTAS_REQ 0~CAPACIDAD 30000~DEPOSITO 1|NOMBRE : carp~COMENTARIO : none~VERTICES : 1~ARISTAS_REQ : 0~ARISTAS_NOREQ : 0~VEHICULOS : 0~CAPACIDAD : 30000~TIPO_COSTES_ARISTAS : EXPLICITOS~COSTE_TOTAL_REQ : 0~LISTA_ARISTAS_REQ :~LISTA_ARISTAS_NOREQ :~DEPOSITO : 1~";
+    vertices : 2\r~aristas_req 1\r~\tComentario café^\r~Capacidad: 1\r~lista_aristas_req :\r~\r~(1,2)COSTE 5 Demanda 1\r~\
+        deposito : 1|NOMBRE : carp~COMENTARIO : none~VERTICES : 2~ARISTAS_REQ : 1~ARISTAS_NOREQ : 0~VEHICULOS : 1~CAPACIDAD : 1~\
+        TIPO_COSTES_ARISTAS : EXPLICITOS~COSTE_TOTAL_REQ : 5~LISTA_ARISTAS_REQ :~( 1, 2) coste 5 demanda 1~LISTA_ARISTAS_NOREQ :~\
+        DEPOSITO : 1~\n\
+    vertices : 2\r~aristas_req 1\r~Capacidad: 1\r~lista_aristas_req :\r~(1,2)COSTE 5 Demanda 1 servicio 9\r~\
+        deposito : 2 central\r~END|NOMBRE : carp~COMENTARIO : none~VERTICES : 2~ARISTAS_REQ : 1~ARISTAS_NOREQ : 0~VEHICULOS : 1~\
+        CAPACIDAD : 1~TIPO_COSTES_ARISTAS : EXPLICITOS~COSTE_TOTAL_REQ : 9~LISTA_ARISTAS_REQ :~\
+        ( 1, 2) coste 5 demanda 1 servicio 9~LISTA_ARISTAS_NOREQ :~DEPOSITO : 2~\n\
+    NOMBRE : sample~COMENTARIO : 22 streets, all required~VERTICES : 12~ARISTAS_REQ : 22~ARISTAS_NOREQ : 0~VEHICULOS : 5~\
+        CAPACIDAD : 5~TIPO_COSTES_ARISTAS : EXPLICITOS~COSTE_TOTAL_REQ : 252~LISTA_ARISTAS_REQ :~( 1, 2)   coste 13   demanda 1~\
+        ( 1, 4)   coste 17   demanda 1~( 1, 7)   coste 19   demanda 1~( 1,10)   coste 19   demanda 1~\
+        ( 1,12)   coste 4   demanda 1~( 2, 3)   coste 18   demanda 1~( 2, 4)   coste 9   demanda 1~( 2, 9)   coste 2   demanda 1~\
+        ( 3, 4)   coste 20   demanda 1~( 3, 5)   coste 5   demanda 1~( 5, 6)   coste 7   demanda 1~( 5,11)   coste 20   demanda 1~\
+        ( 5,12)   coste 11   demanda 1~( 6, 7)   coste 4   demanda 1~( 6,12)   coste 3   demanda 1~( 7, 8)   coste 8   demanda 1~\
+        ( 7,12)   coste 18   demanda 1~( 8,10)   coste 3   demanda 1~( 8,11)   coste 10   demanda 1~\
+        ( 9,10)   coste 16   demanda 1~( 9,11)   coste 14   demanda 1~(10,11)   coste 12   demanda 1~DEPOSITO :   1~|\
+        NOMBRE : carp~COMENTARIO : none~VERTICES : 12~ARISTAS_REQ : 22~ARISTAS_NOREQ : 0~VEHICULOS : 5~CAPACIDAD : 5~\
+        TIPO_COSTES_ARISTAS : EXPLICITOS~COSTE_TOTAL_REQ : 252~LISTA_ARISTAS_REQ :~( 1, 2) coste 13 demanda 1~\
+        ( 1, 4) coste 17 demanda 1~( 1, 7) coste 19 demanda 1~( 1, 10) coste 19 demanda 1~( 1, 12) coste 4 demanda 1~\
+        ( 2, 3) coste 18 demanda 1~( 2, 4) coste 9 demanda 1~( 2, 9) coste 2 demanda 1~( 3, 4) coste 20 demanda 1~\
+        ( 3, 5) coste 5 demanda 1~( 5, 6) coste 7 demanda 1~( 5, 11) coste 20 demanda 1~( 5, 12) coste 11 demanda 1~\
+        ( 6, 7) coste 4 demanda 1~( 6, 12) coste 3 demanda 1~( 7, 8) coste 8 demanda 1~( 7, 12) coste 18 demanda 1~\
+        ( 8, 10) coste 3 demanda 1~( 8, 11) coste 10 demanda 1~( 9, 10) coste 16 demanda 1~( 9, 11) coste 14 demanda 1~\
+        ( 10, 11) coste 12 demanda 1~LISTA_ARISTAS_NOREQ :~DEPOSITO : 1~\n\
+    NOMBRE : star~VERTICES : 7~ARISTAS_REQ : 5~ARISTAS_NOREQ : 1~VEHICULOS : 3~CAPACIDAD : 5~LISTA_ARISTAS_REQ :~\
+        ( 2, 3) coste 1 demanda 2~( 2, 4) coste 1 demanda 2~( 2, 5) coste 1 demanda 2~( 2, 6) coste 1 demanda 2~\
+        ( 2, 7) coste 1 demanda 2~LISTA_ARISTAS_NOREQ :~( 1, 2) coste 100~DEPOSITO : 1~|NOMBRE : carp~COMENTARIO : none~\
+        VERTICES : 7~ARISTAS_REQ : 5~ARISTAS_NOREQ : 1~VEHICULOS : 2~CAPACIDAD : 5~TIPO_COSTES_ARISTAS : EXPLICITOS~\
+        COSTE_TOTAL_REQ : 5~LISTA_ARISTAS_REQ :~( 2, 3) coste 1 demanda 2~( 2, 4) coste 1 demanda 2~( 2, 5) coste 1 demanda 2~\
+        ( 2, 6) coste 1 demanda 2~( 2, 7) coste 1 demanda 2~LISTA_ARISTAS_NOREQ :~( 1, 2) coste 100~DEPOSITO : 1~\n\
+    DEPOSITO 3~LISTA_ARISTAS_NOREQ~(3,1)coste7demanda0~CAPACIDAD 9~LISTA_ARISTAS_REQ~(1,2)coste5demanda3servicio9~VERTICES 3~\
+        ( 2 , 3 ) coste 004 demanda 09~ARISTAS_REQ 2|NOMBRE : carp~COMENTARIO : none~VERTICES : 3~ARISTAS_REQ : 2~\
+        ARISTAS_NOREQ : 1~VEHICULOS : 2~CAPACIDAD : 9~TIPO_COSTES_ARISTAS : EXPLICITOS~COSTE_TOTAL_REQ : 13~LISTA_ARISTAS_REQ :~\
+        ( 1, 2) coste 5 demanda 3 servicio 9~( 2, 3) coste 4 demanda 9~LISTA_ARISTAS_NOREQ :~( 3, 1) coste 7~DEPOSITO : 3~\n\
+    VERTICES 1~ARISTAS_REQ 0~CAPACIDAD 30000~DEPOSITO 1|NOMBRE : carp~COMENTARIO : none~VERTICES : 1~ARISTAS_REQ : 0~\
+        ARISTAS_NOREQ : 0~VEHICULOS : 0~CAPACIDAD : 30000~TIPO_COSTES_ARISTAS : EXPLICITOS~COSTE_TOTAL_REQ : 0~\
+        LISTA_ARISTAS_REQ :~LISTA_ARISTAS_NOREQ :~DEPOSITO : 1~";
 
 fn read_of(alloc: Global, text: &str) -> Result<Option<Instance>, Fail> {
     let bytes = bytes_of(alloc, text)?;
@@ -212,7 +243,9 @@ fn raw(u: u64, v: u64, cost: u64, demand: u64, service: u64) -> RawEdge {
 
 // Two required edges, of which one has a service cost of its own, and one other edge.
 const TWO_LISTS: &str =
-    "NOMBRE : carp~COMENTARIO : none~VERTICES : 4~ARISTAS_REQ : 2~ARISTAS_NOREQ : 1~VEHICULOS : 2~CAPACIDAD : 5~TIPO_COSTES_ARISTAS : EXPLICITOS~COSTE_TOTAL_REQ : 15~LISTA_ARISTAS_REQ :~( 1, 2) coste 3 demanda 3~( 2, 3) coste 10 demanda 4 servicio 12~LISTA_ARISTAS_NOREQ :~( 3, 4) coste 1000000~DEPOSITO : 2~";
+    "NOMBRE : carp~COMENTARIO : none~VERTICES : 4~ARISTAS_REQ : 2~ARISTAS_NOREQ : 1~VEHICULOS : 2~CAPACIDAD : 5~\
+    TIPO_COSTES_ARISTAS : EXPLICITOS~COSTE_TOTAL_REQ : 15~LISTA_ARISTAS_REQ :~( 1, 2) coste 3 demanda 3~\
+    ( 2, 3) coste 10 demanda 4 servicio 12~LISTA_ARISTAS_NOREQ :~( 3, 4) coste 1000000~DEPOSITO : 2~";
 
 #[test]
 fn an_instance_is_written_and_read_back(rt: HostRuntime) -> Result<(), Fail> {

@@ -1,8 +1,45 @@
 // Small data on which a fact that no call decides holds, and on which it does not.
 ghost use Rattle.std.specs.Prelude.{◌≡◌, ◌∷◌, [], true, false};
-ghost use Rattle.packing_trees.specs.Bundles.{AreAllClosed, AreBundled, AreBundles, AreParted, IsChoice, IsClosedPair, IsTied, MeetsBranch, MeetsChoice, TiesLead, alone_count, bundle_count, bundle_of, bundle_weight, is_large, large_count, large_weight, middle_weight, share_value};
+ghost use Rattle.packing_trees.specs.Bundles.{
+  AreAllClosed,
+  AreBundled,
+  AreBundles,
+  AreParted,
+  IsChoice,
+  IsClosedPair,
+  IsTied,
+  MeetsBranch,
+  MeetsChoice,
+  TiesLead,
+  alone_count,
+  bundle_count,
+  bundle_of,
+  bundle_weight,
+  is_large,
+  large_count,
+  large_weight,
+  middle_weight,
+  share_value,
+};
 ghost use Rattle.packing_trees.specs.Examples.{carrying, claim, split_pair};
-ghost use Rattle.packing_trees.specs.Reasons.{AreWhole, FirstNodeFails, GroupsArePlaced, HasGroupEach, IsFilled, IsFirstEmpty, IsFirstMisfit, IsFirstOverload, IsFirstPackReason, IsFirstWrong, IsPackAnswer, NodeFails, NodeFits, NodeIsRight, NotWholeAt, branches_below};
+ghost use Rattle.packing_trees.specs.Reasons.{
+  AreWhole,
+  FirstNodeFails,
+  GroupsArePlaced,
+  HasGroupEach,
+  IsFilled,
+  IsFirstEmpty,
+  IsFirstMisfit,
+  IsFirstOverload,
+  IsFirstPackReason,
+  IsFirstWrong,
+  IsPackAnswer,
+  NodeFails,
+  NodeFits,
+  NodeIsRight,
+  NotWholeAt,
+  branches_below,
+};
 ghost use Rattle.packing_trees.specs.Trees.{IsLean, IsPackProof, PairsIn, Shows, preorder, settled, share, turns_of};
 ghost use Rattle.packing_trees.specs.declared.node.PackChoice.TheVariants as choices;
 ghost use Rattle.packing_trees.specs.declared.node.PackChoice.TheVariants.{Together};
