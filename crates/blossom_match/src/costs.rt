@@ -21,7 +21,7 @@ pub struct Costs {
 
 impl Costs {
     /// A table of `size` members, 0 to [`MAX_MEMBERS`], in which all costs are 0. It takes memory of the order of
-    /// `size * size`, and fails only for want of it.
+    /// `size * size`. Its only error is want of memory.
     pub fn new(alloc: Global, size: u32) -> Result<Costs, Memory>
         requires few { size ≤ MAX_MEMBERS }
         ensures size { IfOk result (λ c. c.size ≡ size) }
@@ -58,7 +58,7 @@ impl Costs {
         self.cells[v * self.size + u] = value;
     }
 
-    /// The cost of the pair of two members, and 0 where they are one.
+    /// The cost of the pair of two members, or 0 if they are one member.
     pub fn get(&self, a: u32, b: u32) -> u64
         requires table { IsTable self.now }
         requires a_in { (1 ≤ a) × (a ≤ self.now.size) }

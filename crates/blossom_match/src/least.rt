@@ -15,9 +15,11 @@ use carp_base::Memory;
 use std::alloc::Global;
 
 /// A perfect matching, and weights of odd sets that show that it is least. Members are numbered from 1, and the sets
-/// from 0. The sets are distinct, and any two are nested or disjoint; each has a weight above 0. For each pair of
-/// members the weights of the sets that hold one of them and not the other sum to at most twice the cost of the pair,
-/// and all weights sum to twice the cost of the matching.
+/// from 0.
+///
+/// The sets are distinct, and any two are nested or disjoint. Each has a weight above 0. For each pair of members, the
+/// weights of the sets that hold one of them and not the other sum to at most twice the cost of the pair. All weights
+/// sum to twice the cost of the matching.
 #[derive(Debug, Drop)]
 pub struct Matching {
     pub(crate) size: usize,
@@ -130,8 +132,8 @@ fn match_all(costs: &Costs, state: &mut State, known: &mut [bool], least: &mut [
 }
 
 /// A perfect matching of least cost, for an even number of members and costs that meet the triangle inequality, with
-/// the weights that show that it is least. It takes memory of the order of `n * n` for n members, and fails only for
-/// want of it.
+/// the weights that show that it is least. It takes memory of the order of `n * n` for n members. Its only error is
+/// want of memory.
 pub fn match_least(alloc: Global, costs: &Costs) -> Result<Matching, Memory>
     requires { IsAsked costs.now }
     ensures { IfOk result (IsLeastBy costs.now) }

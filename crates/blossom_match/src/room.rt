@@ -98,7 +98,7 @@ fn node_turn(state: &State, s: usize) -> Option<Turn>
     }
 }
 
-/// The one of the lesser amount, the first where they are equal.
+/// The turn of the lesser amount, and the first if they are equal.
 pub(crate) fn lesser(a: Option<Turn>, b: Option<Turn>) -> Option<Turn>
     ensures one { (result ≡ a) ⊎ ((result ≡ b) × IsLess b a) }
     ensures first { IsNoMore result a }

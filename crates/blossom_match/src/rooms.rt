@@ -198,7 +198,7 @@ fn least_pair(costs: &Costs, state: &State, known: &[bool], least: &mut [u64]) -
     found
 }
 
-/// The greatest lawful amount, and what stops it. A node stops it only where it does so before each pair, and then it is
+/// The greatest lawful amount, and what stops it. A node stops it only if it does so before each pair, and then it is
 /// no single member, since the costs are metric. It takes time of the order of n for n members, and n more for each
 /// outer member that is new and for each bound that is found anew.
 pub(crate) fn least_turn(

@@ -15,7 +15,7 @@ pub(crate) enum Label {
     Inner,
 }
 
-/// Nodes below `size` are the single members; the others are slots for larger sets.
+/// Nodes below `size` are the single members. The others are slots for larger sets.
 #[derive(Drop)]
 pub(crate) struct State {
     pub size: usize,
@@ -42,7 +42,7 @@ pub(crate) struct State {
     pub one_way: Vec<Option<usize>>,
     /// The same from the other end.
     pub other_way: Vec<Option<usize>>,
-    /// A member of each node: the base of its first child, where it is a larger set.
+    /// A member of each node: the base of its first child, if it is a larger set.
     pub base: Vec<usize>,
     /// The member from which a search goes on.
     pub root: usize,

@@ -49,7 +49,7 @@ impl Branch {
         }
     }
 
-    /// Adds a decision at the end; the number of a cut is at most 1,000,000. Without memory the branch stays as it was.
+    /// Adds a decision at the end. The number of a cut is at most 1,000,000. Without memory the branch stays as it was.
     pub fn push(&mut self, d: Decision) -> Result<(), Memory>
         requires { IsFineDecision d }
         ensures ok { OnOk result (self.new ≡ self.old ++ d ∷ []) }
@@ -82,9 +82,9 @@ impl Branch {
         &self.decisions
     }
 
-    /// The lower number of a shore: the least number of the parity of the required edges over the shore that is at least the
-    /// shore's need, and at least the `k + 1` of each of its `High` decisions. Each lawful plan that meets the decisions keeps it
-    /// ([`numbers_are_kept`](crate::numbers_are_kept)).
+    /// The lower number of a shore: the least number of the parity of the required edges over the shore that is at
+    /// least the shore's need, and at least the `k + 1` of each of its `High` decisions. Each lawful plan that meets
+    /// the decisions keeps it ([`numbers_are_kept`](crate::numbers_are_kept)).
     ///
     /// It takes no memory, and time in proportion to the numbers of required edges and of decisions.
     pub fn lower(&self, inst: &Instance, pool: &ShorePool, shore: u32) -> u64
@@ -97,8 +97,8 @@ impl Branch {
         least + (least % 2 + required_crossings(inst, set) % 2) % 2
     }
 
-    /// The upper number of a shore: the least `k` of its `Low` decisions, and `None` where there is none. Each lawful plan that meets the
-    /// decisions keeps it ([`numbers_are_kept`](crate::numbers_are_kept)).
+    /// The upper number of a shore: the least `k` of its `Low` decisions, or `None` if it has none. Each lawful plan
+    /// that meets the decisions keeps it ([`numbers_are_kept`](crate::numbers_are_kept)).
     ///
     /// It takes no memory, and time in proportion to the number of decisions.
     pub fn upper(&self, shore: u32) -> Option<u64>
@@ -108,12 +108,14 @@ impl Branch {
         lowest_of(&self.decisions, shore)
     }
 
-    /// The value of a price set under the decisions, in parts of its denominator: the sum of the prices, plus each positive
-    /// weight times the lower number of its shore, less the size of each negative weight times the upper number; less each positive
-    /// weight on a group times the room of the group, plus the size of each negative weight on a group.
+    /// The value of a price set under the decisions, in parts of its denominator. It is the sum of the prices, plus
+    /// each positive weight times the lower number of its shore, less the size of each negative weight times the upper
+    /// number, less each positive weight on a group times the room of the group, plus the size of each negative weight
+    /// on a group.
     ///
-    /// It is refused exactly if the shore of a negative weight has no upper number. It takes no memory; with m required
-    /// edges, d decisions, k weights on shores and groups of n edges together it takes time in proportion to (m + d) k + n.
+    /// It is refused exactly if the shore of a negative weight has no upper number. It takes no memory. With m required
+    /// edges, d decisions, k weights on shores and groups of n edges together it takes time in proportion to (m + d)
+    /// k + n.
     pub fn value_at(
         &self,
         inst: &Instance,

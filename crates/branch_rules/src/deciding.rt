@@ -25,15 +25,19 @@ use std::alloc::Global;
 const MOST_CUTS: usize = 4;
 
 impl Branch {
-    /// Which pairs of required edges may be neighbours: just those that are not excluded.
+    /// Which pairs of required edges may be neighbours: just those that are not excluded. A pair is excluded if
     ///
-    /// A pair is excluded where the two are one edge, where a decision says no, where one of them has two yes neighbours
-    /// besides the other, where they are the two ends of one chain and no yes pair, or where their two chains together are
-    /// above the capacity. Each such pair are no neighbours in any lawful plan that meets the branch
+    /// - the two are one edge;
+    /// - a decision says no to it;
+    /// - one of them has two yes neighbours besides the other;
+    /// - they are the two ends of one chain and no yes pair;
+    /// - or their two chains together are above the capacity.
+    ///
+    /// Such a pair are no neighbours in any lawful plan that meets the branch
     /// ([`excluded_pairs_are_apart`](crate::excluded_pairs_are_apart)).
     ///
-    /// With m required edges and d decisions it takes time in proportion to m * m + d, or m * (m + d) where the branch is void, and
-    /// memory in proportion to m * m.
+    /// With m required edges and d decisions it takes time in proportion to m * m + d, or m * (m + d) if the branch is
+    /// void, and memory in proportion to m * m.
     pub fn allowed(&self, alloc: Global, inst: &Instance) -> Result<Allowed, Memory>
         requires { ArePairsIn inst.now self.now }
         ensures { IfOk result (PermitsUnexcluded inst.now self.now) }
@@ -68,9 +72,9 @@ impl Branch {
         Ok(chains.determines(a, b))
     }
 
-    /// Whether a node may stand here in a lean tree: its pair is not determined, or its cut is at least the lower number of its
-    /// shore and below the upper number, if there is one, and fewer than four decisions so far are on shores. A leaf may
-    /// always stand here.
+    /// Whether a node may stand here in a lean tree. A pair may if it is not determined. A cut may if it is at least
+    /// the lower number of its shore and below the upper number, if there is one, and fewer than four decisions so far
+    /// are on shores. A leaf may always stand here.
     ///
     /// It takes time as `determined` does.
     pub fn lean(
@@ -96,12 +100,12 @@ impl Branch {
         }
     }
 
-    /// Whether the branch is void: an edge has three yes neighbours or more, yes pairs form a cycle, the demand of a chain is
-    /// above the capacity, or the upper number of a shore is below its lower number. No lawful plan meets a void branch
-    /// ([`void_is_met_by_none`](crate::void_is_met_by_none)).
+    /// Whether the branch is void: an edge has three yes neighbours or more, yes pairs form a cycle, the demand of a
+    /// chain is above the capacity, or the upper number of a shore is below its lower number. No lawful plan meets a
+    /// void branch ([`void_is_met_by_none`](crate::void_is_met_by_none)).
     ///
-    /// It takes time as `allowed` does, and with m required edges and d decisions, c of them on shores, in proportion to c * (m + d) at
-    /// most.
+    /// It takes time as `allowed` does, and with m required edges and d decisions, c of them on shores, in proportion
+    /// to c * (m + d) at most.
     pub fn void(&self, alloc: Global, inst: &Instance, pool: &ShorePool) -> Result<bool, Memory>
         requires pairs { ArePairsIn inst.now self.now }
         requires shores { AreShoresIn inst.now pool.now self.now }
@@ -130,7 +134,8 @@ impl Branch {
     /// A plan of the cheapest tour along each chain, for a fixed branch. The distances are those by cost.
     ///
     /// It is lawful and costs the fixed value of the branch, which no lawful plan that meets the branch is below
-    /// ([`fixed_value_bounds`](crate::fixed_value_bounds)). It has at most a tour for each required edge and 2,000,000 steps.
+    /// ([`fixed_value_bounds`](crate::fixed_value_bounds)). It has at most a tour for each required edge and 2,000,000
+    /// steps.
     ///
     /// With m required edges and d decisions it takes time in proportion to m * m + d and to the steps that it writes.
     pub fn fixed_plan(

@@ -10,11 +10,12 @@ use carp_base::{Instance, Memory};
 use std::alloc::Global;
 use std::marker::Model;
 
-/// A weight on the bonds of a group, which is two or more required edges: a bond is a place where a tour serves two edges of the group one
-/// directly after the other.
+/// A weight on the bonds of a group, which is two or more required edges. A bond is a place where a tour serves two
+/// edges of the group one directly after the other.
 ///
-/// The weight is not 0 and within 10^15 either way, in parts of the denominator of its price set. A weight above 0 is charged for each bond.
-/// A weight below 0 stands on a group of two edges, and its size is gained for each bond. Contracts see the edges and the weight.
+/// The weight is not 0 and within 10^15 either way, in parts of the denominator of its price set. A weight above 0 is
+/// charged for each bond. A weight below 0 stands on a group of two edges, and its size is gained for each bond.
+/// Contracts see the edges and the weight.
 #[derive(Drop)]
 pub struct WeightedGroup {
     edges: Vec<u32>,
@@ -33,7 +34,7 @@ impl Model for WeightedGroup {
 }
 
 impl WeightedGroup {
-    /// This weight on the group of these edges, by their rising numbers. The one error is want of memory.
+    /// This weight on the group of these edges, by their rising numbers. The only error is want of memory.
     pub fn new(alloc: Global, edges: &[u32], weight: i64) -> Result<WeightedGroup, Memory>
         requires { IsFineGroup (record { edges = edges.now; weight = weight }) }
         ensures { IfOk result (λ group. group ≡ record { edges = edges.now; weight = weight }) }
@@ -44,7 +45,7 @@ impl WeightedGroup {
         })
     }
 
-    /// The same weight on the same group. The one error is want of memory.
+    /// The same weight on the same group. The only error is want of memory.
     pub fn copy(&self, alloc: Global) -> Result<WeightedGroup, Memory>
         ensures { IfOk result (λ group. group ≡ self.now) }
     {
@@ -88,9 +89,9 @@ impl WeightedGroup {
     }
 }
 
-/// The surcharge of two edges that follow each other: the sum of the weights of the groups that both are of, within 2 * 10^18 either way. What
-/// the bonds of a tour weigh is the sum of the surcharges of its edges that follow each other
-/// ([`surcharges_are_bond_weights`](crate::surcharges_are_bond_weights)).
+/// The surcharge of two edges that follow each other: the sum of the weights of the groups that both are of, within
+/// 2 * 10^18 either way. What the bonds of a tour weigh is the sum of the surcharges of its edges that follow each
+/// other ([`surcharges_are_bond_weights`](crate::surcharges_are_bond_weights)).
 ///
 /// It takes no memory, and time in proportion to the number of edges of all groups together.
 pub fn surcharge_of(groups: &[WeightedGroup], e: u32, f: u32) -> i64
@@ -105,8 +106,9 @@ pub fn surcharge_of(groups: &[WeightedGroup], e: u32, f: u32) -> i64
     sum
 }
 
-/// The room of a group: how many bonds a lawful plan can have in it ([`bonds_are_bounded`](crate::bonds_are_bounded)), which is the number of
-/// its edges less the vehicles that its demand takes. It is 0 to 600, and is also said of a list of at most 600 edges that is no group.
+/// The room of a group: how many bonds a lawful plan can have in it ([`bonds_are_bounded`](crate::bonds_are_bounded)).
+/// It is the number of its edges less the vehicles that its demand takes, 0 to 600. It is also said of a list of at
+/// most 600 edges that is no group.
 ///
 /// It takes no memory, and time in proportion to the number of edges of the list.
 pub fn bond_room(inst: &Instance, edges: &[u32]) -> u64

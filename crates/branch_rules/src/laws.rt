@@ -30,8 +30,8 @@ pub fn bonds_are_bounded()
     required_edges_are_served_once();
 }
 
-/// A lawful plan that meets a branch has exactly one bond in each pair that the branch says yes to. So the size of a negative weight on such a
-/// pair is gained just once.
+/// A lawful plan that meets a branch has exactly one bond in each pair that the branch says yes to. So the size of a
+/// negative weight on such a pair is gained just once.
 pub fn yes_pairs_have_one_bond()
     ensures { YesPairsHaveOneBond }
 {
@@ -40,8 +40,8 @@ pub fn yes_pairs_have_one_bond()
     required_edges_are_served_once();
 }
 
-/// What the bonds of a tour weigh is the sum of the surcharges of its edges that follow each other; a surcharge is the same in either
-/// order, and an edge of no group has none.
+/// What the bonds of a tour weigh is the sum of the surcharges of its edges that follow each other. A surcharge is the
+/// same in either order, and an edge of no group has none.
 pub fn surcharges_are_bond_weights()
     ensures sum { SurchargesAreBondWeights }
     ensures symmetric { SurchargeIsSymmetric }
@@ -85,8 +85,8 @@ pub fn fixed_value_bounds()
     required_edges_are_served_once();
 }
 
-/// The value of a price set that fits under a branch is at most its denominator times the cost of each lawful plan that meets
-/// the branch; where it is above the denominator times a bound less 1, the plan costs at least the bound.
+/// The value of a price set that fits under a branch is at most its denominator times the cost of each lawful plan that
+/// meets the branch. If it is above the denominator times a bound less 1, the plan costs at least the bound.
 pub fn prices_bound()
     ensures below { ValueIsBelow }
     ensures bound { PricesBound }
@@ -99,8 +99,8 @@ pub fn prices_bound()
     walks_are_task_tours();
 }
 
-/// A tree that shows a bound shows it for every lawful plan, where the instance is valid, no shore has the depot, and each price set has a
-/// price for each required edge.
+/// A tree that shows a bound shows it for every lawful plan, if the instance is valid, no shore has the depot, and each
+/// price set has a price for each required edge.
 pub fn tree_bounds()
     ensures { TreeBounds }
 {
@@ -112,15 +112,15 @@ pub fn tree_bounds()
     walks_are_task_tours();
 }
 
-/// A lean tree of at most four cuts on a path, whose pairs are of required edges, has fewer than 2^(m (m - 1) / 2 + 5) turns with m
-/// required edges, whatever the cost.
+/// A lean tree of at most four cuts on a path, whose pairs are of required edges, has fewer than 2^(m (m - 1) / 2 + 5)
+/// turns with m required edges, whatever the cost.
 pub fn lean_trees_are_small()
     ensures { LeanIsSmall }
 {
     yes_pairs_join();
 }
 
-/// A list of nodes in preorder shows a bound exactly where its tree does.
+/// A list of nodes in preorder shows a bound exactly if its tree does.
 pub fn nodes_show_their_tree()
     ensures { NodesShowTree }
 {}

@@ -13,8 +13,8 @@ use std::alloc::Global;
 
 /// The way from the root of a tree to the node that is read next in preorder.
 ///
-/// It holds the branch of that node, and for each decision of it that of the second child, where the first child is being read. So one
-/// branch is held, whatever the tree.
+/// It holds the branch of that node, and for each decision of it whose first child is being read, the decision of the
+/// second child. So it holds one branch, whatever the tree.
 #[derive(Drop)]
 pub struct Path {
     branch: Branch,
@@ -36,7 +36,7 @@ impl Path {
         }
     }
 
-    /// The decisions on the way to the node that is read next. Where the tree is whole, they say nothing.
+    /// The decisions on the way to the node that is read next. If the tree is whole, they say nothing.
     pub fn branch(&self) -> &Branch
         ensures { result.now ≡ branch_of self.now }
     {
@@ -51,9 +51,9 @@ impl Path {
         self.whole
     }
 
-    /// Goes past a node, which stands where the path leads: to its first child, or after a leaf to the nearest second child that is still
-    /// to be read. Where there is none, the tree is whole. The number of a cut is at most 1,000,000. The one error is want of memory, after
-    /// which the path is of no more use.
+    /// Goes past a node, which stands where the path leads: to its first child, or after a leaf to the nearest second
+    /// child that is still to be read. If there is none, the tree is whole. The number of a cut is at most 1,000,000.
+    /// The only error is want of memory, after which the path is of no more use.
     ///
     /// Past all nodes of a tree it takes time in proportion to their number.
     pub fn pass(&mut self, node: &Node) -> Result<(), Memory>

@@ -15,8 +15,8 @@ use cut_pool::ShorePool;
 use std::alloc::Global;
 use std::marker::Model;
 
-/// The deadhead price of an edge is negative: the weights of the shores that the edge crosses are more than the denominator times its
-/// cost.
+/// The deadhead price of an edge is negative: the weights of the shores that the edge crosses are more than the
+/// denominator times its cost.
 #[derive(Clone, Copy, Debug, PartialEq, Eq)]
 pub struct TooHeavy {
     /// The least such edge, from 1.
@@ -25,11 +25,11 @@ pub struct TooHeavy {
     pub price: i128,
 }
 
-/// A price for each required edge, weights on shores, and weights on the bonds of groups, as whole numbers of one part of a denominator
-/// (Bode and Irnich 2012).
+/// A price for each required edge, weights on shores, and weights on the bonds of groups, as whole numbers of one part
+/// of a denominator (Bode and Irnich 2012).
 ///
-/// All are within 10^15 either way, on at most 600 services, 2,000 shores, and 2,000 groups of 60,000 edges together, and the denominator is 1 to
-/// 1,000,000. Contracts see them as they are.
+/// All are within 10^15 either way, on at most 600 services, 2,000 shores, and 2,000 groups of 60,000 edges together.
+/// The denominator is 1 to 1,000,000. Contracts see them as they are.
 #[derive(Drop)]
 pub struct PriceSet {
     unit: u64,
@@ -50,8 +50,8 @@ impl Model for PriceSet {
 }
 
 impl PriceSet {
-    /// The set of these prices, by the numbers of the required edges, and of these weights, which are not 0 and on shores of
-    /// rising numbers, with no weights on groups. The one error is want of memory.
+    /// The set of these prices, by the numbers of the required edges, and of these weights, which are not 0 and on
+    /// shores of rising numbers, with no weights on groups. The only error is want of memory.
     pub fn new(
         alloc: Global,
         unit: u64,
@@ -125,10 +125,11 @@ impl PriceSet {
         self.weights[i]
     }
 
-    /// The price of crossing each edge without service, in the order of the edges, in parts of the denominator: the cost of
-    /// the edge, less the weights of the shores that it crosses.
+    /// The price of crossing each edge without service, in the order of the edges, in parts of the denominator: the
+    /// cost of the edge, less the weights of the shores that it crosses.
     ///
-    /// It is refused exactly where such a price is negative. With m edges and k weights it takes time in proportion to m k.
+    /// It is refused exactly if such a price is negative. With m edges and k weights it takes time in proportion to m
+    /// k.
     pub fn edge_prices(
         &self,
         alloc: Global,
@@ -179,7 +180,7 @@ impl PriceSet {
         &self.groups
     }
 
-    /// The weights on the bonds of groups, as a list of its own. The one error is want of memory.
+    /// The weights on the bonds of groups, as a list of its own. The only error is want of memory.
     pub fn copy_groups(&self, alloc: Global) -> Result<Vec<WeightedGroup>, Memory>
         ensures { IfOk result (λ groups. groups.items ≡ self.now.groups) }
     {
@@ -190,8 +191,8 @@ impl PriceSet {
         Ok(groups)
     }
 
-    /// A set of other prices and of other weights on shores, with the same denominator and the same weights on groups. The one error
-    /// is want of memory.
+    /// A set of other prices and of other weights on shores, with the same denominator and the same weights on groups.
+    /// The only error is want of memory.
     pub fn rebuilt(
         &self,
         alloc: Global,
@@ -209,7 +210,7 @@ impl PriceSet {
         })
     }
 
-    /// The same set. The one error is want of memory.
+    /// The same set. The only error is want of memory.
     pub fn copy(&self, alloc: Global) -> Result<PriceSet, Memory>
         ensures { IfOk result (λ set. set ≡ self.now) }
     {

@@ -9,11 +9,11 @@ use crate::WeightedGroup;
 use carp_base::Memory;
 use std::alloc::Global;
 
-/// The surcharge of each pair of so many required edges, a row for each edge; each is within 2 * 10^18 either way. Without groups the table is
-/// empty. The one error is want of memory.
+/// The surcharge of each pair of so many required edges, a row for each edge. Each is within 2 * 10^18 either way.
+/// Without groups the table is empty. The only error is want of memory.
 ///
-/// For m edges it takes time in proportion to `m * m` and, for each group, to the square of its number of edges, and memory in proportion to
-/// `m * m`; without groups it takes neither.
+/// For m edges it takes time in proportion to `m * m` and, for each group, to the square of its number of edges, and
+/// memory in proportion to `m * m`. Without groups it takes neither.
 pub fn surcharge_table(
     alloc: Global,
     required: u32,

@@ -30,7 +30,7 @@ impl Model for Tree {
 }
 
 impl Tree {
-    /// The list of no nodes, with memory for so many. The one error is want of memory.
+    /// The list of no nodes, with memory for so many. The only error is want of memory.
     pub fn new(alloc: Global, room: usize) -> Result<Tree, Memory>
         ensures { IfOk result (λ tree. tree ≡ record { nodes = []; room = room }) }
     {

@@ -19,8 +19,8 @@ pub struct NoYes {
 impl Branch {
     /// Whether the branch says yes to the pair of each negative weight on a group, as a set that fits under it needs.
     ///
-    /// It is refused exactly if it does not, with the first such pair. It takes no memory, and time in proportion to the number of groups
-    /// times the number of decisions.
+    /// It is refused exactly if it does not, with the first such pair. It takes no memory, and time in proportion to
+    /// the number of groups times the number of decisions.
     pub fn check_yes(&self, set: &PriceSet) -> Result<(), NoYes>
         ensures accepted { OnOk result (All (HasYes self.now) set.now.groups) }
         ensures refused { IfErr result (IsWithoutYes self.now set.now) }

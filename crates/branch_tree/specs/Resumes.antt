@@ -38,7 +38,8 @@ abbrev pub ResumedTreesHaveTurns : Type 0
 ResumedTreesHaveTurns = (p : Problem) (pool : List (List ℕ)) (sets : List Prices) (least : ℕ) (nodes : List GrowingNode) (may : MayResume p pool sets least nodes) → least < 10 ^ 18 →
     (cost : ℕ) → cost < 10 ^ 18 → HasTurns (support_on p pool sets) [] cost may.tree (turns_in cost nodes)
 
--- a search that goes on from there with a plan, for so many turns beyond those of the tree for the plan's cost, and 1,048,576 in all
+-- a search that goes on from there with a plan: it holds the plan, the shores, the price sets, the nodes and the bound that are given, and
+-- its turns so far are those of the nodes for the plan's cost
 pub record IsResumed (p : Problem) (plan : List (List Step)) (pool : List (List ℕ)) (sets : List Prices) (least : ℕ) (nodes : List GrowingNode) (s : State) : Type 0 where
   pub best : s.plan ≡ plan
   pub pool_is : s.pool ≡ pool

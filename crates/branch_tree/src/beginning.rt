@@ -39,10 +39,11 @@ impl Search {
     /// A search for an instance from a plan on, for a budget of turns from 1 to 1,048,576.
     ///
     /// The plan is lawful and has at most 100,000 tours and 2,000,000 steps. The tree is one leaf with the best set of
-    /// the floors (`dual_master::floors`), and the pool is as `floors` leaves it. Memory for all nodes that the budget can make, up to
-    /// `2 * turns + 1`, is taken here, so that no step lacks it.
+    /// the floors (`dual_master::floors`), and the pool is as `floors` leaves it. Memory for all nodes that the budget
+    /// can make, up to `2 * turns + 1`, is taken here, so that no step lacks it.
     ///
-    /// The one error is want of memory. It takes the time of least paths between all pairs of vertices and of the floors.
+    /// The only error is want of memory. It takes the time of least paths between all pairs of vertices and of the
+    /// floors.
     pub fn begin(alloc: Global, inst: &Instance, turns: u64, best: Plan) -> Result<Search, Memory>
         requires some_turns { 1 ≤ turns }
         requires turns_in_range { turns ≤ 1048576 }

@@ -18,9 +18,9 @@ use task_tours::short_plans_cost_little;
 pub struct Found {
     /// The best plan.
     pub plan: Plan,
-    /// The shores that were found; cuts and price sets name some of them.
+    /// The shores that were found. Cuts and price sets name some of them.
     pub shores: ShorePool,
-    /// The price sets; leaves name some of them, by numbers from 1.
+    /// The price sets. Leaves name some of them, by numbers from 1.
     pub sets: Vec<PriceSet>,
     /// The nodes of the tree in preorder.
     pub tree: Tree,
@@ -29,8 +29,8 @@ pub struct Found {
 }
 
 impl Search {
-    /// The best plan, the tree, and the greatest bound up to the plan's cost that the tree shows, which is the cost where each leaf is
-    /// closed, and no less than what the tree showed at first. Without memory all is dropped.
+    /// The best plan, the tree, and the greatest bound up to the plan's cost that the tree shows. The bound is the cost
+    /// if each leaf is closed, and no less than what the tree showed at first. Without memory all is dropped.
     ///
     /// It takes time in proportion to the number of nodes.
     pub fn finish(self, alloc: Global, inst: &Instance) -> Result<Found, Memory>

@@ -19,15 +19,15 @@ use task_tours::short_plans_cost_little;
 const MOST_TURNS: u64 = 1_048_576;
 
 impl Search {
-    /// A search that goes on from a tree and a plan, for so many turns beyond those that the tree has for the plan's cost, where they are
-    /// no more than 1,048,576 in all; a tree that has as many takes no turn.
+    /// A search that goes on from a tree and a plan, for so many turns beyond those that the tree has for the plan's
+    /// cost, but no more than 1,048,576 in all. A tree that has as many takes no turn.
     ///
-    /// The plan is lawful and has at most 100,000 tours and 2,000,000 steps. The tree may be another's: its price leaves may lie below the floors, and it may have all nodes, price sets and shores that a
-    /// certificate can spell. It shows the bound `least` then and at each moment. Memory for all nodes that the budget can make is taken
-    /// here.
+    /// The plan is lawful and has at most 100,000 tours and 2,000,000 steps. The tree may be another's: its price
+    /// leaves may lie below the floors, and it may have all nodes, price sets and shores that a certificate can spell.
+    /// It shows the bound `least` then and at each moment. Memory for all nodes that the budget can make is taken here.
     ///
-    /// The one error is want of memory. It takes the time of least paths between all pairs of vertices, and in proportion to the number of
-    /// nodes.
+    /// The only error is want of memory. It takes the time of least paths between all pairs of vertices, and in
+    /// proportion to the number of nodes.
     pub fn resume(
         alloc: Global,
         inst: &Instance,

@@ -11,9 +11,9 @@ use std::alloc::Global;
 
 /// A search for a tree of decisions that shows what the best plan costs, by turns (Land and Doig 1960).
 ///
-/// Each leaf of the tree is a void or a fixed branch, or names a price set that fits under its decisions. A leaf is closed where it
-/// shows the best plan's cost by itself. `least` is a bound that the tree showed when the search began, and shows at each moment. Contracts
-/// see what `state_of` reads.
+/// Each leaf of the tree is a void or a fixed branch, or names a price set that fits under its decisions. A leaf is
+/// closed if it shows the best plan's cost by itself. `least` is a bound that the tree showed when the search began,
+/// and shows at each moment. Contracts see what `state_of` reads.
 #[derive(Drop)]
 pub struct Search {
     pub(crate) alloc: Global,

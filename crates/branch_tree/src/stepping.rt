@@ -27,14 +27,25 @@ impl Search {
         self.turns
     }
 
-    /// Takes the first leaf that shows least, if it does not show the best plan's cost. Where its branch is void or fixed, it is closed as
-    /// that; the plan of a fixed leaf is the best one from then on if it is cheaper. Else, while fewer than 256 price sets are held, a
-    /// tight set is sought for it (`dual_master::raise`). If that shows the cost, it closes the leaf, and otherwise both leaves of a split
-    /// by a pair or a shore carry it. Where 256 are held, the leaves of the split carry the set of the leaf. A short best plan stays short.
+    /// Takes the first leaf that shows least, if it does not show the best plan's cost. If its branch is void or fixed,
+    /// the step closes it as that. The plan of a fixed leaf is the best one from then on if it is cheaper. Else, while
+    /// fewer than 256 price sets are held, the step seeks a tight set for the leaf (`dual_master::raise`). If that
+    /// shows the cost, it closes the leaf. Otherwise both leaves of a split by a pair or a shore carry it. If 256 are
+    /// held, the leaves of the split carry the set of the leaf. A short best plan stays short.
     ///
-    /// It asks for a search whose turns are below its budget. The one error is want of memory: then the tree, the price sets and the best
-    /// plan are as before, and shores may have been added. It takes the time of `raise` and, with n nodes, m required edges and d decisions
-    /// on the way to the leaf, in proportion to n + m * (m * m + d).
+    /// It asks for a search whose turns are below its budget. The only error is want of memory. Then the tree, the
+    /// price sets and the best plan are as before, and shores may have been added. It takes the time of `raise` and,
+    /// with n nodes, m required edges and d decisions on the way to the leaf, in proportion to n + m * (m * m + d).
+    ///
+    /// ```
+    /// let mut search = Search::begin(alloc, &inst, 64, plan)?;
+    /// while search.done() < search.budget() {
+    ///     if search.step(&inst)? == Turn::Done {
+    ///         break;
+    ///     }
+    /// }
+    /// let found = search.finish(alloc, &inst)?;
+    /// ```
     pub fn step(&mut self, inst: &Instance) -> Result<Turn, Memory>
         requires search { IsSearch inst.now self.old }
         requires left { self.old.done < self.old.turns }

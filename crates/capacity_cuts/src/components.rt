@@ -79,15 +79,17 @@ fn needy_labels(
     Ok(marks)
 }
 
-/// Each component, without the depot, of the edges whose `x` is at least `unit`, such that the need of its vertices times
-/// `unit` is above the sum of `x` over the edges that cross it, in the order of their least vertices. The list is empty only
-/// where there is none.
+/// Each component, without the depot, of the edges whose `x` is at least `unit`, for which the need of its vertices
+/// times `unit` is above the sum of `x` over the edges that cross it. They stand in the order of their least vertices.
+/// The list is empty only if there is none.
 ///
-/// `x` has a number for each edge, in the order of the edges, each at most 10^12: its deadheads in parts of `unit`, which is 1
-/// to 1,000,000. A vertex at which no edge has so much is a component by itself, an edge between two vertices of a component
-/// does not cross it, and parallel edges each count. Each lawful plan has more deadheads over such a set than `x`, by the law
-/// [`cut_pool::need_is_met`] (Belenguer and Benavent 1998, parity and capacity cuts). The one error is want of memory. It takes
-/// time and memory in proportion to the vertices and edges, and to the greatest vertices of the shores.
+/// `x` has a number for each edge, in the order of the edges, each at most 10^12: its deadheads in parts of `unit`,
+/// which is 1 to 1,000,000. A vertex at which no edge has so much is a component by itself. An edge between two
+/// vertices of a component does not cross it. Parallel edges each count. Each lawful plan has more deadheads over such
+/// a set than `x`, by the law [`cut_pool::need_is_met`] (Belenguer and Benavent 1998, parity and capacity cuts).
+///
+/// The only error is want of memory. It takes time and memory in proportion to the vertices and edges, and to the
+/// greatest vertices of the shores.
 pub fn find_components(
     alloc: Global,
     inst: &Instance,

@@ -56,14 +56,16 @@ fn list_side(alloc: Global, inst: &Instance, side: &[bool]) -> Result<Shore, Mem
     Shore::from_list(alloc, &vertices)
 }
 
-/// A shore of greatest violation `2 t(S) / Q - r(S) - x(S) / unit` among all sets of vertices without the depot, and `None`
-/// exactly where no set has positive violation.
+/// A shore of greatest violation `2 t(S) / Q - r(S) - x(S) / unit` among all sets of vertices without the depot, or
+/// `None` exactly if no set has positive violation.
 ///
-/// `x` has a number for each edge, in the order of the edges, each at most 10^12: its deadheads in parts of `unit`, which is 1
-/// to 1,000,000. The touched demand of a set is half the demand met at its vertices plus half the demand over it, so that the
-/// violation is a constant less the room of a cut (see [`crate::cut_is_violation`]; fractional capacity cuts of Belenguer and
-/// Benavent 1998). It takes one greatest flow in a network of as many nodes as vertices and one, and besides time and memory in
-/// proportion to the vertices and edges. The one error is want of memory.
+/// `x` has a number for each edge, in the order of the edges, each at most 10^12: its deadheads in parts of `unit`,
+/// which is 1 to 1,000,000. The touched demand of a set is half the demand met at its vertices plus half the demand
+/// over it. So the violation is a constant less the room of a cut (see [`crate::cut_is_violation`]; fractional capacity
+/// cuts of Belenguer and Benavent 1998).
+///
+/// It takes one greatest flow in a network of as many nodes as vertices and one, and besides time and memory in
+/// proportion to the vertices and edges. The only error is want of memory.
 pub fn find_fractional(
     alloc: Global,
     inst: &Instance,

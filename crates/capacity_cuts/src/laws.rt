@@ -6,11 +6,11 @@ use edge_components::equal_sets_have_one_border;
 
 /// The room of a cut is a constant less the violation of its side.
 ///
-/// The touched demand of a set is half the demand met at its vertices plus half the demand of the edges over it. So with an
-/// arc of room `unit` times the demand met at v from the source to each vertex v, and arcs of room
-/// `unit * (Q - demand) + Q * x` to and fro over each required edge, and `Q * x` over each other one, a cut between the source
-/// and the depot has the room `2 * unit * T` less the violation of its side times `Q * unit`. No room is negative, since no
-/// required demand is above the capacity.
+/// The touched demand of a set is half the demand met at its vertices plus half the demand of the edges over it. The
+/// network has an arc from the source to each vertex v, of room `unit` times the demand met at v. It has arcs to and
+/// fro over each edge, of room `unit * (Q - demand) + Q * x` if the edge is required, and else of room `Q * x`. A cut
+/// between the source and the depot has the room `2 * unit * T` less the violation of its side times `Q * unit`. No
+/// room is negative, since no required demand is above the capacity.
 pub fn cut_is_violation()
     ensures { CutIsViolation }
 {}

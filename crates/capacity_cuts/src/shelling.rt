@@ -114,13 +114,14 @@ fn in_order(alloc: Global, lengths: &[u64]) -> Result<Vec<u64>, Memory>
     Ok(ends)
 }
 
-/// The level sets of the Shell bound with their numbers of levels, nearest first: the level set of each whole t from 0 on holds
-/// the vertices that the depot reaches at a distance by cost above t. Vertices that it does not reach stand in none.
+/// The level sets of the Shell bound with their numbers of levels, nearest first. The level set of each whole t from 0
+/// on holds the vertices that the depot reaches at a distance by cost above t. Vertices that it does not reach stand in
+/// none.
 ///
 /// Each set stands once, with the number of levels at which it is the level set, and beyond them no vertex is left. The
-/// weights pack within the costs of the edges, and the needs times the weights add up to the needs of all level sets (see
-/// [`crate::shells_are_duals`]). It asks for distances by cost. The one error is want of memory. It takes one sort of the
-/// distances, and time and memory in proportion to the vertices times the number of sets.
+/// weights pack within the costs of the edges, and the needs times the weights add up to the needs of all level sets
+/// (see [`crate::shells_are_duals`]). It asks for distances by cost. The only error is want of memory. It takes one
+/// sort of the distances, and time and memory in proportion to the vertices times the number of sets.
 pub fn shells(alloc: Global, inst: &Instance, dist: &Distances) -> Result<Vec<Weighted>, Memory>
     requires problem { dist.now.problem ≡ inst.now }
     requires costs { dist.now.prices ≡ costs_of inst.now }

@@ -8,8 +8,8 @@ use path_scanning::Scanner;
 use plan_model::Proposer;
 use std::alloc::Global;
 
-/// Runs the command that the words name ([`carp_cli::run`]) with the aid of four helpers: path scanning, augment-merge, splitting of one
-/// order of all tasks, and ruin and recreate with small changes, of ids 1 to 4.
+/// Runs the command that the words name ([`carp_cli::run`]) with the aid of four helpers: path scanning, augment-merge,
+/// splitting of one order of all tasks, and ruin and recreate with small changes, of ids 1 to 4.
 pub(crate) fn run_with_helpers<H: Shelf, O: Sink>(
     alloc: Global,
     words: &[String],

@@ -26,7 +26,8 @@ impl Model for Allowed {
 }
 
 impl Allowed {
-    /// Each pair of different required edges is allowed. It takes time and memory in proportion to the square of the required edges.
+    /// Each pair of different required edges is allowed. It takes time and memory in proportion to the square of the
+    /// required edges.
     pub fn all(alloc: Global, inst: &Instance) -> Result<Allowed, Memory>
         ensures { IfOk result (AllowsAll inst.now.required) }
     {

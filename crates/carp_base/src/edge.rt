@@ -24,9 +24,9 @@ pub struct Edge {
     pub v: u32,
     /// What one crossing without service costs, 0 to 1,000,000.
     pub cost: u64,
-    /// How much of the capacity a service takes, 1 to the capacity; 0 where the edge is not required.
+    /// How much of the capacity a service takes: 1 to the capacity, or 0 if the edge is not required.
     pub demand: u64,
-    /// What one crossing with service costs, 0 to 1,000,000; 0 where the edge is not required.
+    /// What one crossing with service costs: 0 to 1,000,000. It is 0 if the edge is not required.
     pub service: u64,
 }
 

@@ -10,7 +10,7 @@ pub struct Memory;
 /// Why a call that can be refused gave nothing: want of memory, or a refusal with its cause.
 #[derive(Debug, Drop)]
 pub enum Fail<E> {
-    /// Memory was not to be had.
+    /// There was not enough memory.
     Memory,
     /// The call was refused, for this cause.
     Refused(E),

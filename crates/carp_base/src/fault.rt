@@ -3,9 +3,10 @@
 use thiserror::Error;
 
 /// Why a description is no valid instance. A fault of an edge carries the edge's number, counted from 1 over the
-/// required edges and then the others; another carries the number that is out of range.
+/// required edges and then the others. A fault of another kind carries the number that is out of range.
 ///
-/// Where several apply, the one that stands first here is answered, and within it the least edge number.
+/// If several faults apply, the answer is the one that stands first here, and among those of this kind the one with the
+/// least edge number.
 #[derive(Clone, Copy, Debug, PartialEq, Eq, Error)]
 pub enum InstanceFault {
     /// There are more than 1,000 vertices.

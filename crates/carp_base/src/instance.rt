@@ -9,8 +9,9 @@ use crate::{Edge, Fail, InstanceFault, Memory, RawEdge};
 use std::alloc::Global;
 use std::marker::Model;
 
-/// A valid instance of the capacitated arc routing problem (Golden and Wong 1981). Contracts see it as its numbers
-/// and the plain list of its edges, the required ones first.
+/// A valid instance of the capacitated arc routing problem (Golden and Wong 1981). Contracts see it as its numbers and
+/// the plain list of its edges, the required ones first. Each look takes constant time, except for
+/// [`Instance::total_demand`] and [`Instance::required_cost`].
 #[derive(Drop)]
 pub struct Instance {
     vertices: u32,
@@ -33,12 +34,19 @@ impl Model for Instance {
 impl Instance {
     ghost use Rattle.carp_base.specs.Drafts.{drafted};
 
-    /// The instance with just these numbers and edges, the required edges first. Of an edge of `others` the demand and
-    /// the service cost are not read: they are 0.
+    /// The instance with just these numbers and edges, the required edges first. Of an edge of `others`, `build` reads
+    /// neither the demand nor the service cost: both are 0.
     ///
-    /// Where faults apply, it is refused for the first of them, in the order of [`InstanceFault`] and then by the edge
-    /// number. `Fail::Memory` says only that memory was not to be had. It takes time and memory at most in proportion to the
-    /// vertices and edges.
+    /// If faults apply, `build` refuses with the first of them, in the order of [`InstanceFault`] and then by the edge
+    /// number. `Fail::Memory` says only that there was not enough memory. It takes time and memory at most in
+    /// proportion to the vertices and edges.
+    ///
+    /// ```
+    /// // One street of cost 5 from the depot, whose demand fills a vehicle.
+    /// let street = RawEdge { u: 1, v: 2, cost: 5, demand: 1, service: 5 };
+    /// let inst = Instance::build(alloc, 2, 1, 1, &[street], &[])?;
+    /// assert_eq!(rt; (inst.required(), inst.required_cost()), (1, 5));
+    /// ```
     pub fn build(
         alloc: Global,
         vertices: u64,
@@ -83,7 +91,7 @@ impl Instance {
         }
     }
 
-    /// A copy of the instance.
+    /// A copy of the instance, in time and memory in proportion to the edges. The only error is want of memory.
     pub fn copy(&self, alloc: Global) -> Result<Instance, Memory>
         ensures { IfOk result (λ inst. inst ≡ self.now) }
     {
@@ -136,8 +144,8 @@ impl Instance {
         self.edges.len() as u32
     }
 
-    /// The total demand: the sum of the demands of the required edges, at most 12,000,000 (by the limit on states), in the unit of the capacity. It takes time in proportion to
-    /// the required edges.
+    /// The total demand, in the unit of the capacity: the sum of the demands of the required edges. It is at most
+    /// 12,000,000 (by the limit on states). It takes time in proportion to the required edges.
     pub fn total_demand(&self) -> u64
         ensures { result ≡ total_demand self.now }
     {
@@ -148,8 +156,8 @@ impl Instance {
         sum
     }
 
-    /// What it costs to serve each required edge once: the sum of the service costs of the required edges, at most 600,000,000, in the instance's unit of cost. It takes time in
-    /// proportion to the required edges.
+    /// What it costs to serve each required edge once, in the instance's unit of cost: the sum of the service costs of
+    /// the required edges. It is at most 600,000,000. It takes time in proportion to the required edges.
     pub fn required_cost(&self) -> u64
         ensures { result ≡ required_cost self.now }
     {

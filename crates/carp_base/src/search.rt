@@ -94,7 +94,7 @@ impl Finds {
         Ok(())
     }
 
-    /// The depot alone.
+    /// Only the depot is marked.
     fn start(alloc: Global, draft: &Draft) -> Result<Finds, Memory>
         requires few { draft.now.vertices < 2 ^ 32 }
         requires depot { draft.now.depot ≤ draft.now.vertices }

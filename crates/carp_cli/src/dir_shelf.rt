@@ -17,13 +17,14 @@ const LONGEST_NAME: usize = 247;
 /// The files of the system by their paths, as a shelf. It does not tell what they hold, and counts each failure of the
 /// system. One count of failed looks stands for every name.
 ///
-/// A file is replaced whole: the new bytes are written to a new file beside it, under the permissions of the old file, synced and renamed, so
-/// that a failure leaves the old file as it was. The new file is `NAME.0.new`, or the first of `NAME.1.new` to `NAME.999.new` that does not
-/// exist; if the file's own name has more than 247 bytes, `carp.0.new` and so on in the same folder. A run that is killed can leave it there, and
-/// it can be removed by hand. No other file is ever removed or changed.
+/// A file is replaced whole: the new bytes are written to a new file beside it, under the permissions of the old file,
+/// synced and renamed. So a failure leaves the old file as it was. The new file is `NAME.0.new`, or the first of
+/// `NAME.1.new` to `NAME.999.new` that does not exist. If the file's own name has more than 247 bytes, it is
+/// `carp.0.new` and so on in the same folder. A run that is killed can leave it there, and a user can remove it by
+/// hand. No other file is ever removed or changed.
 ///
-/// A file that is write-protected is left alone: its keep fails. If the path is something other than a regular file, such as a symbolic link
-/// or a device, it is written in place. Another hard link to the file keeps the old bytes.
+/// A file that is write-protected is left alone: its keep fails. If the path is something other than a regular file,
+/// such as a symbolic link or a device, it is written in place. Another hard link to the file keeps the old bytes.
 #[derive(Drop)]
 pub struct DirShelf<R: Files> {
     rt: R,

@@ -13,9 +13,10 @@ use town_maker::towns_are_valid;
 
 /// What one command keeps, the next one takes: a law over what two runs leave ([`crate::run`]), with nothing to run.
 ///
-/// Where `solve FILE CERT` ended `Proven` or `Gap`, a later `check FILE CERT`, of which no look at the files failed, answers `Accepted`, with the cost and the bound that `solve`
-/// reported, or it could not write, or had no memory. The same holds of what `upgrade` and `edit` keep. What `make` keeps is the text of
-/// its town, within the limit of an instance file, so that `solve` solves it.
+/// If `solve FILE CERT` ended `Proven` or `Gap`, a later `check FILE CERT`, of which no look at the files failed,
+/// answers `Accepted`, with the cost and the bound that `solve` reported, or it could not write, or had no memory. The
+/// same holds of what `upgrade` and `edit` keep. What `make` keeps is the text of its town, within the limit of an
+/// instance file, so that `solve` solves it.
 pub fn kept_is_accepted()
     ensures solved { SolvedIsAccepted }
     ensures upgraded { UpgradedIsAccepted }

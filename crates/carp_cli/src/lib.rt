@@ -1,11 +1,12 @@
 //! The top call of the program, and what it stands on at the edge of the system.
 //!
 //! [`run`] does all that the program does: it reads the words of a command, reads files from a [`carp_outside::Shelf`],
-//! keeps files there, writes texts to a [`carp_outside::Sink`] and answers a [`Status`]. [`DirShelf`] and [`StdSink`] make
-//! the files of the system and a writer, such as the standard output, into these.
+//! keeps files there, writes texts to a [`carp_outside::Sink`] and answers a [`Status`]. [`DirShelf`] and [`StdSink`]
+//! make the files of the system and a writer, such as the standard output, into these.
 //!
-//! A command is read by `command_words`, its files by `command_jobs`, and what it asks for is made by `command_works`. Here `refusals` spells the
-//! answers that have no report, and `delivering` keeps and writes what was made: all that is kept or written goes through one function.
+//! `command_words` reads a command, `command_jobs` reads its files, and `command_works` makes what it asks for. Here
+//! `refusals` spells the answers that have no report. `delivering` keeps and writes what was made: all that is kept or
+//! written goes through one function.
 //!
 //! [`kept_is_accepted`] says how two runs fit: what `solve` keeps, `check` accepts.
 #![tactic(auto)]

@@ -23,38 +23,62 @@ use std::alloc::Global;
 
 /// Runs the command that the words name.
 ///
-/// - `solve FILE CERT [--turns N] [--seed N]` reads the instance of FILE, solves it with the aid of the helpers, keeps a certificate at
-///   CERT and writes a report. It ends `Proven` where the bound is the cost, and else `Gap`. Turns and seed are those of
-///   [`carp_engine::solve`], and are 64 and 1 where they are not given. None of the helpers need be trusted.
-/// - `check FILE CERT` reads the instance of FILE and then the certificate of CERT, whose nodes it does not hold, and writes whether it
-///   is good: `Accepted`, with its cost and its bound, or `Rejected`, with the first reason.
-/// - `sheet FILE CERT` does as `check`, and where the certificate is good writes the street sheet of its plan, and ends `Done`.
-/// - `make FILE [--seed N]` keeps the town of a number ([`town_maker::town`]) at FILE, and writes its numbers. The number is 1 where it is not given.
-/// - `drill [--turns N] [--seed N]` solves the town of a number as `solve` does, checks the certificate, keeps nothing, and writes a summary. The
-///   turns are 4 and the number is 1 where they are not given. It ends `Done`.
-/// - `upgrade FILE CERT NEWCERT` does as `check`, but holds the certificate, and where it is good keeps it at NEWCERT with the numbers of
-///   the instance, and ends `Done`.
-/// - `postman FILE` writes a least closed walk over all required edges of the instance of FILE, for one vehicle without a limit
-///   ([`postman::postman`]), and ends `Done`; where they do not hang together with the depot it ends `NotJoined`.
-/// - `fleet FILE [--turns N]` finds a number of vehicles that carry all demands ([`fleet_pack::pack`]), and writes a tour for each and a tree that proves how many it takes at
-///   least. It ends `Proven` where that is the number, and else `Gap`. The turns are 64 where they are not given.
-/// - `edit FILE CERT EDITS NEWFILE NEWCERT` reads an instance, a certificate that is good for it and edits ([`instance_edits::read_edits`]), all three files before it looks at what
-///   they hold; keeps the edited instance at NEWFILE and then the certificate, carried over to it ([`cert_transfer::carry`]), at NEWCERT; and ends `Done`. Edits that can't be read,
-///   that name an edge which they may not change, or that make an instance with a fault are `BadEdit`.
+/// - `solve FILE CERT [--turns N] [--seed N]` reads the instance of FILE, solves it with the aid of the helpers, keeps
+///   a certificate at CERT and writes a report. It ends `Proven` if the bound is the cost, and else `Gap`. Turns and
+///   seed are those of [`carp_engine::solve`], and are 64 and 1 if they are not given. None of the helpers need be
+///   trusted.
+/// - `check FILE CERT` reads the instance of FILE and then the certificate of CERT, whose nodes it does not hold. It
+///   writes whether it is good: `Accepted`, with its cost and its bound, or `Rejected`, with the first reason.
+/// - `sheet FILE CERT` does as `check`. If the certificate is good, it writes the street sheet of its plan, and ends
+///   `Done`.
+/// - `make FILE [--seed N]` keeps the town of a number ([`town_maker::town`]) at FILE, and writes its numbers. The
+///   number is 1 if it is not given.
+/// - `drill [--turns N] [--seed N]` solves the town of a number as `solve` does, checks the certificate, keeps nothing,
+///   and writes a summary. The turns are 4 and the number is 1 if they are not given. It ends `Done`.
+/// - `upgrade FILE CERT NEWCERT` does as `check`, but holds the certificate. If it is good, the command keeps it at
+///   NEWCERT with the numbers of the instance, and ends `Done`.
+/// - `postman FILE` writes a least closed walk over all required edges of the instance of FILE, for one vehicle without
+///   a limit ([`postman::postman`]), and ends `Done`. If they do not hang together with the depot, it ends `NotJoined`.
+/// - `fleet FILE [--turns N]` finds a number of vehicles that carry all demands ([`fleet_pack::pack`]). It writes a
+///   tour for each, and a tree that proves how many it takes at least. It ends `Proven` if that is the number, and else
+///   `Gap`. The turns are 64 if they are not given.
+/// - `edit FILE CERT EDITS NEWFILE NEWCERT` reads an instance, a certificate that is good for it and edits
+///   ([`instance_edits::read_edits`]), all three files before it looks at what they hold. It keeps the edited instance
+///   at NEWFILE and then the certificate, carried over to it ([`cert_transfer::carry`]), at NEWCERT, and ends `Done`.
+///   It ends `BadEdit` if the edits can't be read, name an edge which they may not change, or make an instance with a
+///   fault.
 ///
-/// All other words are bad usage; [`command_words::read_words`] says which are plain. All texts are built before anything is kept or
-/// written, and held at once. It takes the time of reading ([`command_jobs::gather`]) and of making ([`command_works::make`]), and of keeping and writing in proportion to the bytes.
+/// All other words are bad usage. [`command_words::read_words`] says which are plain. All texts are built before
+/// anything is kept or written, and held at once. It takes the time of reading ([`command_jobs::gather`]) and of making
+/// ([`command_works::make`]), and of keeping and writing in proportion to the bytes.
 ///
-/// The contract is said once for all commands, by the tables of `command_words` and of `specs/Answers.antt`: [`Status`] says when
-/// each answer comes, and `Leaves` what stands after it. What it says of the contents of names and of what was written holds where the
-/// shelf and the sink tell it, as [`carp_outside::MemShelf`] and [`carp_outside::MemSink`] do.
+/// The contract is said once for all commands, by the tables of `command_words` and of `specs/Answers.antt`: [`Status`]
+/// says when each answer comes, and `Leaves` what stands after it. What it says of the contents of names and of what
+/// was written holds if the shelf and the sink tell it, as [`carp_outside::MemShelf`] and [`carp_outside::MemSink`] do.
 ///
-/// Over [`crate::DirShelf`] and [`crate::StdSink`] it says that each answer is founded (`specs/Founded.antt`): a refusal is one of those that
-/// the command has, `make` and `drill` are never refused, and what a command says when it is done is so of bytes that the shelf gave in this
-/// call: its count of given bytes rose by at least the length of each text. A certificate is accepted only if such bytes spell an instance, and
-/// such bytes a certificate that is good for it, with the cost and the bound that are to be printed; a sheet, an upgrade and an edit rest on
-/// such a certificate, a solution, a round and a fleet on such an instance. It says, too, which count rose where an answer is a fault, and what
-/// becomes of the helpers. It does not say that these are the bytes of the named files, nor that what is to be kept and written arrives there.
+/// Over [`crate::DirShelf`] and [`crate::StdSink`] it says that each answer is founded (`specs/Founded.antt`):
+///
+/// - A refusal is one of those that the command has. `make` and `drill` are never refused.
+/// - What a command says when it is done is so of bytes that the shelf gave in this call: its count of given bytes rose
+///   by at least the length of each text.
+/// - A certificate is accepted only if such bytes spell an instance, and such bytes a certificate that is good for it,
+///   with the cost and the bound that are to be printed.
+/// - A sheet, an upgrade and an edit rest on such a certificate. A solution, a round and a fleet rest on such an
+///   instance.
+///
+/// It also says which count rose if an answer is a fault, and what becomes of the helpers. It does not say that these
+/// are the bytes of the named files, nor that what is to be kept and written arrives there.
+///
+/// ```
+/// let mut words = Vec::new(alloc);
+/// for word in ["solve", "town.dat", "town.cert"] {
+///     words.push(String::from_str(alloc, word)?)?;
+/// }
+/// let mut shelf = DirShelf::new(&rt, alloc);
+/// let mut out = StdSink::new(io::writer(&rt));
+/// let mut helpers: Vec<Box<dyn Proposer>> = Vec::new(alloc);
+/// let status = run(alloc, &words, &mut shelf, &mut out, &mut helpers);
+/// ```
 pub fn run<H: Shelf, O: Sink>(
     alloc: Global,
     words: &[String],

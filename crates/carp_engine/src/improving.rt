@@ -23,16 +23,17 @@ use std::alloc::Global;
 use task_tours::{cost_distances, short_plans_are_allowed, short_plans_cost_little};
 use tree_transfer::note_nodes;
 
-/// The best plan that the helpers find from that of a good certificate on, whoever made it, and what a search shows that goes on from its
-/// tree. The plan costs no more than the old one, and the bound is no lower.
+/// The best plan that the helpers find from that of a good certificate on, whoever made it, and what a search shows
+/// that goes on from its tree. The plan costs no more than the old one, and the bound is no lower.
 ///
-/// The old plan's tours are joined by least paths first, and its tours without service are left out. The helpers are seeded and asked as
-/// in [`solve`](crate::solve). Then the search takes up the old tree with its price sets and its shores, and goes on for so many turns
-/// more than the tree has for the cost of that plan, up to 1,048,576 in all. So where the bound is below the cost, the tree has at least
-/// as many turns as the old one had for the old cost and so many more, or 1,048,576.
+/// First the old plan's tours are joined by least paths, and its tours without service are left out. The helpers are
+/// seeded and asked as in [`solve`](crate::solve). Then the search takes up the old tree with its price sets and its
+/// shores, and goes on for so many turns more than the tree has for the cost of that plan, up to 1,048,576 in all. So
+/// if the bound is below the cost, the tree has at least as many turns as the old one had for the old cost and so many
+/// more, or 1,048,576.
 ///
-/// Where the old tree has 256 price sets, its leaves keep those that they have; with 2,000 shores none is added. Without memory the answer
-/// is `Memory`.
+/// If the old tree has 256 price sets, its leaves keep those that they have. With 2,000 shores none is added. Without
+/// memory the answer is `Memory`.
 ///
 /// Beside what `solve` takes for helpers and turns, it takes the time of a check of the old tree.
 pub fn improve<P: Proposer>(

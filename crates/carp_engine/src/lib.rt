@@ -1,9 +1,12 @@
 //! Finds plans with the aid of helpers, and a bound on all plans.
 //!
-//! [`solve`] starts with one tour for each required edge, asks helpers in rounds, each of which is any [`plan_model::Proposer`]
-//! (`helper_rounds`), and then searches a tree of decisions by turns (`branch_tree`). No helper need be trusted: each offer is judged.
-//! [`improve`] goes on from the plan and the tree of a good certificate in the same way. [`consult`] asks one helper, and [`dismiss`] drops
-//! those that offered an unlawful plan.
+//! [`solve`] starts with one tour for each required edge, asks helpers in rounds, each of which is any
+//! [`plan_model::Proposer`] (`helper_rounds`), and then searches a tree of decisions by turns (`branch_tree`). No
+//! helper need be trusted: each offer is judged. [`improve`] goes on from the plan and the tree of a good certificate
+//! in the same way. [`consult`] asks one helper, and [`dismiss`] drops those that offered an unlawful plan.
+//!
+//! - `solving`, `improving`: [`solve`] and [`improve`].
+//! - `searching`, `certifying`: the search within a budget of turns, and the certificate of what it found.
 #![tactic(auto)]
 
 mod certifying;

@@ -27,20 +27,29 @@ pub struct Solved {
     pub turns: u64,
 }
 
-/// The best plan that the helpers find from one tour for each required edge on, and a bound of all plans that is at least each of the
-/// floors Shell, Ratio and Join (`dual_master::floors`).
+/// The best plan that the helpers find from one tour for each required edge on, and a bound of all plans that is at
+/// least each of the floors Shell, Ratio and Join (`dual_master::floors`).
 ///
-/// Each helper is seeded with `seed` plus its place in the list, from 0, wrapping. Then the helpers are asked in up to four rounds, each time in
-/// the order of the list (`helper_rounds::ask_all`); after an unlawful offer a helper is not asked again, and a round without a better plan
-/// is the last. The list keeps all its helpers in their order.
-/// Without memory the answer is `Memory`.
+/// Each helper is seeded with `seed` plus its place in the list, from 0, wrapping. Then the helpers are asked in up to
+/// four rounds, each time in the order of the list (`helper_rounds::ask_all`). After an unlawful offer a helper is not
+/// asked again. A round without a better plan is the last. The list keeps all its helpers in their order. Without
+/// memory the answer is `Memory`.
 ///
-/// Then a tree of decisions is searched by turns (`branch_tree`), until it shows the cost of the best plan or its turns, its inner nodes and
-/// its leaves that show the cost by themselves, reach the budget, which is 1 to 1,048,576. So the bound is below the cost only where the
-/// budget is spent; a budget of `2^(m (m - 1) / 2 + 5)` with m required edges, which a budget can be with at most 6, is never spent.
+/// Then a tree of decisions is searched by turns (`branch_tree`), until it shows the cost of the best plan or its turns
+/// reach the budget, which is 1 to 1,048,576. The turns are the inner nodes of the tree and its leaves that show the
+/// cost by themselves. So the bound is below the cost only if the budget is spent. With m required edges, a budget of
+/// `2^(m (m - 1) / 2 + 5)` is never spent. A budget can be so large if m is at most 6.
 ///
-/// Beside what the helpers take, it takes time in proportion to n (n + m) log n with n vertices and m edges, that of the floors
-/// (`dual_master::floors`), and that of the turns.
+/// Beside what the helpers take, it takes time in proportion to n (n + m) log n with n vertices and m edges, that of
+/// the floors (`dual_master::floors`), and that of the turns.
+///
+/// ```
+/// let scanner: Box<dyn Proposer> = Box::new(alloc, Scanner::new(1))?;
+/// let mut helpers: Vec<Box<dyn Proposer>> = Vec::new(alloc);
+/// helpers.push(scanner)?;
+/// let solved = solve(alloc, &inst, 64, 1, &mut helpers)?;
+/// assert_eq!(rt; (solved.cert.cost, solved.cert.bound), (10, 10));
+/// ```
 pub fn solve<P: Proposer>(
     alloc: Global,
     inst: &Instance,

@@ -11,11 +11,12 @@ use carp_base::Memory;
 use std::alloc::Global;
 use std::collections::BTreeMap;
 
-/// A shelf in memory, which tells its contents and fails at the calls that it is told to fail.
+/// A shelf in memory. It tells its contents, and fails at the calls that it is told to fail.
 ///
-/// Calls are numbered from 1, looks and keeps apart. Where a call fails, the count of faults of its kind rises by one,
-/// and only there. One count of failed looks stands for every name. `look` and `keep` take no memory. A keep that fails
-/// changes nothing, until [`MemShelf::tear`] says how many bytes one that fails at a listed number leaves.
+/// Calls are numbered from 1, looks and keeps apart. If a call fails, the count of faults of its kind rises by one. No
+/// other call changes this count. One count of failed looks stands for every name. `look` and `keep` take no memory. A
+/// keep that fails changes nothing, until [`MemShelf::tear`] says how many bytes a keep leaves that fails at a listed
+/// number.
 #[derive(Drop)]
 pub struct MemShelf {
     alloc: Global,
@@ -89,8 +90,8 @@ impl MemShelf {
         ready_in(self.alloc, &mut self.files, name, room)
     }
 
-    /// From now on a keep that fails at a listed number, at a name that is ready for the new contents, is torn: it
-    /// leaves there the first `bytes` bytes of these, or all of them where there are fewer. It takes no memory.
+    /// From now on, a keep is torn if it fails at a listed number and the name is ready for the new contents. It then
+    /// leaves the first `bytes` bytes of these there, or all of them if there are fewer. It takes no memory.
     pub fn tear(&mut self, bytes: u64)
         ensures torn { torn_of self.new ≡ Some bytes }
 
@@ -105,7 +106,7 @@ impl MemShelf {
         self.torn = Some(bytes);
     }
 
-    /// The bytes that a name holds; `None` exactly where it is not held.
+    /// The bytes that a name holds, or `None` exactly if it is not held.
     pub fn held(&self, name: &str) -> Option<&[u8]>
         ensures { option_copied result ≡ contents_of self.now name.now }
     {
@@ -166,9 +167,9 @@ impl Shelf for MemShelf {
         }
     }
 
-    /// Fails exactly at a listed number and at a name that was not made ready for so many bytes. Then the name holds
-    /// what it held; where a tear is set, the number is listed and the name is ready, it holds the front that the tear
-    /// says.
+    /// Fails exactly at a listed number, and at a name that was not made ready for so many bytes. Then the name holds
+    /// what it held. If a tear is set, the number is listed and the name is ready, the name holds the front that the
+    /// tear says.
     fn keep(&mut self, name: &str, bytes: &[u8]) -> Result<(), ShelfFault>
         ensures kept { OnOk result (HoldsExactly name.now bytes.now (contents_of self.old) (contents_of self.new)) }
         ensures cut { OnErr result (HoldsFront name.now bytes.now (contents_of self.old) (contents_of self.new)) }

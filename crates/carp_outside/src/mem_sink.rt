@@ -64,7 +64,7 @@ impl Sink for MemSink {
 
     ghost faults = { λ s. (puts_of s).faults };
 
-    /// Fails exactly at a listed number and where `room` bytes are already written.
+    /// Fails exactly at a listed number, and if `room` bytes are already written.
     fn put(&mut self, piece: &[u8]) -> Result<usize, SinkFault>
         requires { 0 < length piece.now }
         ensures some { IfOk result (λ n. 0 < n) }

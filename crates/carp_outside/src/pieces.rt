@@ -42,10 +42,10 @@ impl Pieces {
         })
     }
 
-    /// Takes the next piece of a name, and answers how many bytes it has: at most the size, and at most one more than are
-    /// left up to the limit. It answers 0 only at the end, and takes no memory.
+    /// Takes the next piece of a name, and answers how many bytes it has: at most the size, and at most one more than
+    /// are left up to the limit. It answers 0 only at the end, and takes no memory.
     ///
-    /// `Fault` comes only where a look at the name failed, and then no bytes were taken. `TooLong` comes exactly where one
+    /// `Fault` comes only if a look at the name failed, and then no bytes were taken. `TooLong` comes exactly if one
     /// byte more than the limit is taken now.
     pub fn next<H: Shelf>(&mut self, shelf: &mut H, name: &str) -> Result<usize, ReadFault>
         requires { taken_of self.old ≤ limit_of self.old }

@@ -12,7 +12,7 @@ use std::alloc::Global;
 /// Why a file was not read whole.
 #[derive(Clone, Copy, Debug, PartialEq, Eq)]
 pub enum ReadFault {
-    /// A look at this name failed; one at a name that is not held always does.
+    /// A look at this name failed. A look at a name that is not held always fails.
     Fault,
     /// The name gave more bytes than the limit.
     TooLong,
@@ -21,12 +21,12 @@ pub enum ReadFault {
 // The most bytes of a piece.
 const PIECE: usize = 65_536;
 
-/// Reads all bytes of a name, where these are at most `limit`. It looks for pieces of 64 KiB at most until a look finds
-/// the end, and answers `Fault` at the first look that fails. The shelf gave at least as many bytes in this call as are answered. Whatever it answers, no
-/// count of the shelf falls. It takes time and memory in proportion to the bytes.
+/// Reads all bytes of a name, if these are at most `limit`. It looks for pieces of 64 KiB at most until a look finds
+/// the end, and answers `Fault` at the first look that fails. The shelf gave in this call at least as many bytes as the
+/// answer has. Whatever the answer, no count of the shelf falls. It takes time and memory in proportion to the bytes.
 ///
-/// Where the shelf tells its contents, these are all bytes of the name, `TooLong` comes exactly where there are more than
-/// `limit` and no look failed, and the shelf holds what it held.
+/// If the shelf tells its contents, the answer is all bytes of the name. Then `TooLong` comes exactly if there are more
+/// than `limit` and no look failed, and the shelf holds what it held.
 pub fn read_whole<H: Shelf>(
     alloc: Global,
     shelf: &mut H,
@@ -69,8 +69,8 @@ pub fn read_whole<H: Shelf>(
     }
 }
 
-/// Writes all bytes, or answers the first failure of the sink. Where the sink tells what was written, that is all bytes, or
-/// after a failure a front of them. It takes time in proportion to the bytes, and no memory.
+/// Writes all bytes, or answers the first failure of the sink. If the sink tells what was written, that is all bytes,
+/// or after a failure a front of them. It takes time in proportion to the bytes, and no memory.
 pub fn put_all<O: Sink>(out: &mut O, bytes: &[u8]) -> Result<(), SinkFault>
     ensures written { IsTrue O.tells → OnOk result (O.written out.new ≡ O.written out.old ++ bytes.now) }
     ensures front { IsTrue O.tells → OnErr result (WroteFront bytes.now (O.written out.old) (O.written out.new)) }

@@ -3,14 +3,14 @@ ghost use Rattle.std.specs.Prelude.{◌≡◌, ℕ, ◌<◌, ◌≤◌, List, le
 ghost use Rattle.carp_outside.specs.Causes.{grown, HasCause};
 ghost use Rattle.carp_outside.specs.Told.{IsPiece, HoldsExactly, HoldsFront, SameContents};
 
-/// The shelf failed at a call; its count for that kind of call rose.
+/// The shelf failed at a call. Its count for that kind of call rose.
 #[derive(Clone, Copy, Debug, PartialEq, Eq)]
 pub struct ShelfFault;
 
 /// A store of named files.
 ///
-/// Contracts see what each name holds, where the type tells it (`None`: the name is not held), and three kinds of
-/// counts, which never fall: the failed looks of each name, the failed keeps, and the bytes given so far. Contracts read a
+/// Contracts see what each name holds, if the type tells it (`None`: the name is not held). They see three kinds of
+/// counts, which never fall: the failed looks of each name, the failed keeps, and the bytes given so far. They read a
 /// count of 2^64 - 1 or more as one that rose.
 pub trait Shelf {
     // Whether contents are told, the same for every value of the type.
@@ -24,8 +24,8 @@ pub trait Shelf {
 
     ghost given: { Self → ℕ };
 
-    /// Fills the front of the buffer with the name's bytes from a place on, counted from 0, and answers how many; 0
-    /// only at or past the end. A name that is not held is a fault.
+    /// Fills the front of the buffer with the name's bytes from a place on, counted from 0, and answers how many. It
+    /// answers 0 only at or past the end. A name that is not held is a fault.
     fn look(&mut self, name: &str, at: u64, buffer: &mut [u8]) -> Result<usize, ShelfFault>
         requires { 0 < length buffer.old }
         ensures within { IfOk result (λ n. n ≤ length buffer.new) }

@@ -2,13 +2,13 @@
 ghost use Rattle.std.specs.Prelude.{◌≡◌, ℕ, ◌<◌, ◌≤◌, ◌++◌, List, length, take, Bool, IsTrue, IfOk, OnErr};
 ghost use Rattle.carp_outside.specs.Causes.{HasCause};
 
-/// The sink took nothing; its count of faults rose.
+/// The sink took nothing. Its count of faults rose.
 #[derive(Clone, Copy, Debug, PartialEq, Eq)]
 pub struct SinkFault;
 
 /// An output.
 ///
-/// Contracts see the bytes that were written so far, where the type tells them, and the count of faults, which never
+/// Contracts see the bytes that were written so far, if the type tells them, and the count of faults, which never
 /// falls. They read a count of 2^64 - 1 or more as one that rose.
 pub trait Sink {
     // Whether the written bytes are told, the same for every value of the type.

@@ -86,7 +86,7 @@ NodeStands s bound branch (nodes.Price set) = PriceShows s branch bound set
 NodeStands s bound branch nodes.Void = IsVoid s.problem s.pool branch
 NodeStands s bound branch nodes.Fixed = FixedShows s branch bound
 
--- each node, under the branch that waits for it, is as it should be; the first node of the list has this number
+-- each node is as it should be under the branch that waits for it, and no node lacks a branch
 abbrev pub NodesStand : Support → (bound : ℕ) → List Node → List (List Decision) → Type 0
 NodesStand s bound [] waiting = Unit {0}
 NodesStand s bound (node ∷ rest) [] = ⊥

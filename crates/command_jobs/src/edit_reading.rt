@@ -14,16 +14,19 @@ use carp_base::Fail;
 use carp_outside::Shelf;
 use std::alloc::Global;
 
-/// The most bytes of a file of edits; contracts have the number from `edits_at`.
+/// The most bytes of a file of edits. Contracts have the number from `edits_at`.
 pub const EDITS_LIMIT: u64 = 1_048_576;
 
-/// Reads an instance, a certificate and edits from three files, all of them before it looks at what they hold. The first file that can't be read or is too long
-/// is refused; then the instance, the certificate for it, and the edits, where they are bad or the edited instance is.
+/// Reads an instance, a certificate and edits from three files, all of them before it looks at what they hold. It
+/// refuses the first file that can't be read or is too long. Then it refuses the instance, the certificate for it, and
+/// the edits, if they are bad or the edited instance is.
 ///
-/// A refusal is [`Status::ReadFault`], [`Status::TooLong`] with the limit of the file, [`Status::BadInstance`], [`Status::BadCertificate`] or
-/// [`Status::Rejected`], or [`Status::BadEdit`]. `Fail::Memory` says only that memory was not to be had.
+/// A refusal is [`Status::ReadFault`], [`Status::TooLong`] with the limit of the file, [`Status::BadInstance`],
+/// [`Status::BadCertificate`] or [`Status::Rejected`], or [`Status::BadEdit`]. `Fail::Memory` says only that there was
+/// not enough memory.
 ///
-/// The time is that of reading the files, checking the certificate and building both instances; the memory grows with the bytes of the files.
+/// The time is that of reading the files, checking the certificate and building both instances. The memory grows with
+/// the bytes of the files.
 pub fn read_edited<H: Shelf>(
     alloc: Global,
     shelf: &mut H,

@@ -18,17 +18,20 @@ use command_words::Command;
 use dat_text::readings_are_unique;
 use std::alloc::Global;
 
-/// Reads the files of a command, each of them whole before the next, and makes its job of them: the first file that can't be read, is too long or
-/// is bad ends it with its status. A command without files has its job at once, and is never refused.
+/// Reads the files of a command, each of them whole before the next, and makes its job of them. The first file that
+/// can't be read, is too long or is bad ends it with its status. A command without files has its job at once, and is
+/// never refused.
 ///
-/// A refusal is [`Status::ReadFault`] or [`Status::TooLong`], or one for the bytes of the files that the command reads: [`Status::BadInstance`]
-/// of an instance, [`Status::BadCertificate`] or [`Status::Rejected`] of a certificate, [`Status::BadEdit`] of edits, and [`Status::NotJoined`]
-/// of `postman` alone. Whether or not the shelf tells its contents, the job rests on bytes that it gave in this call: the certificate of a
-/// check, a sheet, an upgrade and an edit is good for the instance. Where it tells them, these are the bytes that the names hold, and what they
-/// hold decides, if no look failed at a file that had to be looked at.
+/// A refusal is [`Status::ReadFault`] or [`Status::TooLong`], or one for the bytes of the files that the command reads:
+/// [`Status::BadInstance`] of an instance, [`Status::BadCertificate`] or [`Status::Rejected`] of a certificate,
+/// [`Status::BadEdit`] of edits, and [`Status::NotJoined`] only of `postman`.
 ///
-/// `Fail::Memory` says only that memory was not to be had. It takes the time of reading the files and checking the certificate, for `postman`
-/// also of the round, and for `edit` of the edited instance.
+/// Whether or not the shelf tells its contents, the job rests on bytes that it gave in this call: the certificate of a
+/// check, a sheet, an upgrade and an edit is good for the instance. If it tells them, these are the bytes that the
+/// names hold, and what they hold decides, if no look failed at a file that had to be looked at.
+///
+/// `Fail::Memory` says only that there was not enough memory. It takes the time of reading the files and checking the
+/// certificate, for `postman` also of the round, and for `edit` of the edited instance.
 pub fn gather<'a, H: Shelf>(
     alloc: Global,
     command: Command<'a>,

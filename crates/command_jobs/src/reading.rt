@@ -22,10 +22,10 @@ use dat_text::{read_dat, readings_are_unique};
 use plan_model::Plan;
 use std::alloc::Global;
 
-/// The most bytes of an instance file; contracts have the number from `instance_at`.
+/// The most bytes of an instance file. Contracts have the number from `instance_at`.
 pub const INSTANCE_LIMIT: u64 = 4_194_304;
 
-/// The most bytes of a certificate; contracts have the number from `certificate_at`.
+/// The most bytes of a certificate. Contracts have the number from `certificate_at`.
 pub const CERTIFICATE_LIMIT: u64 = 268_435_456;
 
 /// What a certificate states that is good for its instance.
@@ -41,8 +41,8 @@ pub struct Stated {
 
 /// Reads the instance that a file describes.
 ///
-/// It is refused with [`Status::ReadFault`], [`Status::TooLong`] with [`INSTANCE_LIMIT`], or [`Status::BadInstance`]. `Fail::Memory` says only that memory was not to be had. It takes
-/// time and memory in proportion to the bytes.
+/// It refuses with [`Status::ReadFault`], [`Status::TooLong`] with [`INSTANCE_LIMIT`], or [`Status::BadInstance`].
+/// `Fail::Memory` says only that there was not enough memory. It takes time and memory in proportion to the bytes.
 pub fn read_instance<H: Shelf>(
     alloc: Global,
     shelf: &mut H,
@@ -68,10 +68,11 @@ pub fn read_instance<H: Shelf>(
     }
 }
 
-/// What the certificate of a file states, where it is good for the instance; its nodes are not held.
+/// What the certificate of a file states, if it is good for the instance. It does not hold the nodes.
 ///
-/// It is refused with [`Status::ReadFault`], [`Status::TooLong`] with [`CERTIFICATE_LIMIT`], [`Status::BadCertificate`] or [`Status::Rejected`]. `Fail::Memory` says only that memory was not
-/// to be had. It takes the time of [`cert_checker::check_stream`], and memory that does not grow with the nodes.
+/// It refuses with [`Status::ReadFault`], [`Status::TooLong`] with [`CERTIFICATE_LIMIT`], [`Status::BadCertificate`] or
+/// [`Status::Rejected`]. `Fail::Memory` says only that there was not enough memory. It takes the time of
+/// [`cert_checker::check_stream`], and memory that does not grow with the nodes.
 pub fn check_file<H: Shelf>(
     alloc: Global,
     inst: &Instance,
@@ -124,7 +125,8 @@ fn accept(checked: Checked) -> Result<Stated, Fail<Status>>
 
 /// Reads the certificate of a file, which is good for the instance.
 ///
-/// It is refused as by [`check_file`], and takes the time of reading and of [`cert_checker::check`], and memory in proportion to the bytes.
+/// It refuses as [`check_file`] does. It takes the time of reading and of [`cert_checker::check`], and memory in
+/// proportion to the bytes.
 pub fn read_good<H: Shelf>(
     alloc: Global,
     inst: &Instance,
@@ -153,7 +155,8 @@ pub fn read_good<H: Shelf>(
 
 /// All bytes of a file.
 ///
-/// It is refused with [`Status::ReadFault`], or [`Status::TooLong`] with the limit. It takes time and memory in proportion to the bytes.
+/// It is refused with [`Status::ReadFault`], or [`Status::TooLong`] with the limit. It takes time and memory in
+/// proportion to the bytes.
 pub(crate) fn read_file<H: Shelf>(
     alloc: Global,
     shelf: &mut H,
@@ -197,7 +200,8 @@ pub(crate) fn parse_instance(alloc: Global, bytes: &[u8]) -> Result<Instance, Fa
     }
 }
 
-/// The certificate of the bytes of a file, which is good for the instance. It is refused with [`Status::BadCertificate`] or [`Status::Rejected`].
+/// The certificate of the bytes of a file, which is good for the instance. It refuses with [`Status::BadCertificate`]
+/// or [`Status::Rejected`].
 pub(crate) fn parse_good(alloc: Global, inst: &Instance, bytes: &[u8]) -> Result<Cert, Fail<Status>>
     ensures { IsParsed bytes.now (IsGoodCert inst.now) (IsBadCertificate inst.now) (IsGoodText inst.now) result }
 {

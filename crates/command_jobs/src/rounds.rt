@@ -29,8 +29,9 @@ pub struct Laid {
 
 /// Reads the instance that a file describes, and lays a least round over its required edges.
 ///
-/// It is refused with [`Status::ReadFault`], [`Status::TooLong`] with [`INSTANCE_LIMIT`], [`Status::BadInstance`] or [`Status::NotJoined`]. `Fail::Memory` says only that memory was not
-/// to be had. It takes the time of reading, of least paths between all vertices and of [`postman::postman`].
+/// It refuses with [`Status::ReadFault`], [`Status::TooLong`] with [`INSTANCE_LIMIT`], [`Status::BadInstance`] or
+/// [`Status::NotJoined`]. `Fail::Memory` says only that there was not enough memory. It takes the time of reading, of
+/// least paths between all vertices and of [`postman::postman`].
 pub fn read_round<H: Shelf>(alloc: Global, shelf: &mut H, file: &str) -> Result<Laid, Fail<Status>>
     ensures read { let seen : Seen = record {
       held = H.tells;

@@ -17,7 +17,7 @@ pub enum Status {
     Accepted,
     /// A command that answers nothing else was done.
     Done,
-    /// The certificate reads and is not good; this is its first reason.
+    /// The certificate reads and is not good. This is its first reason.
     Rejected(Reason),
     /// The words are no command.
     BadUsage,
@@ -29,11 +29,11 @@ pub enum Status {
     ReadFault,
     /// A file could not be kept, or a text could not be written.
     WriteFault,
-    /// Memory was not to be had. Nothing was kept, and nothing written.
+    /// There was not enough memory. Nothing was kept, and nothing written.
     Memory,
     /// A file has more bytes than this limit.
     TooLong(u64),
-    /// The required edges do not hang together with the depot; this is the least one apart.
+    /// The required edges do not hang together with the depot. This is the least edge that is apart.
     NotJoined(u32),
     /// The edits have this fault, or the edited instance.
     BadEdit(EditFault),
@@ -42,8 +42,8 @@ pub enum Status {
 impl Status {
     ghost use Rattle.command_jobs.specs.Codes.{code_of};
 
-    /// The status code of the process: 0 where the command was done, 1 where a plan or a fleet was found with a gap, 2 where a certificate was
-    /// rejected, and from 3 to 11 otherwise.
+    /// The status code of the process: 0 if the command was done, 1 if a plan or a fleet was found with a gap, 2 if a
+    /// certificate was rejected, and from 3 to 11 otherwise.
     pub fn code(&self) -> u8
         ensures { result ≡ code_of self.now }
     {

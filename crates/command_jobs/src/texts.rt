@@ -24,8 +24,8 @@ struct Changed {
     after: Instance,
 }
 
-/// What three texts say: the instance first, then the certificate for it, then the edits. The first one that is bad is refused. The bytes of an instance and of
-/// a certificate are given up as soon as they are read.
+/// What three texts say: the instance first, then the certificate for it, then the edits. It refuses the first one that
+/// is bad. It gives up the bytes of an instance and of a certificate as soon as it has read them.
 pub(crate) fn parse_texts(
     alloc: Global,
     file: Vec<u8>,

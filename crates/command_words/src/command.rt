@@ -1,7 +1,7 @@
 // The commands.
 
-/// A command, with its names and its numbers. A name is not empty and does not begin with `-`, and no two names have the same bytes; two names of one file, as `a` and
-/// `./a`, are not noticed.
+/// A command, with its names and its numbers. A name is not empty and does not begin with `-`, and no two names have
+/// the same bytes. It is not noticed if two names, as `a` and `./a`, are of one file.
 #[derive(Drop)]
 pub enum Command<'a> {
     /// Solves the instance of `file`, and keeps the certificate at `cert`.
@@ -52,7 +52,8 @@ pub enum Command<'a> {
         /// The most turns of the search: 1 to 1,048,576.
         turns: u64,
     },
-    /// Edits the instance of `file` by `edits`, keeps it at `edited`, and keeps the certificate of `cert`, carried over to it, at `carried`.
+    /// Edits the instance of `file` by `edits`, keeps it at `edited`, and keeps the certificate of `cert`, carried over
+    /// to it, at `carried`.
     Edit {
         file: &'a str,
         cert: &'a str,

@@ -1,10 +1,11 @@
 //! The words of a command line.
 //!
-//! [`read_words`] gives the [`Command`] that they name, where they are in plain form: a verb, its names, and then its options, each at most
-//! once and in any order. What each verb takes is the table `forms` of `specs/Words.antt`; what each command reads and keeps is told by
-//! `specs/Commands.antt`.
+//! [`read_words`] gives the [`Command`] that they name, if they are in plain form: a verb, its names, and then its
+//! options, each at most once and in any order. The table `forms` of `specs/Words.antt` says what each verb takes.
+//! `specs/Commands.antt` says what each command reads and keeps.
 //!
-//! Inside, `plain` tests the form, and `grammar` has plain words read by `clap`, whose reading is proved to be that of the table.
+//! Inside, `plain` tests the form, and `grammar` has plain words read by `clap`, whose reading is proved to be that of
+//! the table.
 #![tactic(auto)]
 
 mod command;

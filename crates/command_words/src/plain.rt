@@ -19,7 +19,7 @@ struct Takes {
     seed: bool,
 }
 
-/// What follows a verb that takes an instance and a certificate alone.
+/// What follows a verb that takes only an instance and a certificate.
 const TWO_NAMES: Takes = Takes {
     names: 2,
     turns: false,

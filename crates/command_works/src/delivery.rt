@@ -18,6 +18,6 @@ pub struct Delivery<'a> {
     pub kept: Vec<Kept<'a>>,
     /// What is written after all is kept.
     pub text: Vec<u8>,
-    /// The answer where no keep and no put fails.
+    /// The answer if no keep and no put fails.
     pub status: Status,
 }

@@ -19,8 +19,8 @@ use plan_print::{push_line, push_words};
 use std::alloc::Global;
 use town_maker::town;
 
-/// Solves the town of a number with so many turns, and with the aid of the helpers, which are seeded from it on; checks the certificate, and
-/// sums up what came of it.
+/// Solves the town of a number with so many turns, and with the aid of the helpers, which are seeded from it on. Checks
+/// the certificate, and sums up what came of it.
 pub(crate) fn drill<'a, P: Proposer>(
     alloc: Global,
     turns: u64,

@@ -15,7 +15,8 @@ use dat_text::write_dat;
 use plan_print::{push_gap, push_line, push_words};
 use std::alloc::Global;
 
-/// The edited instance, to be kept under the first name, and the certificate that is carried over to it, to be kept under the second.
+/// The edited instance, to be kept under the first name, and the certificate that is carried over to it, to be kept
+/// under the second.
 pub(crate) fn keep_edited<'a>(
     alloc: Global,
     read: &Edited,

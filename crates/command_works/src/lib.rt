@@ -1,8 +1,12 @@
 //! What a command makes: texts to be kept, a text to be written, and a status.
 //!
-//! [`make`] does a job whose files are read, and gives a [`Delivery`]: nothing is kept or written here, so that all of it can be built
-//! before anything is. `solving` and `drilling` solve instances, `fleets` counts vehicles, `rounds` spells a walk of the postman, `editing` carries a certificate over, and `answers` spells what the other commands
-//! make.
+//! [`make`] does a job whose files are read, and gives a [`Delivery`]. It keeps and writes nothing, so that all of it
+//! can be built before anything is kept or written.
+//!
+//! - `solving`, `drilling`: instances that are solved.
+//! - `fleets`: a count of vehicles. `rounds`: a walk of the postman.
+//! - `editing`: a certificate that is carried over.
+//! - `answers`: what the other commands make.
 #![tactic(auto)]
 
 mod answers;

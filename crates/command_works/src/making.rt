@@ -16,10 +16,12 @@ use command_jobs::Job;
 use plan_model::Proposer;
 use std::alloc::Global;
 
-/// Does a job, with the aid of the helpers where it solves an instance: they are seeded from the job's seed on. All other jobs leave them as they are.
+/// Does a job. If it solves an instance, the helpers aid it, and are seeded from the job's seed on. All other jobs
+/// leave the helpers as they are.
 ///
-/// Its error says only that memory was not to be had. It takes the time of what the job asks for ([`carp_engine::solve`], [`fleet_pack::pack`], [`cert_transfer::carry`]) and of the
-/// texts, all of which are held at once.
+/// Its error says only that there was not enough memory. It takes the time of what the job asks for
+/// ([`carp_engine::solve`], [`fleet_pack::pack`], [`cert_transfer::carry`]) and of the texts, all of which are held at
+/// once.
 pub fn make<'a, P: Proposer>(
     alloc: Global,
     job: &Job<'a>,

@@ -12,8 +12,8 @@ use plan_model::Proposer;
 use plan_print::report;
 use std::alloc::Global;
 
-/// Solves an instance with so many turns, and with the aid of the helpers, which are seeded from the seed on; and builds the texts of its certificate, which is to be
-/// kept under this name, and of its report.
+/// Solves an instance with so many turns, and with the aid of the helpers, which are seeded from the seed on. Builds
+/// the texts of its certificate, which is to be kept under this name, and of its report.
 pub(crate) fn solve_instance<'a, P: Proposer>(
     alloc: Global,
     inst: &Instance,

@@ -1,7 +1,12 @@
 //! Sets of vertices without the depot, what every lawful plan does at their border, and a pool of such sets.
 //!
-//! A [`Shore`] is a set of vertices, which contracts see as its rising list. [`need`] is a number of deadheads that every
-//! lawful plan has over it at least, by the law [`need_is_met`]. A [`ShorePool`] numbers shores in the order of discovery.
+//! A [`Shore`] is a set of vertices, which contracts see as its rising list. [`need`] is a number of deadheads that
+//! every lawful plan has over it at least, by the law [`need_is_met`]. A [`ShorePool`] numbers shores in the order of
+//! discovery.
+//!
+//! - `shore`, `border`: a set of vertices, and what the required edges at its border ask for.
+//! - `pool`: shores in the order of discovery.
+//! - `laws`: what is proved of all lawful plans.
 #![tactic(auto)]
 
 mod border;

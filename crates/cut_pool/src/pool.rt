@@ -41,9 +41,10 @@ impl ShorePool {
         }
     }
 
-    /// The number of the equal shore that is there, or else the shore is placed last and gets the next number.
+    /// The number of the equal shore that is there. If there is none, the shore is placed last and gets the next
+    /// number.
     ///
-    /// A shore that is there is always found, and the pool stays as it is. `PoolFull` comes exactly where 2,000 shores are
+    /// A shore that is there is always found, and the pool stays as it is. `PoolFull` comes exactly if 2,000 shores are
     /// held and none is equal. A refused shore is dropped, and the pool stays as it was. It takes expected time in
     /// proportion to the number of the shore's vertices.
     pub fn add(&mut self, s: Shore) -> Result<u32, Fail<PoolFull>>

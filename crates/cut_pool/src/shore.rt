@@ -14,8 +14,8 @@ use std::alloc::Global;
 use std::hash::{Hash, Hasher};
 use std::marker::Model;
 
-/// A set of numbers that is not empty; [`Shore::belongs`] tells whether it is a set of vertices of an instance without the
-/// depot. Contracts see its rising list.
+/// A set of numbers that is not empty. [`Shore::belongs`] tells whether it is a set of vertices of an instance without
+/// the depot. Contracts see its rising list.
 ///
 /// It keeps a mark for each vertex up to its greatest, so that each look takes constant time.
 #[derive(Drop)]
@@ -71,8 +71,8 @@ impl Hash for Shore {
 impl Shore {
     /// The set of the vertices of a list that is not empty and rises strictly.
     ///
-    /// It takes memory and time in proportion to the greatest vertex, which is at most 2^32 - 1: a byte for each number up to
-    /// it, besides the list. `Memory` says only that memory was not to be had.
+    /// It takes memory and time in proportion to the greatest vertex, which is at most 2^32 - 1: a byte for each number
+    /// up to it, besides the list. `Memory` says only that there was not enough memory.
     pub fn from_list(alloc: Global, list: &[u32]) -> Result<Shore, Memory>
         requires { IsShore list.now }
         ensures { IfOk result (λ shore. shore ≡ list.now) }

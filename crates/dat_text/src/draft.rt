@@ -59,7 +59,7 @@ impl Draft {
         }
     }
 
-    /// Takes a key with its number, if it did not stand before; says whether it did not.
+    /// Takes a key with its number, if it did not stand before. Says whether it did not.
     fn state(&mut self, key: Key, number: Option<u64>) -> bool
         requires { is_some number ≡ has_number key }
         ensures { (said : LatestFirst) → Matches said self.old
@@ -177,7 +177,7 @@ impl Draft {
     }
 }
 
-/// Whether a count, where it is stated, is the length of its list.
+/// Whether a count, if it is stated, is the length of its list.
 fn agree(key: Key, stated: Option<u64>, found: usize) -> Result<(), DatFault>
     ensures { MatchResult result (λ _. IfSome stated (λ n. n ≡ found)) (λ fault. IsSomeAnd stated (λ n. (n ≢ found) × (fault ≡ CountDiffers key n found))) }
 {

@@ -6,11 +6,13 @@ use thiserror::Error;
 
 /// Why bytes are no text of a valid instance. Lines are numbered from 1.
 ///
-/// The first bad line is answered. Where no line is bad, a missing key comes first, in the order of `VERTICES`, `ARISTAS_REQ`, `CAPACIDAD` and `DEPOSITO`; then a
-/// count that differs from the length of its list, that of the required edges first; then the fault of the instance that the text describes.
+/// The first bad line comes first. If no line is bad, a missing key comes first, in the order of `VERTICES`,
+/// `ARISTAS_REQ`, `CAPACIDAD` and `DEPOSITO`. Next comes a count that differs from the length of its list, that of the
+/// required edges first. Last comes the fault of the instance that the text describes.
 #[derive(Clone, Copy, Debug, PartialEq, Eq, Error)]
 pub enum DatFault {
-    /// The line has a key, or its first byte that is no blank is `(`, and not the shape of such a line; or no list is open there.
+    /// The line has a key, or its first byte that is no blank is `(`, but it does not have the shape of such a line, or
+    /// no list is open there.
     #[error("line {0} cannot be read")]
     Syntax(u64),
     /// The key stands nowhere.

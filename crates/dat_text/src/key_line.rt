@@ -36,7 +36,7 @@ fn stated_at(text: &[u8]) -> Option<&[u8]>
     if is_end(rest) { Some(digits) } else { None }
 }
 
-/// The number that a key states, or none where the key opens a list.
+/// The number that a key states, or none if the key opens a list.
 pub(crate) fn read_key(key: Key, text: &[u8]) -> Result<Option<u64>, LineFault>
     ensures { MatchResult result (ReadsKey key text.now) (FailsKey key text.now) }
 {

@@ -14,7 +14,8 @@ pub fn written_is_read()
     ensures { WrittenIsRead }
 {}
 
-/// The text that is written of an instance has at most 4,194,304 bytes, so that a reader with this limit refuses none for its length.
+/// The text that is written of an instance has at most 4,194,304 bytes, so that a reader with this limit refuses none
+/// for its length.
 pub fn written_is_short()
     ensures { WrittenIsShort }
 {}

@@ -37,12 +37,19 @@ fn read_text(alloc: Global, bytes: &[u8]) -> Result<Described, Fail<DatFault>>
 
 /// Reads an instance text of fewer than 2^32 bytes.
 ///
-/// Lines end in LF. A line is a key with its number, a list key, an edge of the last list, or it is skipped. A line
-/// of the required list is `( u, v) coste c demanda d`, and may end in `servicio s`; without it the service cost is
-/// the cost. A line of the other list is `( u, v) coste c`, and a `demanda` may follow whose digits are all 0. Keys and words stand in any case.
+/// Lines end in LF. A line is a key with its number, a list key, an edge of the last list, or it is skipped. A line of
+/// the required list is `( u, v) coste c demanda d`, and may end in `servicio s`. Without it the service cost is the
+/// cost. A line of the other list is `( u, v) coste c`, and a `demanda` may follow whose digits are all 0. Keys and
+/// words stand in any case.
 ///
-/// Where the bytes are no such text of a valid instance, the first fault is answered. The work grows with the number
-/// of bytes, and the memory with the number of edges.
+/// If the bytes are no such text of a valid instance, the answer is the first fault. The work grows with the number of
+/// bytes, and the memory with the number of edges.
+///
+/// ```
+/// let text = b"VERTICES : 2\nARISTAS_REQ : 1\nCAPACIDAD : 1\nLISTA_ARISTAS_REQ :\n( 1, 2) coste 5 demanda 1\nDEPOSITO : 1\n";
+/// let inst = read_dat(alloc, text)?;
+/// assert_eq!(rt; (inst.vertices(), inst.required(), inst.capacity()), (2, 1, 1));
+/// ```
 pub fn read_dat(alloc: Global, bytes: &[u8]) -> Result<Instance, Fail<DatFault>>
     requires { length bytes.now < 2 ^ 32 }
     ensures read { IfOk result (λ inst. IsTextOf bytes.now inst) }

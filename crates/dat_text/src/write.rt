@@ -12,6 +12,11 @@ use std::alloc::Global;
 
 /// The `.dat` text of an instance, in time linear in its length. Each line ends in LF, and numbers are plain decimals.
 /// [`crate::read_dat`] reads it as the same instance.
+///
+/// ```
+/// let text = write_dat(alloc, &inst)?;
+/// assert!(rt; text.starts_with(b"NOMBRE : carp\n"));
+/// ```
 #[tactic(auto, unfolding(crate::specs::DatText::dat_of))]
 pub fn write_dat(alloc: Global, inst: &Instance) -> Result<Vec<u8>, Memory>
     ensures text { IfOk result (λ text. text.items ≡ dat_of inst.now) }

@@ -8,16 +8,16 @@ pub fn least_prices_are_distances()
     ensures staying { LeastPriceOfStaying }
 {}
 
-/// Where steps lead from one vertex of a valid instance to another there is a least price, few steps have it, and so tasks
-/// on required edges have a least deadhead.
+/// If steps lead from one vertex of a valid instance to another, there is a least price. Few steps have it, and so
+/// tasks on required edges have a least deadhead.
 pub fn least_prices_are_there()
     ensures found { LeastPriceOrNone }
     ensures few_steps { FewStepsAreLeast }
     ensures tasks { LeastDeadheadIsThere }
 {}
 
-/// The services of a lawful walk that serves are a relaxed tour; the least deadhead of a walk's services is at most what its
-/// other steps cost, and a walk by least paths costs just its services and that.
+/// The services of a lawful walk that serves are a relaxed tour. The least deadhead of a walk's services is at most
+/// what its other steps cost. A walk by least paths costs just its services and that least deadhead.
 pub fn walks_are_task_tours()
     ensures tour { WalkIsTaskTour }
     ensures least { LeastDeadheadIsLeast }

@@ -8,10 +8,17 @@ use carp_base::{Instance, Memory};
 use road_network::Network;
 use std::alloc::Global;
 
-/// The least prices between all pairs of vertices, and the steps that have them, where crossing an edge without
-/// service costs its price. It takes one price for each edge, at most 4 * 10^18, and the network of the instance.
+/// The least prices between all pairs of vertices, and the steps that have them. A crossing of an edge without service
+/// costs the edge's price. It takes one price for each edge, at most 4 * 10^18, and the network of the instance.
 ///
-/// With n vertices and m edges it takes time in proportion to n (n + m) log n, and space to n^2.
+/// With n vertices and m edges it takes time in proportion to n (n + m) log n (Dijkstra 1959, once for each vertex),
+/// and space to n^2.
+///
+/// ```
+/// let net = Network::new(alloc, &inst)?;
+/// let dist = distances(alloc, &inst, &net, &cost_prices(alloc, &inst)?)?;
+/// assert_eq!(rt; dist.get(1, 2), Some(5));
+/// ```
 pub fn distances(
     alloc: Global,
     inst: &Instance,
@@ -40,7 +47,7 @@ pub fn distances(
     })
 }
 
-/// The cost of each edge, as its price.
+/// The cost of each edge, as its price, in the order of the edges. It takes time and memory in proportion to the edges.
 pub fn cost_prices(alloc: Global, inst: &Instance) -> Result<Vec<u64>, Memory>
     ensures value { IfOk result (λ prices. prices.items ≡ costs_of inst.now) }
     ensures fit { IfOk result (λ prices. ArePrices inst.now prices.items) }

@@ -43,7 +43,8 @@ impl Distances {
         (to as usize - 1) * (self.inst.vertices() as usize + 1) + from as usize
     }
 
-    /// The least price of a list of steps from one vertex to another, at most 4 * 10^21; `None` where no steps lead there.
+    /// The least price of a list of steps from one vertex to another, at most 4 * 10^21. It is `None` if no steps lead
+    /// there.
     pub fn get(&self, from: u32, to: u32) -> Option<u128>
         requires from { IsVertex self.now.problem from }
         requires to { IsVertex self.now.problem to }
@@ -58,8 +59,8 @@ impl Distances {
         }
     }
 
-    /// Adds steps of the least price from one vertex to another, where some lead there, to a walk of fewer than 2^32 - 1000
-    /// steps. Of such steps they are the fewest.
+    /// Adds steps of the least price from one vertex to another, if some lead there, to a walk of fewer than
+    /// 2^32 - 1000 steps. Of such steps they are the fewest.
     ///
     /// It takes time in proportion to the steps that it adds.
     pub fn follow(&self, walk: &mut Walk, from: u32, to: u32) -> Result<(), Memory>
@@ -83,8 +84,8 @@ impl Distances {
         Ok(())
     }
 
-    /// Steps of the least price from one vertex to another, of such steps the fewest, and fewer than the instance has
-    /// vertices; `None` where no steps lead there.
+    /// Steps of the least price from one vertex to another, and of such steps the fewest, which are fewer than the
+    /// instance has vertices. It is `None` if no steps lead there.
     pub fn path(&self, alloc: Global, from: u32, to: u32) -> Result<Option<Walk>, Memory>
         requires from { IsVertex self.now.problem from }
         requires to { IsVertex self.now.problem to }

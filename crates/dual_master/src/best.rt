@@ -19,18 +19,23 @@ use road_network::Network;
 use route_pricing::Table;
 use std::alloc::Global;
 
-/// The best of the sets of the floors Shell, Ratio and Join: the one of the greatest value without decisions, divided by its
-/// denominator. So the set fits under every branch, and its value is at least each of the three floors, as fractions. It has no groups.
+/// The best of the sets of the floors Shell, Ratio and Join: the one of the greatest value without decisions, divided
+/// by its denominator. So the set fits under every branch, and its value is at least each of the three floors, as
+/// fractions. It has no groups.
 ///
-/// The pool holds afterwards the shores of that floor, each with a weight of the set (none where it is Ratio). The set's value divided by its
-/// denominator is exactly Shell or Ratio where their shores are held, and what the shores of Join need where those are held, which may be
-/// above Join; so the floor is one of greatest value. Behind its shores the pool holds, in rising order of the vertex and while fewer than 2,000 are held, the shore of each single vertex but the depot that is not held already and over which
-/// some deadhead is needed (`cut_pool::need`, Belenguer and Benavent 1998).
+/// Afterwards the pool holds the shores of that floor, each with a weight of the set. They are those of Shell, and the
+/// set's value divided by its denominator is exactly Shell. Or they are those of Join, and that quotient is what they
+/// need, which may be above Join. Or there are none, and the quotient is exactly Ratio. So the floor is one of greatest
+/// value.
 ///
-/// It asks for the network, for distances by cost, for a table that was made for the instance, which it fills, and for an empty
-/// pool. The one error is want of memory, after which all shores of the pool belong to the instance. It takes the time of the
-/// three floors and of three values; with n vertices and m required edges the shores of single vertices take time in proportion
-/// to n (n + m).
+/// Behind these shores the pool holds shores of single vertices, in rising order of the vertex and while fewer than
+/// 2,000 are held: the shore of each vertex except the depot that is not held already and over which some deadhead is
+/// needed (`cut_pool::need`, Belenguer and Benavent 1998).
+///
+/// It asks for the network, for distances by cost, for a table that was made for the instance, which it fills, and for
+/// an empty pool. The only error is want of memory, after which all shores of the pool belong to the instance. It takes
+/// the time of the three floors and of three values. With n vertices and m required edges the shores of single vertices
+/// take time in proportion to n (n + m).
 pub fn floors(
     alloc: Global,
     inst: &Instance,

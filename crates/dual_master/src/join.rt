@@ -15,17 +15,19 @@ use matching_duals::join_bound;
 use road_network::Network;
 use std::alloc::Global;
 
-/// The set of the Join floor: services at cost, and on each shore that shows the least join its weight, with the denominator 2,
-/// since those weights are in halves (Edmonds and Johnson 1973).
+/// The set of the Join floor: services at cost, and on each shore that shows the least join its weight. The denominator
+/// is 2, since those weights are in halves (Edmonds and Johnson 1973).
 ///
-/// The Join floor is the service costs and the least cost of deadheads that make the number of crossings at each vertex even.
-/// The set fits under every branch, since over each edge the halves sum to at most twice its cost, and its value divided by its
-/// denominator is at least the floor, since an odd number of required edges cross each shore, and so one deadhead at least. It is above
-/// the floor where a shore needs more than one, since each shore counts as often as it needs a deadhead.
+/// The Join floor is the service costs and the least cost of deadheads that make the number of crossings at each vertex
+/// even. The set fits under every branch, since over each edge the halves sum to at most twice its cost. Its value
+/// divided by its denominator is at least the floor, since an odd number of required edges cross each shore, and so one
+/// deadhead at least. It is above the floor if a shore needs more than one, since each shore counts as often as it
+/// needs a deadhead.
 ///
-/// It asks for the network, for distances by cost and for an empty pool, in which it leaves the shores, at most 1,999, each with a weight. The one
-/// error is want of memory, after which all shores of the pool belong to the instance. It takes the time of
-/// [`matching_duals::join_bound`], and with m required edges time in proportion to m and to the sizes of the shores.
+/// It asks for the network, for distances by cost and for an empty pool, in which it leaves the shores, at most 1,999,
+/// each with a weight. The only error is want of memory, after which all shores of the pool belong to the instance. It
+/// takes the time of [`matching_duals::join_bound`], and with m required edges time in proportion to m and to the sizes
+/// of the shores.
 pub fn join_prices(
     alloc: Global,
     inst: &Instance,

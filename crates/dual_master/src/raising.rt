@@ -23,18 +23,19 @@ use shore_prices::shore_prices;
 use std::alloc::Global;
 use tight_prices::{fits, tighten};
 
-/// A price set that fits under a branch and whose value, divided by its denominator, is no less than that of a start that fits there.
-/// No single number of it can be raised: neither a price, nor the weight of a shore of one vertex that the pool held before and over
-/// which some deadhead is needed (`tight_prices`).
+/// A price set that fits under a branch and whose value, divided by its denominator, is no less than that of a start
+/// that fits there. No single number of it can be raised: neither a price, nor the weight of a shore of one vertex that
+/// the pool held before and over which some deadhead is needed (`tight_prices`).
 ///
-/// Where `rounds` is above 0, the linear program over shores is solved in up to so many rounds of search for shores that it leaves short
-/// (`shore_prices`), and its set is taken if it fits and is better; from the better one prices and weights ascend along relaxed tours in
-/// up to so many steps (`price_ascent`), and that set is taken in the same way. Shores with a weight are placed in the pool behind those that it
-/// held, while it holds fewer than 2,000. From a start without groups comes a set without groups.
+/// If `rounds` is above 0, it solves the linear program over shores in up to so many rounds of search for shores that
+/// it leaves short (`shore_prices`), and takes that set if it fits and is better. From the better one prices and
+/// weights ascend along relaxed tours in up to so many steps (`price_ascent`), and it takes that set in the same way.
+/// Shores with a weight are placed in the pool behind those that it held, while it holds fewer than 2,000. From a start
+/// without groups comes a set without groups.
 ///
-/// It asks for the network, for a table that was made for the instance, which it fills, for a branch whose pairs are of required edges,
-/// and for a pool whose shores belong to the instance; so do the shores that it adds. The one error is want of memory. It takes the
-/// time of the rounds and of `tight_prices::tighten`.
+/// It asks for the network, for a table that was made for the instance, which it fills, for a branch whose pairs are of
+/// required edges, and for a pool whose shores belong to the instance. The shores that it adds belong to the instance
+/// too. The only error is want of memory. It takes the time of the rounds and of `tight_prices::tighten`.
 pub fn raise(
     alloc: Global,
     inst: &Instance,

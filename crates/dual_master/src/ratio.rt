@@ -19,16 +19,17 @@ const NOTHING: Ratio = Ratio {
     load: 1,
 };
 
-/// The set of the Ratio floor: where a / b is the least deadhead divided by load over all relaxed tours in which no edge
+/// The set of the Ratio floor. If a / b is the least deadhead divided by load over all relaxed tours in which no edge
 /// follows itself, the denominator is b, and the price of an edge is b times its service cost and a times its demand.
 ///
-/// The Ratio floor is the service costs and the total demand times a / b (relaxed tours: Christofides, Mingozzi and Toth 1981).
-/// The set has no weights, so it says nothing of a pool.
-/// It fits under every branch, since the deadhead of each relaxed tour divided by its load is at least a / b, and its value divided by its
-/// denominator is exactly the floor. Where no edge is required it is the empty set with the denominator 1, of the value 0.
+/// The Ratio floor is the service costs and the total demand times a / b (relaxed tours: Christofides, Mingozzi and
+/// Toth 1981). The set has no weights, so it says nothing of a pool. It fits under every branch, since the deadhead of
+/// each relaxed tour divided by its load is at least a / b. Its value divided by its denominator is exactly the floor.
+/// If no edge is required, it is the empty set with the denominator 1, of the value 0.
 ///
-/// It asks for distances by cost and for a table that was made for the instance, and fills the table. The one error is want of
-/// memory. With m required edges it takes one filling of the table, one look over it, and m * m steps for the pairs.
+/// It asks for distances by cost and for a table that was made for the instance, and fills the table. The only error is
+/// want of memory. With m required edges it takes one filling of the table, one look over it, and m * m steps for the
+/// pairs.
 pub fn ratio_prices(
     alloc: Global,
     inst: &Instance,

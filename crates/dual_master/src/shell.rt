@@ -18,13 +18,14 @@ use std::alloc::Global;
 /// The set of the Shell floor: services at cost, and on the level set of each distance its number of levels, with the
 /// denominator 1.
 ///
-/// The Shell floor is the service costs, and for each whole t from 0 on the need (Belenguer and Benavent 1998) of the set of the
-/// vertices that the depot reaches at a distance by cost above t. The set fits under every branch, since over each edge the
-/// weights sum to at most its cost, and its value is exactly the floor.
+/// The Shell floor is the service costs, and for each whole t from 0 on the need (Belenguer and Benavent 1998) of the
+/// set of the vertices that the depot reaches at a distance by cost above t. The set fits under every branch, since
+/// over each edge the weights sum to at most its cost, and its value is exactly the floor.
 ///
-/// It asks for distances by cost and for an empty pool, in which it leaves the level sets, nearest first, each with a weight. The one error is want
-/// of memory, after which all shores of the pool belong to the instance. With n vertices and m required edges it takes one sort
-/// of the distances, and time and memory in proportion to n times the number of level sets, and to m.
+/// It asks for distances by cost and for an empty pool, in which it leaves the level sets, nearest first, each with a
+/// weight. The only error is want of memory, after which all shores of the pool belong to the instance. With n vertices
+/// and m required edges it takes one sort of the distances, and time and memory in proportion to n times the number of
+/// level sets, and to m.
 pub fn shell_prices(
     alloc: Global,
     inst: &Instance,

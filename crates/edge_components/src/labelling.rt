@@ -127,11 +127,12 @@ fn label_all(
     Ok(())
 }
 
-/// For each vertex the least vertex of its component, where edges with at least `least` parts join their ends; the label of
-/// vertex v stands at place v, and place 0 is not used.
+/// For each vertex the least vertex of its component, if edges with at least `least` parts join their ends. The label
+/// of vertex v stands at place v, and place 0 is not used.
 ///
-/// `x` has one number of parts for each edge, in the order of the edges, which may be any. With `least` 0 every edge joins its
-/// ends. The one error is want of memory. It takes time and memory in proportion to the vertices and edges.
+/// `x` has one number of parts for each edge, in the order of the edges. The numbers may be any. With `least` 0 every
+/// edge joins its ends. The only error is want of memory. It takes time and memory in proportion to the vertices and
+/// edges.
 pub fn label_components(
     alloc: Global,
     inst: &Instance,

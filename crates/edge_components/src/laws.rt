@@ -6,13 +6,13 @@ pub fn vertices_are_listed()
     ensures { VerticesAreListed }
 {}
 
-/// The border of a set depends on its vertices alone: tests that agree at each vertex of an instance have as many required
-/// crossings, as much touched demand, and as many parts over them.
+/// The border of a set depends only on its vertices. Tests that agree at each vertex of an instance have as many
+/// required crossings, as much touched demand, and as many parts over them.
 pub fn equal_sets_have_one_border()
     ensures { EqualSetsHaveOneBorder }
 {}
 
-/// Where just those labels are marked that are the least vertices of components without the depot whose borders pass a
+/// If just those labels are marked that are the least vertices of components without the depot whose borders pass a
 /// test, the marked labels are their own, and their shores are just these components.
 pub fn kept_labels_are_components()
     ensures components { KeptLabelsAreComponents }

@@ -1,9 +1,15 @@
 //! Components of the edges of an instance with at least so many parts of deadheads, and what lies at their borders.
 //!
-//! Deadheads may be fractions: each edge has a whole number of parts of a unit. [`label_components`] gives each vertex the
-//! least vertex of its component, [`crossings_by_label`], [`demand_by_label`] and [`parts_by_label`] add up what the edges
-//! at the border of each component have, and [`list_marked`] makes shores of some of them. Each takes time in proportion
-//! to the vertices and edges, and [`list_marked`] besides in proportion to the greatest vertices of its shores.
+//! Deadheads may be fractions: each edge has a whole number of parts of a unit. [`label_components`] gives each vertex
+//! the least vertex of its component. [`crossings_by_label`], [`demand_by_label`] and [`parts_by_label`] add up what
+//! the edges at the border of each component have. [`list_marked`] makes shores of some of them. Each takes time in
+//! proportion to the vertices and edges, and [`list_marked`] besides in proportion to the greatest vertices of its
+//! shores.
+//!
+//! - `labelling`: the search that labels one component after another.
+//! - `tallies`: what the edges at the border of each component add up to.
+//! - `listing`: shores of the vertices of one label.
+//! - `laws`: what is proved of all labels.
 #![tactic(auto)]
 
 mod examples;

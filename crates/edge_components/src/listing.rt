@@ -62,8 +62,8 @@ fn add_marked(
 
 /// The shores of the marked labels, in the order of the labels: for each its vertices.
 ///
-/// A marked vertex has itself as its label. The one error is want of memory. It takes time and memory in proportion to the
-/// vertices, and to the greatest vertices of the shores.
+/// A marked vertex has itself as its label. The only error is want of memory. It takes time and memory in proportion to
+/// the vertices, and to the greatest vertices of the shores.
 pub fn list_marked(
     alloc: Global,
     inst: &Instance,

@@ -89,8 +89,8 @@ fn sum_parts(inst: &Instance, labels: &[u32], x: &[u64], tallies: &mut [u64])
 
 /// For each label the number of required edges with exactly one end at a vertex of this label, at most 600.
 ///
-/// The number of label r stands at place r; no vertex has label 0. The one error is want of memory. It takes time and memory
-/// in proportion to the vertices and required edges.
+/// The number of label r stands at place r. No vertex has label 0. The only error is want of memory. It takes time and
+/// memory in proportion to the vertices and required edges.
 pub fn crossings_by_label(
     alloc: Global,
     inst: &Instance,
@@ -106,11 +106,11 @@ pub fn crossings_by_label(
     Ok(counts)
 }
 
-/// For each label the demand of the required edges with at least one end at a vertex of this label, at most 18,000,000; an
-/// edge with both ends at such vertices counts once.
+/// For each label the demand of the required edges with at least one end at a vertex of this label, at most 18,000,000.
+/// An edge with both ends at such vertices counts once.
 ///
-/// The sum of label r stands at place r. The one error is want of memory. It takes time and memory in proportion to the
-/// vertices and required edges.
+/// The sum of label r stands at place r. The only error is want of memory. It takes time and memory in proportion to
+/// the vertices and required edges.
 pub fn demand_by_label(alloc: Global, inst: &Instance, labels: &[u32]) -> Result<Vec<u64>, Memory>
     requires { AreInRange inst.now labels.now }
     ensures long { IfOk result (λ sums. length sums.items ≡ inst.now.vertices + 1) }
@@ -122,11 +122,11 @@ pub fn demand_by_label(alloc: Global, inst: &Instance, labels: &[u32]) -> Result
     Ok(sums)
 }
 
-/// For each label the parts on the edges with exactly one end at a vertex of this label, at most 4 * 10^15; an edge between
-/// two vertices of one label counts nowhere, and parallel edges each count.
+/// For each label the parts on the edges with exactly one end at a vertex of this label, at most 4 * 10^15. An edge
+/// between two vertices of one label counts nowhere. Parallel edges each count.
 ///
-/// The sum of label r stands at place r. The one error is want of memory. It takes time and memory in proportion to the
-/// vertices and edges.
+/// The sum of label r stands at place r. The only error is want of memory. It takes time and memory in proportion to
+/// the vertices and edges.
 pub fn parts_by_label(
     alloc: Global,
     inst: &Instance,

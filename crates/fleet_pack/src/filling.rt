@@ -109,9 +109,9 @@ fn filled(alloc: Global, inst: &Instance) -> Result<Grouping, Memory> {
     Ok(Grouping { groups, count })
 }
 
-/// A packing of no more groups: each group gets the heaviest edge that is left and those that fill it best (Gupta and Ho 1999), where that takes
-/// fewer groups. With m required edges it takes time in proportion to m times the total demand, and nothing is tried where that is above
-/// 200,000,000.
+/// A packing of no more groups. Each group gets the heaviest edge that is left and those that fill it best (Gupta and
+/// Ho 1999), if that takes fewer groups. With m required edges it takes time in proportion to m times the total demand.
+/// If that product is above 200,000,000, nothing is tried.
 pub(crate) fn improved(alloc: Global, inst: &Instance, best: Grouping) -> Result<Grouping, Memory>
     requires { IsGrouping inst.now best }
     ensures grouping { IfOk result (IsGrouping inst.now) }

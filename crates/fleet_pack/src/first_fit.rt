@@ -59,8 +59,8 @@ fn place(
     Ok(loads)
 }
 
-/// The packing by first fit: the edges by falling demand, and those of one demand by their numbers, each into the first group with room
-/// (Johnson 1973). It takes time in proportion to the number of required edges times that of groups.
+/// The packing by first fit: the edges by falling demand, and those of one demand by their numbers, each into the first
+/// group with room (Johnson 1973). It takes time in proportion to the number of required edges times that of groups.
 pub(crate) fn first_fit(alloc: Global, inst: &Instance) -> Result<Grouping, Memory>
     ensures grouping { IfOk result (IsGrouping inst.now) }
     ensures count { IfOk result (λ found. found.count ≡ first_fit_count inst.now) }

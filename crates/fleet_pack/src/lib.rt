@@ -1,6 +1,7 @@
 //! Few vehicles: packings of the required edges, and trees that prove how many groups every packing takes at least.
 //!
-//! - `item`, `first_fit`, `filling`, `grouping`, `judging`: packings by first fit, better ones, and whether groups are a packing.
+//! - `item`, `first_fit`, `filling`, `grouping`, `judging`: packings by first fit, better ones, and whether groups are
+//!   a packing.
 //! - `share`, `pairs`: the best share at a leaf, and the heaviest open pair.
 //! - `search`, `ending`, `numbering`: the tree that grows, its last leaves and its bound, and the groups of a branch.
 //! - `packing`: the call. `laws`: how many turns a tree can have.

@@ -42,7 +42,7 @@ fn groups_of(alloc: Global, labels: &[u32], ranks: &[u32]) -> Result<Vec<u32>, M
     Ok(groups)
 }
 
-/// The packing whose groups are the bundles of a branch, where each fits into a group.
+/// The packing whose groups are the bundles of a branch, if each fits into a group.
 pub(crate) fn grouping_of(
     alloc: Global,
     inst: &Instance,

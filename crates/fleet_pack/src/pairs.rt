@@ -80,10 +80,10 @@ fn heaviest_with(
     found
 }
 
-/// The heaviest open pair, that of the least edges where some weigh alike; none where each pair is closed.
+/// The heaviest open pair, that of the least edges if some weigh alike. There is none if each pair is closed.
 ///
-/// With m required edges and d choices it takes time in proportion to m * m and to d for each closed pair that is heavier and that only
-/// an apart choice closes.
+/// With m required edges and d choices it takes time in proportion to m * m and to d for each closed pair that is
+/// heavier and that only an apart choice closes.
 pub(crate) fn heaviest_open(
     inst: &Instance,
     bundles: &Bundles,

@@ -14,8 +14,9 @@ use carp_base::{Instance, Memory};
 use packing_trees::{Bundles, PackChoice, PackNode, bundle_count, bundles_of};
 use std::alloc::Global;
 
-/// The nodes that are done, in preorder; the choices of the leaf at hand; the shares of the leaves that are not done, that of the leaf at
-/// hand last; and the best packing. A leaf that waits is the one in which a pair is apart that the leaf at hand puts together.
+/// The nodes that are done, in preorder. The choices of the leaf at hand. The shares of the leaves that are not done,
+/// that of the leaf at hand last. The best packing. A leaf that waits is the one in which a pair is apart that the leaf
+/// at hand puts together.
 #[derive(Drop)]
 pub(crate) struct Search {
     pub(crate) nodes: Vec<PackNode>,
@@ -59,7 +60,7 @@ pub(crate) fn closed_leaves(shares: &[Share], count: u32) -> usize
 }
 
 impl Search {
-    /// The root alone.
+    /// Only the root.
     pub(crate) fn begin(alloc: Global, inst: &Instance, best: Grouping) -> Result<Search, Memory>
         requires { IsGrouping inst.now best }
         ensures search { IfOk result (IsSearch inst.now) }

@@ -7,7 +7,8 @@ use carp_base::{Instance, Memory};
 use packing_trees::{Bundles, PackChoice, bundles_of, share_value};
 use std::alloc::Global;
 
-/// The least weight that counts in a leaf's value, and that value: so many groups every packing that meets the leaf's branch takes at least.
+/// The least weight that counts in a leaf's value, and that value: so many groups every packing that meets the leaf's
+/// branch takes at least.
 #[derive(Clone, Copy)]
 pub(crate) struct Share {
     pub(crate) s: u64,

@@ -102,10 +102,10 @@ fn reached_side(alloc: Global, levels: &[u32]) -> Result<Vec<bool>, Memory>
 }
 
 /// A greatest flow from node `s` to node `t`, and a least cut between them, in a network of at most 10,000 nodes and
-/// 40,000 arcs. Its one error is want of memory.
+/// 40,000 arcs. Its only error is want of memory.
 ///
-/// The time grows at most as the number of arcs times the square of the number of nodes, and on most networks
-/// far more slowly. The memory grows as the nodes and arcs do.
+/// The time grows at most as the number of arcs times the square of the number of nodes, and on most networks far more
+/// slowly. The memory grows as the nodes and arcs do.
 pub fn max_flow(alloc: Global, nodes: u32, arcs: &[Arc], s: u32, t: u32) -> Result<Flow, Memory>
     requires network { IsNetwork nodes arcs.now }
     requires source { IsNode nodes s }

@@ -6,7 +6,7 @@ pub fn cut_bounds_flow()
     ensures { CutBoundsFlow }
 {}
 
-/// Where a flow equals the room of a cut, no flow brings more and no cut has less room.
+/// If a flow equals the room of a cut, no flow brings more and no cut has less room.
 pub fn equal_is_best()
     ensures { EqualIsBest }
 {}

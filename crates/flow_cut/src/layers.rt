@@ -18,8 +18,8 @@ pub(crate) struct Ends {
     pub target: u32,
 }
 
-/// For each node one more than its distance from the source, or 0 where it was not reached, and the residual
-/// arc over which it was reached. Place 0 is not used.
+/// For each node one more than its distance from the source, or 0 if it was not reached, and the residual arc over
+/// which it was reached. Place 0 is not used.
 #[derive(Drop)]
 pub(crate) struct Layers {
     pub level: Vec<u32>,

@@ -28,8 +28,8 @@ fn bottleneck(arcs: &[Arc], flows: &[u64], ends: Ends, layers: &Layers) -> u64
     least
 }
 
-/// Sends an amount over the way on which the target was reached. Answers the node nearest the source whose
-/// residual arc is full now, and the target where none is.
+/// Sends an amount over the way on which the target was reached. Answers the node nearest the source whose residual arc
+/// is full now, and the target if there is none.
 fn send(arcs: &[Arc], flows: &mut [u64], ends: Ends, layers: &Layers, amount: u64) -> u32
     requires network { IsNetwork ends.nodes arcs.now }
     requires apart { ends.source ≢ ends.target }

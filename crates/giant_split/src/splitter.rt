@@ -35,8 +35,8 @@ fn add_tasks(order: &mut Vec<Task>, walk: &Walk) -> Result<(), Memory>
     Ok(())
 }
 
-/// The tasks of a plan in the order in which it serves them, tour by tour. It takes time in proportion to the steps of the plan, and fails only
-/// for want of memory.
+/// The tasks of a plan in the order in which it serves them, tour by tour. It takes time in proportion to the steps of
+/// the plan. Its only error is want of memory.
 pub fn order_of(alloc: Global, plan: &Plan) -> Result<Vec<Task>, Memory>
     ensures { IfOk result (λ order. order.items ≡ all_tasks (plan_tours plan.now)) }
 {
@@ -79,13 +79,13 @@ fn improve(
     Ok(())
 }
 
-/// Finds splits: it takes the order in which the best plan so far serves, exchanges and turns services of it by
-/// draws, four for each required edge and 400 at most, keeps a change where the split is no dearer by it, and finds
-/// the split of the order that it ends with. The draws go on from plan to plan, and begin with the seed. No clause
-/// speaks of them.
+/// Finds splits. It takes the order in which the best plan so far serves, and exchanges and turns services of it by
+/// draws, four for each required edge and 400 at most. It keeps a change if the split is no dearer by it, and finds the
+/// split of the order that it ends with. The draws go on from plan to plan, and begin with the seed. No clause speaks
+/// of them.
 ///
-/// With r required edges, and s tasks that fit one tour at most, it takes time in proportion to r * r * s for up to 100 required edges,
-/// and to r * s from there on.
+/// With r required edges, and s tasks that fit one tour at most, it takes time in proportion to r * r * s for up to 100
+/// required edges, and to r * s from there on.
 #[derive(Drop)]
 pub struct SplitFinder {
     draws: Lcg64Xsh32,

@@ -41,14 +41,16 @@ fn join_tours(
     Ok(plan)
 }
 
-/// The cheapest plan whose tours, one after another, do these tasks in this order and in these directions (Beasley 1983 and
-/// Ulusoy 1985, route first and cluster second). The distances are those by cost. An empty order gives the plan of no tours.
+/// The cheapest plan whose tours, one after another, do these tasks in this order and in these directions (Beasley 1983
+/// and Ulusoy 1985, route first and cluster second). The distances are those by cost. An empty order gives the plan of
+/// no tours.
 ///
-/// The order is cut by a shortest path from its end to its start: what each rest of the order costs at least is the
-/// least, over the tours with which it can begin within the capacity, of what that tour and the rest after it cost (Lacomme, Prins
-/// and Ramdane-Cherif 2004). The tours are joined by least paths.
+/// A shortest path from the end of the order to its start cuts it. What each rest of the order costs at least is the
+/// least, over the tours with which it can begin within the capacity, of what that tour and the rest after it cost
+/// (Lacomme, Prins and Ramdane-Cherif 2004). The tours are joined by least paths.
 ///
-/// With m tasks, of which s at most fit one tour, it takes time in proportion to m * s, and to the steps that it writes.
+/// With m tasks, of which s at most fit one tour, it takes time in proportion to m * s, and to the steps that it
+/// writes.
 pub fn split(
     alloc: Global,
     inst: &Instance,

@@ -40,12 +40,13 @@ fn add_next(
     Ok(())
 }
 
-/// A lawful plan with one walk for each group of a packing, in the order of the groups. Of the groups 1 to `count`, `groups`
-/// has the one in which each required edge lies, in the order of the edges. Each walk serves the edges of its group once
-/// and no others, joined by least paths from the depot and back. The distances are those by cost. Without groups it is
-/// the plan of no walks. The only error is want of memory.
+/// A lawful plan with one walk for each group of a packing, in the order of the groups. Of the groups 1 to `count`,
+/// `groups` has the one in which each required edge lies, in the order of the edges. Each walk serves the edges of its
+/// group once and no others, joined by least paths from the depot and back. The distances are those by cost. Without
+/// groups it is the plan of no walks. The only error is want of memory.
 ///
-/// The walks are not short: each takes the edges of its group in the order of their numbers, and serves each of them forward.
+/// The walks are not short: each takes the edges of its group in the order of their numbers, and serves each of them
+/// forward.
 ///
 /// With m required edges in k groups it takes time in proportion to k * m, and to the steps that it writes.
 pub fn plan_of_groups(

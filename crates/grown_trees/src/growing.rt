@@ -14,15 +14,15 @@ use std::marker::Model;
 #[derive(Clone, Copy, Debug, PartialEq, Eq)]
 pub struct GrowingNode {
     pub node: Node,
-    /// The greatest bound that it shows; for an inner node, which shows every bound, 10^18 - 1 or more.
+    /// The greatest bound that it shows. An inner node shows every bound, and has 10^18 - 1 or more here.
     pub shows: u64,
 }
 
-/// The nodes of a tree in preorder, each with the greatest bound that it shows by itself. Memory for all nodes that are to come is
-/// taken when the tree is made.
+/// The nodes of a tree in preorder, each with the greatest bound that it shows by itself. Memory for all nodes that are
+/// to come is taken when the tree is made.
 ///
-/// Contracts see the list, and the number of nodes for which there is memory. `len`, `node` and `replace` take the same time whatever
-/// the tree; each other call takes time in proportion to the number of nodes.
+/// Contracts see the list, and the number of nodes for which there is memory. `len`, `node` and `replace` take the same
+/// time whatever the tree. Each other call takes time in proportion to the number of nodes.
 #[derive(Drop)]
 pub struct GrowingTree {
     nodes: Vec<GrowingNode>,
@@ -42,7 +42,7 @@ impl Model for GrowingTree {
 }
 
 impl GrowingTree {
-    /// The tree of one node, with memory for so many. Without memory there is an error.
+    /// The tree of one node, with memory for so many. The only error is want of memory.
     pub fn new(alloc: Global, room: usize, root: GrowingNode) -> Result<GrowingTree, Memory>
         requires { 1 ≤ room }
         ensures { IfOk result (λ tree. tree ≡ record { nodes = root ∷ []; room = room }) }
@@ -52,7 +52,7 @@ impl GrowingTree {
         Ok(GrowingTree { nodes, room })
     }
 
-    /// The tree of these nodes, with memory for so many. Without memory there is an error.
+    /// The tree of these nodes, with memory for so many. The only error is want of memory.
     pub fn of(alloc: Global, room: usize, nodes: &[GrowingNode]) -> Result<GrowingTree, Memory>
         requires { length nodes.now ≤ room }
         ensures { IfOk result (λ tree. tree ≡ record { nodes = nodes.now; room = room }) }
@@ -79,7 +79,7 @@ impl GrowingTree {
 
     /// The decisions on the way to the node at a place, from the root on. The nodes before the place tell them.
     ///
-    /// Without memory there is an error. It takes time and memory in proportion to the place.
+    /// The only error is want of memory. It takes time and memory in proportion to the place.
     pub fn branch_to(&self, alloc: Global, place: usize) -> Result<Branch, Memory>
         requires place { place < length self.now.nodes }
         requires fine { All (λ entry. IsFineNode entry.node) self.now.nodes }
@@ -88,7 +88,7 @@ impl GrowingTree {
         branch_at(alloc, &self.nodes, place)
     }
 
-    /// Puts another node in the place of a node. The list stays that of a tree where both are leaves. It takes no memory.
+    /// Puts another node in the place of a node. The list stays that of a tree if both are leaves. It takes no memory.
     pub fn replace(&mut self, place: usize, leaf: GrowingNode)
         requires { place < length self.old.nodes }
         ensures { self.new ≡ record { nodes = take place self.old.nodes ++ ((leaf ∷ []) ++ drop (place + 1) self.old.nodes); room = self.old.room } }
@@ -96,8 +96,8 @@ impl GrowingTree {
         self.nodes[place] = leaf;
     }
 
-    /// Puts a node with two behind it in the place of a node. The list stays that of a tree where the first is an inner node, and the two
-    /// and the one that gives way are leaves. It takes no memory.
+    /// Puts a node with two behind it in the place of a node. The list stays that of a tree if the first is an inner
+    /// node, and the two and the one that gives way are leaves. It takes no memory.
     pub fn split(
         &mut self,
         place: usize,
@@ -133,8 +133,8 @@ impl GrowingTree {
         least_shown(&self.nodes, cost)
     }
 
-    /// The first place of a node that does not show a cost by itself and whose number is the least of all; `None` exactly where each
-    /// node shows the cost. In a tree of sound nodes it is a leaf, where the cost is below 10^18
+    /// The first place of a node that does not show a cost by itself and whose number is the least of all, or `None`
+    /// exactly if each node shows the cost. In a tree of sound nodes it is a leaf, if the cost is below 10^18
     /// ([`sound_trees_are_lean`](crate::sound_trees_are_lean)).
     pub fn open_leaf(&self, cost: u64) -> Option<usize>
         ensures some { IfSome result (λ place. IsLeastOpen cost self.now.nodes place) }
@@ -147,7 +147,7 @@ impl GrowingTree {
         first_that_shows(&self.nodes, least)
     }
 
-    /// The nodes as a tree. Without memory there is an error. Nothing is said of its room for more nodes.
+    /// The nodes as a tree. The only error is want of memory. No clause says how much room it has for more nodes.
     pub fn tree(&self, alloc: Global) -> Result<Tree, Memory>
         ensures nodes { IfOk result (λ tree. tree.nodes ≡ map (λ entry. entry.node) self.now.nodes) }
         ensures few { length self.now.nodes ≤ self.now.room }

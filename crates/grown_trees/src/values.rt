@@ -10,8 +10,9 @@ use branch_rules::{Branch, PriceSet};
 use carp_base::Instance;
 use cut_pool::ShorePool;
 
-/// The greatest bound that a price set shows under a branch under which it fits: its value divided by its denominator, rounded
-/// up; some number of at least 10^18 where that is 10^18 or more. The bound 0 at least is shown.
+/// The greatest bound that a price set shows under a branch under which it fits: its value divided by its denominator,
+/// rounded up. It is some number of at least 10^18 if that is 10^18 or more. It is never below 0, since the bound 0 is
+/// always shown.
 ///
 /// It takes no memory, and time as [`Branch::value_at`] does.
 pub fn shown_under(inst: &Instance, pool: &ShorePool, branch: &Branch, set: &PriceSet) -> u64

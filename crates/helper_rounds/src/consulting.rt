@@ -24,11 +24,12 @@ pub enum Heard {
     Foul,
 }
 
-/// Asks a helper once, and takes its offer in place of the best plan where it is lawful and costs less, with its services
+/// Asks a helper once. If its offer is lawful and costs less, takes it in place of the best plan, with its services
 /// joined by least paths and without empty tours. After every other answer, and without memory, the best plan stays.
 /// The distances are those by cost.
 ///
-/// Beside what the helper takes, it takes time in proportion to the tours and steps of the two plans, and to the steps that it writes.
+/// Beside what the helper takes, it takes time in proportion to the tours and steps of the two plans, and to the steps
+/// that it writes.
 pub fn consult(
     alloc: Global,
     inst: &Instance,

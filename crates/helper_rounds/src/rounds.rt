@@ -96,12 +96,12 @@ fn ask_round<P: Proposer>(
     Ok(better)
 }
 
-/// Gives each helper a seed of its own, the word plus its place from 0, wrapping, and asks all of them in up to four rounds, each time in the
-/// order of the list. A lawful plan that costs less takes the place of the best one at once; after an unlawful offer a helper is not asked
-/// again. A round without a better plan is the last.
+/// Gives each helper a seed of its own, the word plus its place from 0, wrapping, and asks all of them in up to four
+/// rounds, each time in the order of the list. A lawful plan that costs less takes the place of the best one at once.
+/// After an unlawful offer a helper is not asked again. A round without a better plan is the last.
 ///
-/// The best plan is short before and after, and costs no more than before, also where the answer is `Memory`. The list keeps its helpers
-/// in their order. The distances are those by cost.
+/// The best plan is short before and after, and costs no more than before, also if the answer is `Memory`. The list
+/// keeps its helpers in their order. The distances are those by cost.
 ///
 /// Beside what the helpers take, it takes time in proportion to the tours and steps of the plans.
 pub fn ask_all<P: Proposer>(

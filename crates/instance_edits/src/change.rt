@@ -20,15 +20,16 @@ struct Change {
     closed: bool,
 }
 
-/// The instance that edits make, as [`read_edits`](crate::read_edits) gives them; at most 2^20 edits.
+/// The instance that edits make, as [`read_edits`](crate::read_edits) gives them. There are at most 2^20 edits.
 ///
-/// All that edits add to an edge is summed, and closed edges are left out, so that the edges behind them move to smaller
+/// All that edits add to an edge is summed. Closed edges are left out, so that the edges behind them move to smaller
 /// numbers. Vertices, depot and capacity stay.
 ///
-/// Where faults of the edited instance apply, it is refused for the first of them, with the edge numbers of the edited
-/// instance. `Fail::Memory` says only that memory was not to be had.
+/// If the edited instance has faults, it is refused for the first of them, with the edge numbers of the edited
+/// instance. `Fail::Memory` says only that there was not enough memory.
 ///
-/// With k edits it takes time in proportion to k and to what [`Instance::build`] takes, and memory in proportion to the edges.
+/// With k edits it takes time in proportion to k and to what [`Instance::build`] takes, and memory in proportion to the
+/// edges.
 pub fn edited(
     alloc: Global,
     inst: &Instance,

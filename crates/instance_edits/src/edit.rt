@@ -3,8 +3,8 @@
 use carp_base::InstanceFault;
 use thiserror::Error;
 
-/// An edit of an instance. Edges have their numbers, from 1, in the instance before all edits, and none is one that an earlier
-/// edit closes. What is added is 0 to 999,999,999,999, where [`read_edits`](crate::read_edits) gives it.
+/// An edit of an instance. Edges have their numbers, from 1, in the instance before all edits, and none is one that an
+/// earlier edit closes. What is added is 0 to 999,999,999,999, if [`read_edits`](crate::read_edits) gives it.
 #[derive(Clone, Copy, Debug, PartialEq, Eq)]
 pub enum Edit {
     /// Adds to the cost of an edge.
@@ -26,7 +26,7 @@ pub enum EditFault {
     /// The line names an edge that it may not name.
     #[error("line {0} names a wrong edge")]
     Unknown(u64),
-    /// The edited instance has this fault, with its edge numbers; [`read_edits`](crate::read_edits) never answers it.
+    /// The edited instance has this fault, with its edge numbers. [`read_edits`](crate::read_edits) never answers it.
     #[error("the edited instance is not valid: {0}")]
     Refused(InstanceFault),
 }

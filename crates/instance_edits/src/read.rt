@@ -13,14 +13,15 @@ use std::alloc::Global;
 ///
 /// Each line is one of `cost E N`, `service E N`, `demand E N` and `close E`, with single blanks between and LF at its
 /// end. E is the number of an edge of the instance before all edits, and N is what is added to the edge's cost, service
-/// cost or demand. Both are plain decimals of at most 12 digits: `0`, or digits of which the first is not `0`. A text of no
-/// bytes has no edits.
+/// cost or demand. Both are plain decimals of at most 12 digits: `0`, or digits of which the first is not `0`. A text
+/// of no bytes has no edits.
 ///
-/// The first line that is not of this form is refused with [`EditFault::Syntax`], as are bytes behind the last LF. The
-/// first line that names an edge that it may not name is refused with [`EditFault::Unknown`]: `cost` names any edge,
+/// It refuses the first line that is not of this form with [`EditFault::Syntax`], and so bytes behind the last LF. It
+/// refuses the first line that names an edge that it may not name with [`EditFault::Unknown`]: `cost` names any edge,
 /// `service` and `demand` a required one, `close` one that is not required, and none names an edge that an earlier line
-/// closes. Whichever of both lines stands first is answered. [`EditFault::Refused`] is never answered: whether the edited
-/// instance is valid is told by [`edited`](crate::edited). `Fail::Memory` says only that memory was not to be had.
+/// closes. The answer is the one of both that stands first. It is never [`EditFault::Refused`]:
+/// [`edited`](crate::edited) tells whether the edited instance is valid. `Fail::Memory` says only that there was not
+/// enough memory.
 ///
 /// With b bytes and m edges it takes time in proportion to b + m, and memory in proportion to the lines and to m.
 pub fn read_edits(

@@ -29,13 +29,13 @@ pub struct JoinBound {
     pub value: u64,
 }
 
-/// The least cost of deadheads that make every junction even, such deadheads, and sets of vertices with weights that
-/// show that no others cost less (Edmonds and Johnson 1973).
+/// The least cost of deadheads that make every vertex even, such deadheads, and sets of vertices with weights that show
+/// that no others cost less (Edmonds and Johnson 1973).
 ///
-/// It asks for the network of the instance and its distances by cost. The one error is want of memory. With n
-/// vertices it takes memory in proportion to n^2. The time is that of `blossom_match::match_least` for the odd
-/// vertices; besides it is in proportion to n^2, to n times the sizes of the sets of that matching together, and for
-/// each run of equal levels of a set to n and to the number of shores.
+/// It asks for the network of the instance and its distances by cost. The only error is want of memory. With n vertices
+/// it takes memory in proportion to n^2. The time is that of `blossom_match::match_least` for the odd vertices. Besides
+/// it is in proportion to n^2, to n times the sizes of the sets of that matching together, and for each run of equal
+/// levels of a set to n and to the number of shores.
 pub fn join_bound(
     alloc: Global,
     inst: &Instance,

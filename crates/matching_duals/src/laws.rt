@@ -4,12 +4,12 @@ ghost use Rattle.matching_duals.specs.Laws.{JoinIsLowerBound, PlansMakeEven, Sho
 use cut_pool::need_is_met;
 use plan_model::{deadheads_are_on_crossing_edges, required_edges_are_served_once};
 
-/// Where an odd number of required edges cross each of some sets of vertices, and over no edge the halves of the sets
-/// sum to more than twice its cost, no deadheads that make every vertex even cost less than half of the halves of all
+/// An odd number of required edges cross each of some sets of vertices, and over no edge the halves of the sets sum to
+/// more than twice its cost. Then no deadheads that make every vertex even cost less than half of the halves of all
 /// sets.
 ///
-/// Such deadheads cross each of the sets an odd number of times with the required edges, so at least once, and pay
-/// over each edge for the sets that it crosses (Edmonds and Johnson 1973).
+/// Such deadheads cross each of the sets an odd number of times with the required edges, so at least once, and pay over
+/// each edge for the sets that it crosses (Edmonds and Johnson 1973).
 pub fn shores_bound_joins()
     ensures { ShoresBoundJoins }
 {}

@@ -16,8 +16,8 @@ use std::alloc::Global;
 pub struct Bundles {
     /// At the place of each required edge's number, the number of its bundle. Place 0 is of no edge.
     pub labels: Vec<u32>,
-    /// At the place of each bundle's number, the demand of its edges, at most 18,000,000; 0 at the number of each other required edge,
-    /// and at place 0.
+    /// At the place of each bundle's number, the demand of its edges, at most 18,000,000. At the number of each other
+    /// required edge, and at place 0, it is 0.
     pub weights: Vec<u64>,
 }
 
@@ -126,9 +126,10 @@ fn add_up(weights: &mut [u64], inst: &Instance, labels: &[u32])
     }
 }
 
-/// The value of a share of size `s` under the branch whose bundles these are (Martello and Toth 1990, section 8.3). Where `s` is at
-/// most half the capacity, every packing that meets the branch takes at least so many groups: that is
-/// [`trees_bound_packings`](crate::trees_bound_packings), for a tree of this leaf alone. It takes time in proportion to the required edges.
+/// The value of a share of size `s` under the branch whose bundles these are (Martello and Toth 1990, section 8.3). If
+/// `s` is at most half the capacity, every packing that meets the branch takes at least so many groups. That is
+/// [`trees_bound_packings`](crate::trees_bound_packings), for a tree of only this leaf. It takes time in proportion to
+/// the required edges.
 pub fn share_value(inst: &Instance, bundles: &Bundles, s: u64) -> u64
     requires { HasBundles inst.now bundles.now.labels.items bundles.now.weights.items }
     ensures { (branch : List PackChoice) → AreBundles inst.now branch bundles.now.labels.items bundles.now.weights.items → result ≡ share_value inst.now branch s }

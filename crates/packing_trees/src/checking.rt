@@ -13,13 +13,16 @@ use carp_base::{Instance, Memory};
 use std::alloc::Global;
 
 /// Whether the groups are a packing of the required edges with that count, and the tree proves the bound, or the first
-/// reason why not: how many groups there are, their numbers, that none is empty, and their loads; then whether the nodes are
-/// one whole tree, and whether their pairs are of required edges; and then node by node in preorder whether a pair is not
-/// closed yet, whether a leaf may stand there, and last its value. The turns are not read. It asks for fewer than 2^32 groups and
-/// nodes. The one error is want of memory.
+/// reason why not. The order of the reasons is:
 ///
-/// With m required edges and n nodes, none of them below more than d pairs, it takes time in proportion to n * m * (m + d) at most, and
-/// memory in proportion to m + d.
+/// - how many groups there are, their numbers, that none is empty, and their loads;
+/// - whether the nodes are one whole tree, and whether their pairs are of required edges;
+/// - node by node in preorder, whether a pair is not closed yet, whether a leaf may stand there, and last its value.
+///
+/// The turns are not read. It asks for fewer than 2^32 groups and nodes. The only error is want of memory.
+///
+/// With m required edges and n nodes, none of them below more than d pairs, it takes time at most in proportion to
+/// n * m * (m + d), and memory in proportion to m + d.
 pub fn check_pack(alloc: Global, inst: &Instance, p: &Packing) -> Result<PackAnswer, Memory>
     requires few_groups { length p.now.groups.items < 2 ^ 32 }
     requires few_nodes { length p.now.tree.items < 2 ^ 32 }

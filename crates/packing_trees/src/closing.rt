@@ -87,8 +87,9 @@ fn are_they(x: u32, y: u32, one: u32, other: u32) -> bool
 /// Whether each pair of required edges is closed under the branch whose bundles these are, so that no two bundles can
 /// lie in one group.
 ///
-/// With m required edges, n bundles and d choices it takes time in proportion to m + n * (m + d), and memory in proportion
-/// to m. The choices are looked at only for bundles that are not too heavy beside each one of a greater number.
+/// With m required edges, n bundles and d choices it takes time in proportion to m + n * (m + d), and memory in
+/// proportion to m. It looks at the choices only for bundles that are not too heavy beside each one of a greater
+/// number.
 pub fn all_closed(
     alloc: Global,
     inst: &Instance,

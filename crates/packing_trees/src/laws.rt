@@ -9,7 +9,7 @@ pub fn trees_bound_packings()
     ensures proofs { ProofsBoundPackings }
 {}
 
-/// Two edges have one bundle's number exactly where together choices join them, and that number is the least edge of the
+/// Two edges have one bundle's number exactly if together choices join them. That number is the least edge of the
 /// bundle.
 pub fn bundles_are_joined()
     ensures joined { BundlesAreJoined }

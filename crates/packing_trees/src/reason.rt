@@ -11,8 +11,8 @@ pub enum PackReason {
     GroupEmpty { group: u32 },
     /// The group's demand is above the capacity.
     Overload { group: u32, load: u128 },
-    /// The nodes are not one whole tree: it is whole at this node and others follow, or the nodes end here. Where there are none at all,
-    /// the number is 0.
+    /// The nodes are not one whole tree: it is whole at this node and others follow, or the nodes end here. If there
+    /// are no nodes, the number is 0.
     NotWhole { node: u64 },
     /// The node is a pair that is not of two required edges, the lesser one first.
     Misfit { node: u64 },

@@ -49,12 +49,13 @@ fn odd_labels(alloc: Global, inst: &Instance, labels: &[u32]) -> Result<Vec<bool
 }
 
 /// Each component, without the depot, of the edges with positive `x` that an odd number of required edges cross, in the
-/// order of their least vertices. The list is empty only where there is none.
+/// order of their least vertices. The list is empty only if there is none.
 ///
-/// `x` has a number for each edge, in the order of the edges: its deadheads, in parts of any unit. A vertex at which no edge
-/// has positive `x` is a component by itself. Each lawful plan has a deadhead over each of these sets ([`cut_pool::need_is_met`]),
-/// and `x` has none, since an edge with positive `x` joins its ends (Belenguer and Benavent 1998, parity cuts). The one error is
-/// want of memory. It takes time and memory in proportion to the vertices and edges, and to the greatest vertices of the shores.
+/// `x` has a number for each edge, in the order of the edges: its deadheads, in parts of any unit. A vertex at which no
+/// edge has positive `x` is a component by itself. Each lawful plan has a deadhead over each of these sets
+/// ([`cut_pool::need_is_met`]). `x` has none, since an edge with positive `x` joins its ends (Belenguer and Benavent
+/// 1998, parity cuts). The only error is want of memory. It takes time and memory in proportion to the vertices and
+/// edges, and to the greatest vertices of the shores.
 pub fn find(alloc: Global, inst: &Instance, net: &Network, x: &[u64]) -> Result<Vec<Shore>, Memory>
     requires net { net.now ≡ inst.now }
     requires one_each { length x.now ≡ length inst.now.edges }

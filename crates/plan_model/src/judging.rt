@@ -26,7 +26,7 @@ impl Model for JudgeRoom {
 }
 
 impl JudgeRoom {
-    /// Room for judging plans of the instance.
+    /// Room for judging plans of the instance, in memory in proportion to the required edges.
     pub fn new(alloc: Global, inst: &Instance) -> Result<JudgeRoom, Memory>
         ensures { IfOk result (λ room. room ≡ inst.now.required) }
     {
@@ -35,9 +35,21 @@ impl JudgeRoom {
     }
 }
 
-/// What is first wrong with the plan, or what it costs where nothing is.
+/// What is first wrong with the plan, or what it costs if nothing is wrong. The room is one that was made for an
+/// instance with as many required edges.
 ///
 /// It takes no memory, and time in proportion to the plan's walks and steps and the number of required edges.
+///
+/// ```
+/// // The one street of the instance costs 5: it is served on the way out, and crossed again on the way back.
+/// let mut walk = Walk::new(alloc);
+/// walk.push(Step { edge: 1, forward: true, served: true })?;
+/// walk.push(Step { edge: 1, forward: false, served: false })?;
+/// let mut plan = Plan::new(alloc);
+/// plan.push(walk)?;
+/// let mut room = JudgeRoom::new(alloc, &inst)?;
+/// assert_eq!(rt; judge(&inst, &plan, &mut room), Verdict::Lawful { cost: 10 });
+/// ```
 pub fn judge(inst: &Instance, plan: &Plan, room: &mut JudgeRoom) -> Verdict
     requires { room.old ≡ inst.now.required }
     ensures verdict { IsVerdict inst.now plan.now result }

@@ -20,7 +20,7 @@ pub fn deadheads_are_on_crossing_edges()
     ensures { DeadheadsByEdge }
 {}
 
-/// A plan has one verdict at most. It is `Lawful` exactly where the plan is lawful, and something is wrong with every
+/// A plan has at most one verdict. The verdict is `Lawful` exactly if the plan is lawful. Something is wrong with every
 /// other plan.
 pub fn verdicts_are_exact()
     ensures unique { VerdictIsUnique }

@@ -1,8 +1,15 @@
 //! Walks and plans of an instance, what makes a plan lawful, and what it costs.
 //!
-//! A [`Plan`] is a list of [`Walk`]s, and a walk a list of [`Step`]s; contracts see plain lists. [`judge`] tells what is
-//! first wrong with a plan, or what it costs where it is lawful. [`Proposer`] is the interface of a helper that offers
-//! plans.
+//! A [`Plan`] is a list of [`Walk`]s, and a walk is a list of [`Step`]s. Contracts see plain lists. [`judge`] tells
+//! what is first wrong with a plan, or what it costs if it is lawful. [`Proposer`] is the interface of a helper that
+//! offers plans.
+//!
+//! - `step`, `walk`, `plan`: steps, walks and plans.
+//! - `totals`: what a walk serves and costs.
+//! - `verdict`, `judging`, with `served` and `tours`: what a judge says, the judge, and its passes over the services
+//!   and the tours of a plan.
+//! - `proposer`: the interface of a helper.
+//! - `laws`: what is proved of all plans.
 #![tactic(auto)]
 
 mod examples;

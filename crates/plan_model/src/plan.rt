@@ -64,7 +64,8 @@ impl Plan {
         walk
     }
 
-    /// A plan with the same walks.
+    /// A plan with the same walks, in time and memory in proportion to the walks and steps. The only error is want of
+    /// memory.
     pub fn copy(&self, alloc: Global) -> Result<Plan, Memory>
         ensures { IfOk result (λ plan. plan ≡ self.now) }
     {

@@ -9,8 +9,8 @@ use std::alloc::Global;
 
 /// A helper that offers plans for an instance. It need not be trusted: each offer is judged.
 ///
-/// Its meanings are its id, its seed, how often it was asked, and its tally: how many unlawful plans it offered, the
-/// least cost of its lawful offers, and the cost of its latest offer where that was lawful.
+/// Contracts see its id, its seed, how often it was asked, and its tally. The tally has the number of unlawful plans
+/// that it offered, the least cost of its lawful offers, and the cost of its latest offer if that was lawful.
 pub trait Proposer: Drop {
     ghost id: { Self → ℕ };
 
@@ -35,8 +35,9 @@ pub trait Proposer: Drop {
         ensures asked { asked self.new ≡ 0 }
         ensures tally { tally self.new ≡ record { fouls = 0; least = None; last = None } };
 
-    /// Offers a plan, or none. It may look at the best lawful plan so far. From one seed to the next it is asked at most 1,000 times, and no more once it has offered
-    /// 1,000 unlawful plans. After want of memory it counts as asked, and its last offer is none.
+    /// Offers a plan, or none. It may look at the best lawful plan so far. From one seed to the next it may be asked at
+    /// most 1,000 times, and not again after 1,000 unlawful plans. After want of memory it counts as asked, and its
+    /// latest offer is none.
     fn propose(
         &mut self,
         alloc: Global,

@@ -81,7 +81,7 @@ fn count_walk(walk: &Walk, counts: &mut [u8])
     }
 }
 
-/// Sets the count of each edge, from edge 1 on, to how often the plan serves it, or to 2 where that is more.
+/// Sets the count of each edge, from edge 1 on, to how often the plan serves it, or to 2 if that is more.
 pub(crate) fn count_services(plan: &Plan, counts: &mut [u8])
     ensures { EachIndex counts.new (λ k. slice_index counts.new k ≡ min 2 (services_of (k + 1) plan.now)) }
 {

@@ -5,7 +5,7 @@ ghost use Rattle.plan_model.specs.Plans.{walk_cost, walk_load, IsOnEdges};
 use crate::Walk;
 use carp_base::Instance;
 
-/// The demand that a walk serves.
+/// The demand that a walk serves, in the unit of the capacity. It takes time in proportion to the steps.
 pub fn load_of(inst: &Instance, walk: &Walk) -> u128
     requires { IsOnEdges inst.now walk.now }
     ensures { result ≡ walk_load inst.now walk.now }
@@ -20,7 +20,8 @@ pub fn load_of(inst: &Instance, walk: &Walk) -> u128
     sum
 }
 
-/// What a walk costs: the service cost for each served step, and the cost for each other one.
+/// What a walk costs, in the instance's unit of cost: the service cost for each served step, and the cost for each other
+/// one. It takes time in proportion to the steps.
 pub fn cost_of(inst: &Instance, walk: &Walk) -> u128
     requires { IsOnEdges inst.now walk.now }
     ensures { result ≡ walk_cost inst.now walk.now }

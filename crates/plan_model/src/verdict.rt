@@ -1,10 +1,10 @@
 // What a judge says of a plan.
 
-/// What a judge says of a plan: what it costs where it is lawful, and else the first thing that is wrong with it.
+/// What a judge says of a plan: what it costs if it is lawful, and otherwise the first thing that is wrong with it.
 ///
-/// Tours and steps count from 1, in the plan's order. Where several things are wrong, the kind is answered that comes
-/// first in the order `Broken`, `NotAtDepot`, `ServesOther`, `ServedTwice`, `NotServed`, `Overload`, and within it the
-/// least tour and then the least step, or the least edge.
+/// Tours and steps count from 1, in the plan's order. If several things are wrong, the answer is the kind that comes
+/// first in the order `Broken`, `NotAtDepot`, `ServesOther`, `ServedTwice`, `NotServed`, `Overload`. Within a kind it
+/// is the least tour and then the least step, or the least edge.
 #[derive(Clone, Copy, Debug, PartialEq, Eq)]
 pub enum Verdict {
     /// The plan is lawful.
@@ -12,7 +12,8 @@ pub enum Verdict {
         /// What the plan costs, in the instance's unit of cost.
         cost: u128,
     },
-    /// The step is on no edge of the instance, or does not start where the step before it in its tour ends.
+    /// The step is on no edge of the instance, or does not start at the vertex at which the step before it in its tour
+    /// ends.
     Broken {
         /// The tour's number.
         tour: u64,

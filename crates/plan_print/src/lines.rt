@@ -14,7 +14,7 @@ use std::fmt::Write;
 /// The line for a fault of an instance file: `bad instance: `, what is wrong with it, and LF.
 ///
 /// Lines of the file and edges are counted from 1, as in the fault, and a key is spelled in capitals. Its error says
-/// only that memory was not to be had. A line has at most 100 bytes, so it takes constant time.
+/// only that there was not enough memory. A line has at most 100 bytes, so it takes constant time.
 #[tactic(auto, unfolding(crate::specs::RefusalLines::instance_fault_line))]
 pub fn instance_fault_line(alloc: Global, fault: &DatFault) -> Result<Vec<u8>, Memory>
     ensures { IfOk result (λ text. text.items ≡ instance_fault_line fault.now) }
@@ -27,8 +27,8 @@ pub fn instance_fault_line(alloc: Global, fault: &DatFault) -> Result<Vec<u8>, M
 
 /// The line for a fault of a certificate's text: `bad certificate: `, what is wrong with it, and LF.
 ///
-/// Lines of the text are counted from 1, as in the fault. Its error says only that memory was not to be had. A line has
-/// fewer than 100 bytes, so it takes constant time.
+/// Lines of the text are counted from 1, as in the fault. Its error says only that there was not enough memory. A line
+/// has fewer than 100 bytes, so it takes constant time.
 #[tactic(auto, unfolding(crate::specs::RefusalLines::certificate_fault_line))]
 pub fn certificate_fault_line(alloc: Global, fault: &CertFault) -> Result<Vec<u8>, Memory>
     ensures { IfOk result (λ text. text.items ≡ certificate_fault_line fault.now) }
@@ -41,8 +41,8 @@ pub fn certificate_fault_line(alloc: Global, fault: &CertFault) -> Result<Vec<u8
 
 /// The line for a fault of edits: `bad edit: `, what is wrong with them or with the edited instance, and LF.
 ///
-/// Lines of the edits and edges of the edited instance are counted from 1, as in the fault. Its error says only that memory was not to be had. A line has
-/// fewer than 100 bytes, so it takes constant time.
+/// Lines of the edits and edges of the edited instance are counted from 1, as in the fault. Its error says only that
+/// there was not enough memory. A line has fewer than 100 bytes, so it takes constant time.
 #[tactic(auto, unfolding(crate::specs::RefusalLines::edit_fault_line))]
 pub fn edit_fault_line(alloc: Global, fault: &EditFault) -> Result<Vec<u8>, Memory>
     ensures { IfOk result (λ text. text.items ≡ edit_fault_line fault.now) }
@@ -56,8 +56,8 @@ pub fn edit_fault_line(alloc: Global, fault: &EditFault) -> Result<Vec<u8>, Memo
 /// The line for the first reason why a certificate is not good: `rejected: `, the reason, and LF.
 ///
 /// Tours, steps, edges, shores, sets, nodes and places are counted from 1, as in the reason. There are no words for a
-/// lawful plan, which is the reason of no answer of [`cert_checker::check`]. Its error says only that memory was not to
-/// be had. A line has fewer than 200 bytes, so it takes constant time.
+/// lawful plan, which is the reason of no answer of [`cert_checker::check`]. Its error says only that there was not
+/// enough memory. A line has fewer than 200 bytes, so it takes constant time.
 #[tactic(auto, unfolding(crate::specs::RefusalLines::rejection_line))]
 pub fn rejection_line(alloc: Global, reason: &Reason) -> Result<Vec<u8>, Memory>
     ensures { IfOk result (λ text. text.items ≡ rejection_line reason.now) }

@@ -32,10 +32,11 @@ fn push_crossings(text: &mut Vec<u8>, inst: &Instance, walk: &Walk) -> Result<()
     Ok(())
 }
 
-/// Adds the route of a walk: the depot, and then for each step `=` where it serves and `-` where it does not, and the vertex that it reaches. The
-/// steps are on edges of the instance.
+/// Adds the route of a walk: the depot, and then for each step the vertex that it reaches. Before the vertex stands `=`
+/// if the step serves, and `-` if it does not. The steps are on edges of the instance.
 ///
-/// Its error says only that memory was not to be had; what the text then holds is not said. It takes time in proportion to what it adds.
+/// Its error says only that there was not enough memory. It does not say what the text then holds. It takes time in
+/// proportion to what it adds.
 #[tactic(auto, unfolding(crate::specs::Report::route_text))]
 pub fn push_route(text: &mut Vec<u8>, inst: &Instance, walk: &Walk) -> Result<(), Memory>
     requires { IsOnEdges inst.now walk.now }
@@ -85,9 +86,11 @@ fn push_instance_line(text: &mut Vec<u8>, inst: &Instance) -> Result<(), Memory>
     Ok(())
 }
 
-/// Adds the line that says whether a bound, at most a cost, is the cost: `proven`, or `open gap` and how far it lies below.
+/// Adds the line that says whether a bound, at most a cost, is the cost: `proven`, or `open gap` and how far it lies
+/// below.
 ///
-/// Its error says only that memory was not to be had; what the text then holds is not said. It takes time in proportion to what it adds.
+/// Its error says only that there was not enough memory. It does not say what the text then holds. It takes time in
+/// proportion to what it adds.
 #[tactic(auto, unfolding(crate::specs::Report::gap_line))]
 pub fn push_gap(text: &mut Vec<u8>, cost: u128, bound: u128) -> Result<(), Memory>
     requires { bound ≤ cost }
@@ -114,7 +117,8 @@ fn push_result_lines(text: &mut Vec<u8>, cert: &Cert, turns: u64) -> Result<(), 
 
 /// Adds the number of the tours of a lawful plan, and a line for each: its load, its cost and its route.
 ///
-/// Its error says only that memory was not to be had; what the text then holds is not said. It takes time in proportion to what it adds.
+/// Its error says only that there was not enough memory. It does not say what the text then holds. It takes time in
+/// proportion to what it adds.
 #[tactic(auto, unfolding(crate::specs::Report::tours_text))]
 pub fn push_tours(text: &mut Vec<u8>, inst: &Instance, plan: &Plan) -> Result<(), Memory>
     requires { IsLawful inst.now plan.now }
@@ -124,10 +128,11 @@ pub fn push_tours(text: &mut Vec<u8>, inst: &Instance, plan: &Plan) -> Result<()
     push_tour_lines(text, inst, plan)
 }
 
-/// The report of an instance, a certificate and a number of turns: the size of the instance, the cost and the bound that the certificate states, the
-/// turns as they are given, whether the bound is the cost, and each tour with its load, its cost and the vertices that it reaches.
+/// The report of an instance, a certificate and a number of turns. It has the size of the instance, the cost and the
+/// bound that the certificate states, the turns as they are given, and whether the bound is the cost. Then come the
+/// tours, each with its load, its cost and the vertices that it reaches.
 ///
-/// Its error says only that memory was not to be had. It takes time in proportion to the text.
+/// Its error says only that there was not enough memory. It takes time in proportion to the text.
 pub fn report(alloc: Global, inst: &Instance, cert: &Cert, turns: u64) -> Result<Vec<u8>, Memory>
     requires lawful { IsLawful inst.now cert.now.plan }
     requires bounded { cert.now.bound ≤ cert.now.cost }

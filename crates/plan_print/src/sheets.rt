@@ -141,11 +141,11 @@ fn push_total_line(text: &mut Vec<u8>, inst: &Instance, plan: &Plan) -> Result<(
     Ok(())
 }
 
-/// The street sheet of a plan: of each tour its load, its cost and its steps, and at the end the number of tours and what they cost. A
-/// step's line says whether it serves its street or drives along it, from where to where, and what that costs; where it serves, also
-/// the load after it.
+/// The street sheet of a plan: of each tour its load, its cost and its steps, and at the end the number of tours and
+/// what they cost. A step's line says whether it serves its street or drives along it, from where to where, and what
+/// that costs. If it serves, the line also has the load after it.
 ///
-/// Its error says only that memory was not to be had. It takes time in proportion to the text.
+/// Its error says only that there was not enough memory. It takes time in proportion to the text.
 pub fn sheet(alloc: Global, inst: &Instance, plan: &Plan) -> Result<Vec<u8>, Memory>
     requires { IsLawful inst.now plan.now }
     ensures { IfOk result (λ text. text.items ≡ sheet_text inst.now plan.now) }

@@ -1,9 +1,9 @@
-//! A least closed walk from the depot that serves each required edge, for one vehicle without a limit: the rural
-//! postman problem (Eiselt, Gendreau and Laporte 1995), with a depot that the walk starts at, and a cost of its own for each
-//! service.
+//! A least closed walk from the depot that serves each required edge, for one vehicle without a limit. This is the
+//! rural postman problem (Eiselt, Gendreau and Laporte 1995), with a depot that the walk starts at, and a cost of its
+//! own for each service.
 //!
-//! Where the required edges hang together with the depot, the least walk is found exactly: deadheads of least cost
-//! that make every vertex even (Edmonds and Johnson 1973), and then a circuit over the required edges and those of the
+//! If the required edges hang together with the depot, [`postman`] finds the least walk exactly. Deadheads of least
+//! cost make every vertex even (Edmonds and Johnson 1973). Then a circuit goes over the required edges and those of the
 //! deadheads that it reaches.
 //!
 //! - `joined`: whether the required edges hang together with the depot.

@@ -21,7 +21,8 @@ use std::alloc::Global;
 #[derive(Drop)]
 pub struct Round {
     /// The walk: each required edge has one served step, and no other edge has one. It crosses no edge twice without
-    /// service, and has at most as many steps as there are required edges and edges together. Without required edges it has none.
+    /// service, and has at most as many steps as there are required edges and edges together. Without required edges it
+    /// has none.
     pub walk: Walk,
     /// Sets of vertices without the depot, each crossed by an odd number of required edges. The weight of each is a
     /// number of halves of a unit of cost, above 0. Over each edge they sum to at most twice its cost. They and
@@ -73,16 +74,26 @@ fn least_round(
     lay_round(alloc, inst, net, bound)
 }
 
-/// A least closed walk from the depot that serves each required edge, where the required edges hang together with the
+/// A least closed walk from the depot that serves each required edge, if the required edges hang together with the
 /// depot.
 ///
-/// Deadheads of least cost make every vertex even (Edmonds and Johnson 1973), and a circuit goes over the required edges
+/// Deadheads of least cost make every vertex even (Edmonds and Johnson 1973). A circuit goes over the required edges
 /// and those of the deadheads that it reaches (Hierholzer 1873). Without required edges the walk has no steps.
 ///
-/// It asks for the network of the instance and its distances by cost. It is refused where required edges alone do not
-/// join each of them to the depot: [`PostmanFault::NotJoined`] names the least one apart. `Fail::Memory` says only that
-/// memory was not to be had. Besides the time and memory of [`join_bound`], it takes both in proportion to the vertices
-/// and edges.
+/// It asks for the network of the instance and its distances by cost. It refuses if required edges alone do not join
+/// each of them to the depot: [`PostmanFault::NotJoined`] names the least edge that is apart. `Fail::Memory` says only
+/// that there was not enough memory. Besides the time and memory of [`join_bound`], it takes both in proportion to the
+/// vertices and edges.
+///
+/// ```
+/// let net = Network::new(alloc, &inst)?;
+/// let dist = distances(alloc, &inst, &net, &cost_prices(alloc, &inst)?)?;
+/// match postman(alloc, &inst, &net, &dist) {
+///     Ok(round) => assert_eq!(rt; (round.cost, round.walk.len()), (10, 2)),
+///     Err(Fail::Refused(PostmanFault::NotJoined(edge))) => panic!(rt; "edge {edge} is apart"),
+///     Err(Fail::Memory) => return Err(Memory),
+/// }
+/// ```
 pub fn postman(
     alloc: Global,
     inst: &Instance,

@@ -30,24 +30,26 @@ const LEAST_FILLS: u64 = 60;
 // So much work, by the count of steps of fills, is allowed.
 const WORK: u64 = 1_650_000_000;
 
-/// Proposes a price set under a branch by an ascent from a start; `None` where no edge is required, where `rounds` is 0, or where the
-/// instance is so large that 60 fills of the table pass a measure of work. Of its value nothing is said, nor that it fits; but it has
-/// a price for each required edge, in parts of 1/1,000,000, and its weights are on shores of the pool that belong to the instance, none on
-/// groups.
+/// Proposes a price set under a branch by an ascent from a start, or `None` if no edge is required, if `rounds` is 0,
+/// or if the instance is so large that 60 fills of the table pass a measure of work. It promises nothing of the set's
+/// value, nor that it fits. But the set has a price for each required edge, in parts of 1/1,000,000, and its weights
+/// are on shores of the pool that belong to the instance, none on groups.
 ///
-/// Prices of services and weights of shores move together along the slopes that relaxed tours show, as Lagrange multipliers do (Held,
-/// Wolfe and Crowder 1974; the heavy average of slopes after Camerini, Fratta and Maffioli 1975). At each point the table is filled
-/// once, and the point is made one that pays: each price takes its part of the least rate of a tour, and of what all tours through
-/// its edge leave. The best such point is proposed. Every tenth step up to 10 shores are added that the averaged deadheads of the
-/// tours leave short (`shore_search`). Where 12 steps bring no record, the ascent goes back to the record and makes shorter steps.
+/// Prices of services and weights of shores move together along the slopes that relaxed tours show, as Lagrange
+/// multipliers do (Held, Wolfe and Crowder 1974; the heavy average of slopes after Camerini, Fratta and Maffioli 1975).
+/// At each point the table is filled once, and the point is made one that pays: each price takes its part of the least
+/// rate of a tour, and of what all tours through its edge leave. The ascent proposes the best such point. Every tenth
+/// step it adds up to 10 shores that the averaged deadheads of the tours leave short (`shore_search`). If 12 steps
+/// bring no record, it goes back to the record and makes shorter steps.
 ///
-/// Shores of the start keep a negative weight as it is. Those that end with a weight are placed in the pool behind those that it held;
-/// one for which there is no room, since it holds 2,000, loses its weight, and so does one whose weight is small.
+/// Shores of the start keep a negative weight as it is. Those that end with a weight are placed in the pool behind
+/// those that it held. If there is no room for one, since the pool holds 2,000, it loses its weight, and so does one
+/// whose weight is small.
 ///
-/// It asks for the network of the instance, a table that was made for it, a branch whose pairs are of required edges, and a start with
-/// a price for each required edge and weights on shores of the pool that belong to the instance; so have all shores of the pool to. The
-/// one error is want of memory. It takes up to `rounds` fills of the table, and at most 400, each with the distances by its deadhead
-/// prices; no clock decides.
+/// It asks for the network of the instance, a table that was made for it, a branch whose pairs are of required edges,
+/// and a start with a price for each required edge and weights on shores of the pool that belong to the instance. All
+/// shores of the pool have to belong to the instance. The only error is want of memory. It takes up to `rounds` fills
+/// of the table, and at most 400, each with the distances by its deadhead prices. No clock decides.
 pub fn ascend(
     alloc: Global,
     inst: &Instance,

@@ -45,7 +45,7 @@ pub(crate) struct Ascent {
 }
 
 impl Ascent {
-    /// An ascent whose best point is made of a start; `None` where no edge is required.
+    /// An ascent whose best point is made of a start, or `None` if no edge is required.
     pub(crate) fn begin(
         alloc: Global,
         town: &Town<'_>,

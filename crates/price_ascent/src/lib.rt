@@ -1,12 +1,16 @@
 //! Price sets that an ascent along relaxed tours proposes.
 //!
-//! The price of a service and the weights of shores are multipliers of the two kinds of constraints that tours meet together: each
-//! required edge is served once, and over each shore there are as many deadheads as it needs. [`ascend`] moves both at once along what
-//! relaxed tours serve and cross. It proposes: whether a set fits is for the pricing table to say.
+//! The price of a service and the weights of shores are multipliers of the two kinds of constraints that tours meet
+//! together: each required edge is served once, and over each shore there are as many deadheads as it needs. [`ascend`]
+//! moves both at once along what relaxed tours serve and cross. It only proposes: the pricing table says whether a set
+//! fits.
 //!
-//! - `climbing`: the steps, with `pace` (their length, and when the ascent turns back or ends) and `slopes` (their direction).
-//! - `scoring`: a point made one that pays, with `scaling` (weights that no street is overloaded by) and `touring` (what tours cross).
-//! - `setting_out`: the points where an ascent begins. `active`: the shores whose weights move. `numbers`: arithmetic within limits.
+//! - `climbing`: the steps, with `pace` (their length, and when the ascent turns back or ends) and `slopes` (their
+//!   direction).
+//! - `scoring`: a point made one that pays, with `scaling` (weights that no street is overloaded by) and `touring`
+//!   (what tours cross).
+//! - `setting_out`: the points at which an ascent begins. `active`: the shores whose weights move. `numbers`:
+//!   arithmetic within limits.
 //! - `placing`: the shores with weights, placed in a pool.
 #![tactic(auto)]
 

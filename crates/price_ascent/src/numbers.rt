@@ -11,7 +11,7 @@ pub(crate) const PARTS: i64 = 1 << 20;
 // No number of a price set is greater, and none is less than the negative of it.
 const MOST: i128 = 1_000_000_000_000_000;
 
-/// The number itself where it is within the range, or else its border.
+/// The number itself if it is within the range, and else the border of the range.
 pub(crate) fn held(number: i128) -> i64
     ensures { IsServicePrice result }
 {
@@ -49,7 +49,7 @@ pub(crate) fn number_at(numbers: &[i64], place: usize) -> i64
     }
 }
 
-/// Adds to the number at a place, where there is one.
+/// Adds to the number at a place, if there is one.
 pub(crate) fn add_at(numbers: &mut [i64], place: usize, more: i64) {
     if place < numbers.len() {
         numbers[place] = numbers[place].saturating_add(more);

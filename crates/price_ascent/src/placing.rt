@@ -16,8 +16,8 @@ use std::alloc::Global;
 // How many shores a pool holds at most.
 const MOST: usize = 2000;
 
-/// Places the shores with weights, and gives for each number of a shore its weight, and 0 where it has none. A weight above 0 and
-/// below `least` counts as none.
+/// Places the shores with weights, and gives for each number of a shore its weight, or 0 if it has none. A weight above
+/// 0 and below `least` counts as none.
 pub(crate) fn place_weights(
     alloc: Global,
     inst: &Instance,

@@ -102,7 +102,8 @@ fn eased_weight(active: &Active, edges: &[Edge], strains: &[Strain], weight: i64
     }
 }
 
-/// The weights, where those above 0 are cut so far that no deadhead price is negative. With E edges and k weights it takes E * k steps.
+/// The weights, those above 0 cut so far that no deadhead price is negative. With E edges and k weights it takes E * k
+/// steps.
 pub(crate) fn eased_weights(
     alloc: Global,
     edges: &[Edge],
@@ -121,7 +122,8 @@ pub(crate) fn eased_weights(
     Ok(lighter)
 }
 
-/// The deadhead prices that weights leave; where one would be negative it is 0. With E edges and k weights it takes E * k steps.
+/// The deadhead prices that weights leave. A price that would be negative is 0. With E edges and k weights it takes
+/// E * k steps.
 pub(crate) fn deadhead_prices(
     alloc: Global,
     inst: &Instance,

@@ -24,7 +24,7 @@ pub(crate) struct Town<'a> {
     pub(crate) allowed: &'a Allowed,
 }
 
-/// Prices of services, and weights of the first shores that move; the others have none.
+/// Prices of services, and weights of the first shores that move. The others have none.
 #[derive(Drop)]
 pub(crate) struct Point {
     pub(crate) prices: Vec<i64>,
@@ -39,10 +39,11 @@ pub(crate) struct Scored {
     pub(crate) cover: Cover,
 }
 
-/// Makes of a point one that pays, by one fill of the table; `None` where no edge is required.
+/// Makes of a point one that pays, by one fill of the table, or `None` if no edge is required.
 ///
-/// Weights are cut until no deadhead price is negative. Each price takes its part of the least rate of a tour, after which no tour is
-/// worth less than 0, and then, of what every tour through its edge is worth, the part of its demand in a vehicle's capacity.
+/// Weights are cut until no deadhead price is negative. Each price takes its part of the least rate of a tour, after
+/// which no tour is worth less than 0. Then it takes, of what every tour through its edge is worth, the part of its
+/// demand in a vehicle's capacity.
 pub(crate) fn score(
     alloc: Global,
     town: &Town<'_>,

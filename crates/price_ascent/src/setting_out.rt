@@ -60,8 +60,8 @@ fn start_weight(set: &PriceSet, place: usize) -> i64
     held(quotient(whole, i128::from(set.unit())))
 }
 
-/// The point where an ascent sets out: half of the weights, and half of what each edge is to pay if full vehicles drive to it and
-/// back from it.
+/// The point where an ascent sets out: half of the weights, and half of what each edge is to pay if full vehicles drive
+/// to it and back from it.
 pub(crate) fn first_point(alloc: Global, town: &Town<'_>, weights: &[i64]) -> Result<Point, Memory>
     requires town { IsTown town.now }
     requires weights { All IsServicePrice weights.now }

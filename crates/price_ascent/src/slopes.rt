@@ -26,8 +26,8 @@ impl Slopes {
         }
     }
 
-    /// How far the tours of a point fall short of one service of each required edge, and of the lower number of deadheads over
-    /// each shore that moves. A weight below 0 stays.
+    /// How far the tours of a point fall short of one service of each required edge, and of the lower number of
+    /// deadheads over each shore that moves. A weight below 0 stays.
     pub(crate) fn of(
         alloc: Global,
         inst: &Instance,
@@ -47,7 +47,7 @@ impl Slopes {
         })
     }
 
-    /// A tenth of the new slopes and nine tenths of these; the new ones where these are none.
+    /// A tenth of the new slopes and nine tenths of these, or the new ones if there are none of these.
     pub(crate) fn turned(&self, alloc: Global, new: &Slopes) -> Result<Slopes, Memory> {
         Ok(Slopes {
             prices: mixed(alloc, &self.prices, &new.prices)?,
@@ -93,7 +93,7 @@ pub(crate) struct Step {
 }
 
 impl Step {
-    /// The step of a way along slopes, where the sum of their squares and that of the latest ones are given.
+    /// The step of a way along slopes, from the sum of their squares and that of the latest ones.
     pub(crate) fn new(way: i128, squares: i128, latest: i128) -> Step {
         Step {
             way,
@@ -128,7 +128,7 @@ fn price_slopes(alloc: Global, cover: &Cover) -> Result<Vec<i64>, Memory> {
     Ok(slopes)
 }
 
-/// A tenth of the new numbers and nine tenths of the old ones; the new ones where there are no old ones.
+/// A tenth of the new numbers and nine tenths of the old ones, or the new ones if there are no old ones.
 pub(crate) fn mixed(alloc: Global, old: &[i64], new: &[i64]) -> Result<Vec<i64>, Memory> {
     let mut numbers = Vec::with_capacity(alloc, new.len())?;
     for place in 0..new.len() {

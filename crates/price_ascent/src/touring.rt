@@ -126,7 +126,7 @@ pub(crate) fn tour_over(
     table.tour_through(alloc, e, rate)
 }
 
-/// A tour of the least rate, where an edge is required.
+/// A tour of the least rate, if an edge is required.
 pub(crate) fn best_tour(
     alloc: Global,
     inst: &Instance,

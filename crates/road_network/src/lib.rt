@@ -1,7 +1,11 @@
 //! The edges at each vertex of an instance, and which vertices the depot reaches.
 //!
-//! A [`Network`] is made once for an instance, in time and space in proportion to its vertices and edges. Its
-//! answers then take constant time and no memory.
+//! A [`Network`] is made once for an instance, in time and space in proportion to its vertices and edges. Its answers
+//! then take constant time and no memory.
+//!
+//! - `network`: what is told of a vertex, over `counting` (the edges at each vertex, sorted into one list) and `reach`
+//!   (a search from the depot).
+//! - `ends`: the other end of an edge.
 #![tactic(auto)]
 
 mod counting;

@@ -33,7 +33,8 @@ impl Model for Network {
 }
 
 impl Network {
-    /// The network of an instance.
+    /// The network of an instance. It takes time and memory in proportion to the vertices and edges. The only error is
+    /// want of memory.
     pub fn new(alloc: Global, inst: &Instance) -> Result<Network, Memory>
         ensures { IfOk result (λ net. net ≡ inst.now) }
     {

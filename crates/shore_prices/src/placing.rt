@@ -35,12 +35,12 @@ pub(crate) fn place_weights(
     Ok(placed)
 }
 
-/// Places a shore of the instance in a pool, and writes its weight into `placed`, at the place of its number there. If the pool is
-/// full or `placed` ends before that place, the weight is lost.
+/// Places a shore of the instance in a pool, and writes its weight into `placed`, at the place of its number there. If
+/// the pool is full or `placed` ends before that place, the weight is lost.
 ///
-/// It asks for a pool of shores that belong to the instance, and for weights within 10^15 either way. A shore that the pool holds keeps
-/// its number; a new one stands behind the others. The one error is want of memory, and leaves `placed` as it was. It takes expected
-/// time in proportion to the number of the shore's vertices.
+/// It asks for a pool of shores that belong to the instance, and for weights within 10^15 either way. A shore that the
+/// pool holds keeps its number. A new one stands behind the others. The only error is want of memory, and it leaves
+/// `placed` as it was. It takes expected time in proportion to the number of the shore's vertices.
 pub fn place_weight(
     inst: &Instance,
     pool: &mut ShorePool,
@@ -80,11 +80,11 @@ fn note(placed: &mut [i64], number: u32, weight: i64)
     }
 }
 
-/// The weights in `placed` that are not 0, each on the shore of the number that is its place, by rising numbers, for the shores of the
-/// pool.
+/// The weights in `placed` that are not 0, each on the shore of the number that is its place, by rising numbers, for
+/// the shores of the pool.
 ///
-/// It asks for 2,001 weights within 10^15 either way, one for each number that a pool can have and one for 0, which is no number. The
-/// one error is want of memory. It takes time in proportion to the number of shores.
+/// It asks for 2,001 weights within 10^15 either way, one for each number that a pool can have and one for 0, which is
+/// no number. The only error is want of memory. It takes time in proportion to the number of shores.
 pub fn list_weights(alloc: Global, pool: &ShorePool, placed: &[i64]) -> Result<Vec<Weight>, Memory>
     requires one_each { length placed.now ≡ 2001 }
     requires within { All IsPriceNumber placed.now }

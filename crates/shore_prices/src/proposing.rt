@@ -15,17 +15,19 @@ use std::alloc::Global;
 // The denominator of the sets that are proposed.
 const UNIT: u64 = 1_000_000;
 
-/// Proposes a price set under a branch: services at cost, and the weights of the linear program over shores after up to so many rounds,
-/// at most 400, in parts of 1/1,000,000. Of its value nothing is said, nor that it fits; but it has a price for each required edge, and
-/// its weights are on shores of the pool that belong to the instance; it has none on groups.
+/// Proposes a price set under a branch: services at cost, and the weights of the linear program over shores after up to
+/// so many rounds, at most 400, in parts of 1/1,000,000. It promises nothing of the set's value, nor that it fits. But
+/// the set has a price for each required edge, and its weights are on shores of the pool that belong to the instance.
+/// It has none on groups.
 ///
-/// The program begins with the shores of the pool, over which the branch's lower numbers are demanded, and with the level sets of the
-/// depot's distances (Belenguer and Benavent 1998). In each round it is solved in up to 20,000 steps, and up to 40 shores that its
-/// corner leaves short are added (`shore_search`). The rounds end where none is found, where the value hardly rose in 25 of them, or
-/// with a measure of work that is a function of the input, so that no clock decides.
+/// The program begins with the shores of the pool, over which the branch's lower numbers are demanded, and with the
+/// level sets of the depot's distances (Belenguer and Benavent 1998). In each round it is solved in up to 20,000 steps,
+/// and up to 40 shores that its corner leaves short are added (`shore_search`). The rounds end if none is found, if the
+/// value hardly rose in 25 of them, or by a measure of work that is a function of the input, so that no clock decides.
 ///
-/// The shores with a weight are placed in the pool behind those that it held; one for which there is no room, since it holds 2,000,
-/// loses its weight. It asks for the network of the instance and a pool of shores that belong to it. The one error is want of memory.
+/// The shores with a weight are placed in the pool behind those that it held. If there is no room for one, since the
+/// pool holds 2,000, it loses its weight. It asks for the network of the instance and a pool of shores that belong to
+/// it. The only error is want of memory.
 pub fn shore_prices(
     alloc: Global,
     inst: &Instance,

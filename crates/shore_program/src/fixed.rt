@@ -87,7 +87,7 @@ pub(crate) fn quotient(number: i64, divisor: i64) -> i64
     held(product(number, ONE) / i128::from(divisor))
 }
 
-/// An entry of a tableau, or 0 where it is too small.
+/// An entry of a tableau, or 0 if it is too small.
 pub(crate) fn entry(number: i64) -> i64 {
     if number.unsigned_abs() < LEAST_ENTRY {
         0

@@ -1,8 +1,8 @@
 //! The linear program over shores, in whole numbers.
 //!
-//! A [`Program`] maximises what some shores demand times their weights, where over each edge the weights of the shores that
+//! A [`Program`] maximises what some shores demand times their weights. Over each edge the weights of the shores that
 //! cross it sum to at most its cost. Its multipliers are deadheads over the edges, from which further shores are found.
-//! It is a simplex tableau in fixed point (Dantzig 1951), so that its corner is not exact; but the weights that it gives
+//! It is a simplex tableau in fixed point (Dantzig 1951), so its corner is not exact. But the weights that it gives
 //! pack, and whoever uses them needs no more.
 //!
 //! - `fixed`: arithmetic in fixed point.

@@ -165,7 +165,8 @@ fn lay_all(
     Ok(shores)
 }
 
-/// The shores with a weight above 0, each once for its cut. Each is given what is left for it, so that they pack whatever the weights are.
+/// The shores with a weight above 0, each once for its cut. Each is given what is left for it, so that they pack
+/// whatever the weights are.
 pub(crate) fn lay_out(
     alloc: Global,
     inst: &Instance,

@@ -14,11 +14,11 @@ use cut_pool::{Shore, Weighted};
 use std::alloc::Global;
 use std::marker::Model;
 
-/// The linear program over some shores of an instance, of which contracts see the instance and the list of shores.
+/// The linear program over some shores of an instance. Contracts see the instance and the list of shores.
 ///
-/// It maximises what is demanded over each shore times its weight, where no weight is below 0 and over each edge the weights
-/// of the shores that it crosses sum to at most its cost. It is kept as a tableau with a row for each edge and a column for
-/// each shore, at most 1,200, so that it takes 9,600 bytes for each edge.
+/// It maximises what is demanded over each shore times its weight. No weight is below 0, and over each edge the weights
+/// of the shores that it crosses sum to at most its cost. The tableau has a row for each edge and a column for each
+/// shore, at most 1,200, so it takes 9,600 bytes for each edge.
 #[derive(Drop)]
 pub struct Program {
     inst: Instance,
@@ -49,8 +49,9 @@ impl Program {
         })
     }
 
-    /// Adds the column of a shore, over which so many deadheads are demanded, and answers whether it did: it does not where
-    /// that is 0, where the shore has a column, or where 1,200 shores have one. The corner stays, and the weight is 0.
+    /// Adds the column of a shore, over which so many deadheads are demanded, and answers whether it did. It does not
+    /// if that number is 0, if the shore has a column, or if 1,200 shores have one. The corner stays, and the weight is
+    /// 0.
     ///
     /// It takes time in proportion to the number of edges times the number of edges that cross the shore.
     pub fn add(&mut self, alloc: Global, shore: Shore, least: u64) -> Result<bool, Memory>
@@ -82,15 +83,16 @@ impl Program {
         self.tableau.solve(&mut terms, pivots)
     }
 
-    /// Where more than 800 shores have weight 0 and a column of their own, lets those go that gain the least, but for 400.
-    /// No shore comes, and none is held more often than before.
+    /// If more than 800 shores have weight 0 and a column of their own, keeps 400 of them and lets those go that gain
+    /// the least. No shore comes, and none is held more often than before.
     pub fn drop_idle(&mut self)
         ensures { IsTrimmed self.old self.new }
     {
         trim(&mut self.tableau, &mut self.cuts);
     }
 
-    /// The value at this corner but for rounding, in parts of 1/1,000,000 of the unit of cost. No clause speaks of it.
+    /// The value at this corner, except for rounding, in parts of 1/1,000,000 of the unit of cost. No clause speaks of
+    /// it.
     pub fn value(&self) -> u64 {
         self.tableau.value.max(0) as u64
     }
@@ -100,7 +102,7 @@ impl Program {
         self.tableau.work
     }
 
-    /// The deadheads over each edge that this corner stands for, in parts of 2^20.
+    /// The deadheads over each edge that this corner stands for, in parts of 2^20, in the order of the edges.
     pub fn deadheads(&self, alloc: Global) -> Result<Vec<u64>, Memory>
         ensures { IfOk result (λ parts. AreDeadheads self.now.problem parts.items) }
     {

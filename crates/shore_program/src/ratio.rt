@@ -12,7 +12,7 @@ const LEAST_PIVOT: i64 = 1 << 28;
 #[derive(Clone, Copy)]
 pub(crate) struct Ratio {
     pub row: usize,
-    /// The level of the row, or 0 where it is below 0.
+    /// The level of the row, or 0 if it is below 0.
     pub level: i64,
     /// The entry of the row, above 0.
     pub pivot: i64,
@@ -57,7 +57,7 @@ fn lower_of(best: Option<Ratio>, next: Option<Ratio>) -> Option<Ratio>
     }
 }
 
-/// The least ratio of a column; `None` where no row bounds it.
+/// The least ratio of a column, or `None` if no row bounds it.
 pub(crate) fn least_ratio(entries: &[i64], rows: &[Row], column: usize) -> Option<Ratio>
     requires entries { length entries.now ≡ length rows.now * 1200 }
     requires column { column < 1200 }

@@ -72,7 +72,8 @@ fn lower(edges: &[Edge], rooms: &mut [u64], shore: &Shore, amount: u64)
     }
 }
 
-/// Takes what is left for a shore, at most so much, and answers how much that is. It takes time in proportion to the number of edges.
+/// Takes what is left for a shore, at most so much, and answers how much that is. It takes time in proportion to the
+/// number of edges.
 pub(crate) fn take(edges: &[Edge], rooms: &mut [u64], shore: &Shore, most: u64) -> u64
     requires { length rooms.old ≡ length edges.now }
     ensures most { result ≤ most }

@@ -28,7 +28,7 @@ pub(crate) enum Variable {
 #[derive(Clone, Copy)]
 pub(crate) struct Row {
     pub variable: Variable,
-    /// Its value, in parts of `UNIT`, where each edge costs a little less than it does, against ties.
+    /// Its value, in parts of `UNIT`, by costs that are a little less than the true ones, against ties.
     pub level: i64,
     /// Its value by the true costs.
     pub true_level: i64,
@@ -181,7 +181,8 @@ impl Tableau {
         })
     }
 
-    /// Adds the column of the shore at a place, which crosses the edges with a mark. It touches each row once for each such edge.
+    /// Adds the column of the shore at a place, which crosses the edges with a mark. It touches each row once for each
+    /// such edge.
     pub(crate) fn add_column(
         &mut self,
         alloc: Global,
@@ -226,7 +227,7 @@ impl Tableau {
     }
 }
 
-/// The column of greatest gain, where one gains enough.
+/// The column of greatest gain, if one gains enough.
 pub(crate) fn entering(columns: &[Column]) -> Option<usize>
     ensures { IfSome result (λ place. place < length columns.now) }
 {

@@ -128,7 +128,7 @@ fn let_some_go(tableau: &mut Tableau, cuts: &mut Vec<Cut>, count: usize)
     }
 }
 
-/// Where more than 800 shores have a column, those go whose columns gain the least, but for 400.
+/// If more than 800 shores have a column, keeps 400 of them and lets those go whose columns gain the least.
 pub(crate) fn trim(tableau: &mut Tableau, cuts: &mut Vec<Cut>)
     requires { KeepsColumns (length tableau.old.rows.items) cuts.old.items tableau.old }
     ensures keeps { KeepsColumns (length tableau.old.rows.items) cuts.new.items tableau.new }

@@ -45,10 +45,11 @@ fn parts_over(inst: &Instance, x: &[u64], shore: &Shore) -> u64
     sum
 }
 
-/// By how many parts of 2^20 the deadheads over a shore are less than it needs ([`cut_pool::need`]), 0 where they are not.
+/// By how many parts of 2^20 the deadheads over a shore are less than it needs ([`cut_pool::need`]), or 0 if they are
+/// not less.
 ///
-/// `x` has a number for each edge, in the order of the edges, each at most 10^12: its deadheads in parts of 2^20. It takes no
-/// memory, and time in proportion to the number of edges.
+/// `x` has a number for each edge, in the order of the edges, each at most 10^12: its deadheads in parts of 2^20. It
+/// takes no memory, and time in proportion to the number of edges.
 pub fn shortfall(inst: &Instance, x: &[u64], shore: &Shore) -> u64
     requires parts { AreParts inst.now x.now }
     requires belongs { Belongs inst.now shore.now }

@@ -1,12 +1,12 @@
 //! Sets of vertices that fractional deadheads leave short of what every lawful plan has over them, many at once.
 //!
-//! A [`Search`] grows sets of vertices from single ones and moves vertices in and out of the best of them. What it answers is
-//! computed anew from each set, so that nothing rests on the tables of the search.
+//! A [`Search`] grows sets of vertices from single ones, and moves vertices in and out of the best of them. It computes
+//! its answers anew from each set, so that nothing rests on the tables of the search.
 //!
 //! - `streets`: the edges at each vertex, with what they add to a border.
-//! - `places`, `aims`, `growing`: a set of vertices, with what each change of one vertex would add to its sums, and which vertex
-//!   is to change sides next.
-//! - `cuts`: least cuts where demand counts for more and more. `best`: the best sets so far.
+//! - `places`, `aims`, `growing`: a set of vertices, with what each change of one vertex would add to its sums, and
+//!   which vertex is to change sides next.
+//! - `cuts`: least cuts in networks in which demand counts for more and more. `best`: the best sets so far.
 //! - `hunting`: the ways in which sets are looked for.
 //! - `judging`: the sets that fall short, as shores. `search`: the public call.
 #![tactic(auto)]

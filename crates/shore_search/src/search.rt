@@ -51,8 +51,8 @@ impl Effort {
     }
 }
 
-/// A search for sets of vertices that deadheads leave short. It keeps a generator of random numbers, so that each call starts at
-/// other vertices than the one before. Two new searches give the same answers to the same calls.
+/// A search for sets of vertices that deadheads leave short. It keeps a generator of random numbers, so that each call
+/// starts at other vertices than the one before. Two new searches give the same answers to the same calls.
 #[derive(Drop)]
 pub struct Search {
     generator: Lcg64Xsh32,
@@ -77,17 +77,19 @@ impl Search {
         self.work
     }
 
-    /// Shores whose deadheads fall short of what they need by more than a thousandth of one deadhead ([`crate::shortfall`]):
-    /// at most `most`, all different, those of greatest shortfall first. Which of all such shores are found is not promised.
+    /// Shores whose deadheads fall short of what they need by more than a thousandth of one deadhead
+    /// ([`crate::shortfall`]): at most `most`, all different, those of greatest shortfall first. It does not promise
+    /// which of all such shores it finds.
     ///
-    /// `x` has a number for each edge, in the order of the edges, each at most 10^12: its deadheads in parts of 2^20. Judged are
-    /// single vertices, the components of edges with deadheads, the least cuts of ten networks in which demand counts for more and
-    /// more, sets that grow from single vertices by one vertex at a time, and sets that are varied by tabu search (Augerat,
-    /// Belenguer, Benavent, Corberán and Naddef 1998) towards the number of vehicles that they take and one more. The one error is
-    /// want of memory.
+    /// `x` has a number for each edge, in the order of the edges, each at most 10^12: its deadheads in parts of 2^20.
+    /// It judges single vertices, the components of edges with deadheads, the least cuts of ten networks in which
+    /// demand counts for more and more, and sets that grow from single vertices by one vertex at a time. It also judges
+    /// sets that are varied by tabu search (Augerat, Belenguer, Benavent, Corberán and Naddef 1998) towards the number
+    /// of vehicles that they take and one more. The only error is want of memory.
     ///
-    /// With n vertices and m edges it takes ten greatest flows, time in proportion to n * n for each of the at most 400 vertices
-    /// that sets grow from, and to n * n + m for the components; and memory in proportion to n * `most` + m.
+    /// With n vertices and m edges it takes ten greatest flows, time in proportion to n * n for each of the at most 400
+    /// vertices that sets grow from, and time in proportion to n * n + m for the components. It takes memory in
+    /// proportion to n * `most` + m.
     pub fn find(
         &mut self,
         alloc: Global,

@@ -13,8 +13,8 @@ use std::alloc::Global;
 
 /// Distances by the costs of the edges.
 ///
-/// With n vertices and m edges it takes time in proportion to n (n + m) log n, and memory for n * n numbers. The one error is want
-/// of memory.
+/// With n vertices and m edges it takes time in proportion to n (n + m) log n, and memory for n * n numbers. The only
+/// error is want of memory.
 pub fn cost_distances(alloc: Global, inst: &Instance) -> Result<Distances, Memory>
     ensures problem { IfOk result (λ dist. dist.problem ≡ inst.now) }
     ensures prices { IfOk result (λ dist. dist.prices ≡ costs_of inst.now) }
@@ -24,8 +24,9 @@ pub fn cost_distances(alloc: Global, inst: &Instance) -> Result<Distances, Memor
     distances(alloc, inst, &net, &prices)
 }
 
-/// The least cost of a deadhead between two vertices where a tour can stand: the depot and the ends of required edges. It is
-/// at most 999,000,000. The distances are those by cost. It takes no memory.
+/// The least cost of a deadhead between two vertices where a tour can stand: the depot and the ends of required edges.
+/// It is at most 999,000,000, in the instance's unit of cost. The distances are those by cost. It takes constant time
+/// and no memory.
 pub fn least_cost(inst: &Instance, dist: &Distances, from: u32, to: u32) -> u64
     requires problem { dist.now.problem ≡ inst.now }
     requires prices { dist.now.prices ≡ costs_of inst.now }
@@ -40,8 +41,8 @@ pub fn least_cost(inst: &Instance, dist: &Distances, from: u32, to: u32) -> u64
     dist.get(from, to).unwrap() as u64
 }
 
-/// What a lawful plan costs. It takes time in proportion to the plan's walks and steps and the number of required edges, and memory
-/// for a number for each required edge. The one error is want of memory.
+/// What a lawful plan costs. It takes time in proportion to the plan's walks and steps and the number of required
+/// edges, and memory for a number for each required edge. The only error is want of memory.
 pub fn lawful_cost(alloc: Global, inst: &Instance, plan: &Plan) -> Result<u128, Memory>
     requires { IsLawful inst.now plan.now }
     ensures { IfOk result (λ cost. cost ≡ plan_cost inst.now plan.now) }

@@ -12,10 +12,10 @@ use deadhead_paths::Distances;
 use plan_model::{Plan, Step, Walk};
 use std::alloc::Global;
 
-/// The walk from the depot and back that does these tasks on required edges in their order, at most 30,000 of them, joined by
-/// least paths. The distances are those by cost.
+/// The walk from the depot and back that does these tasks on required edges in their order, at most 30,000 of them,
+/// joined by least paths. The distances are those by cost.
 ///
-/// It takes time in proportion to the steps that it writes. The one error is want of memory.
+/// It takes time in proportion to the steps that it writes. The only error is want of memory.
 pub fn join(
     alloc: Global,
     inst: &Instance,
@@ -46,9 +46,9 @@ pub fn join(
     Ok(walk)
 }
 
-/// Adds a walk that does these tasks, on required edges and at most 30,000 of them, to a plan of fewer than 2^32 - 1 walks. The tours
-/// of the earlier walks stay, and a plan that went by least paths does so still. The one error is want of memory, and then the plan
-/// stays as it was.
+/// Adds a walk that does these tasks, on required edges and at most 30,000 of them, to a plan of fewer than 2^32 - 1
+/// walks. The tours of the earlier walks stay, and a plan that went by least paths does so still. The only error is
+/// want of memory, and then the plan stays as it was.
 pub fn add_tour(
     alloc: Global,
     inst: &Instance,

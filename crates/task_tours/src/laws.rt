@@ -4,8 +4,8 @@ ghost use Rattle.task_tours.specs.Laws.{JoinedPlanCosts, LawfulPlansHaveLawfulTo
 use deadhead_paths::{least_prices_are_there, walks_are_task_tours};
 use plan_model::required_edges_are_served_once;
 
-/// Between the depot and the ends of required edges there are least prices, by cost at most 999,000,000; and so tours of tasks on
-/// required edges have a least deadhead in all, and only one.
+/// Between the depot and the ends of required edges there are least prices, by cost at most 999,000,000. So tours of
+/// tasks on required edges have a least deadhead in all, and only one.
 pub fn tours_are_linked()
     ensures linked { StandsAreLinked }
     ensures small { LeastCostIsSmall }
@@ -15,8 +15,8 @@ pub fn tours_are_linked()
     least_prices_are_there();
 }
 
-/// Walks by least paths are a lawful plan where their tours serve each required edge once within the capacity, as those of every
-/// lawful plan do. Such a plan costs its services and the least deadheads of its tours, and no lawful plan with the
+/// Walks by least paths are a lawful plan if their tours serve each required edge once within the capacity, as those of
+/// every lawful plan do. Such a plan costs its services and the least deadheads of its tours. No lawful plan with the
 /// same tours costs less.
 pub fn plans_are_tours()
     ensures lawful { LawfulToursMakeLawfulPlans }

@@ -9,7 +9,7 @@ ghost use Rattle.tight_prices.specs.Searches.{IsOver};
 use carp_base::{Edge, Instance};
 use cut_pool::{Shore, ShorePool};
 
-/// The least price of an edge across a shore, where the prices stand in the order of the edges, and at most this number.
+/// The least price of an edge across a shore, and at most this number. The prices stand in the order of the edges.
 pub(crate) fn least_across(inst: &Instance, shore: &Shore, prices: &[u64], most: u64) -> u64
     requires { length prices.now ≡ length inst.now.edges }
     ensures low { result ≤ most }

@@ -16,14 +16,15 @@ use road_network::Network;
 use route_pricing::Table;
 use std::alloc::Global;
 
-/// Whether a price set fits under a branch: no deadhead price is negative, each shore of negative weight has an upper number, each group
-/// of negative weight is a pair that the branch says yes to, and each relaxed tour that the branch leaves free pays for its services and
-/// bonds. Afterwards the table is filled for the set and the branch, if no deadhead price is negative.
+/// Whether a price set fits under a branch. It does if no deadhead price is negative, each shore of negative weight has
+/// an upper number, each group of negative weight is a pair that the branch says yes to, and each relaxed tour that the
+/// branch leaves free pays for its services and bonds. Afterwards the table is filled for the set and the branch, if no
+/// deadhead price is negative.
 ///
-/// It asks for the network of the instance, a table that was made for it, a branch whose pairs are of required edges, a price for each
-/// required edge, and weights on shores of the pool that belong to the instance. The one error is want of memory. With m required
-/// edges and d decisions it takes time in proportion to m * m + d, the time of the deadhead prices and of the distances by them, and
-/// one fill of the table.
+/// It asks for the network of the instance, a table that was made for it, a branch whose pairs are of required edges, a
+/// price for each required edge, and weights on shores of the pool that belong to the instance. The only error is want
+/// of memory. With m required edges and d decisions it takes time in proportion to m * m + d, the time of the deadhead
+/// prices and of the distances by them, and one fill of the table.
 pub fn fits(
     alloc: Global,
     inst: &Instance,

@@ -21,7 +21,7 @@ pub(crate) fn weights_of(alloc: Global, set: &PriceSet) -> Result<Vec<Weight>, M
     Ok(weights)
 }
 
-/// The weight on a shore, 0 where there is none.
+/// The weight on a shore, or 0 if there is none.
 pub(crate) fn weight_in(set: &PriceSet, shore: u32) -> i64
     ensures value { result ≡ weight_on set.now.weights shore }
     ensures within { IsPriceNumber result }
@@ -35,7 +35,7 @@ pub(crate) fn weight_in(set: &PriceSet, shore: u32) -> i64
     0
 }
 
-/// Weights with another one on a shore; one of 0 does not stand.
+/// Weights with another one on a shore. A weight of 0 does not stand.
 pub(crate) fn heavier(
     alloc: Global,
     all: &[Weight],

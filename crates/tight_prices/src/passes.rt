@@ -35,18 +35,21 @@ pub(crate) struct PricedSet {
     deadheads: Vec<u64>,
 }
 
-/// Raises the numbers of a price set that fits under a branch until none can be raised: first, in the order of the pool, the weights
-/// on those of its first `held` shores that are of one vertex over which some deadhead is needed (`cut_pool::need`), then, in the order
-/// of the edges, the prices of services. Each is raised as far as it goes, or to 10^15. No number becomes less, so the value does not
-/// either, and the denominator and the weights on all other shores stay.
+/// Raises the numbers of a price set that fits under a branch until none can be raised. First come, in the order of the
+/// pool, the weights on those of its first `held` shores that are of one vertex over which some deadhead is needed
+/// (`cut_pool::need`). Then come, in the order of the edges, the prices of services. Each is raised as far as it goes,
+/// or to 10^15. No number becomes less, so the value does not either. The denominator and the weights on all other
+/// shores stay.
 ///
-/// It asks for the network of the instance, a table that was made for it, a branch whose pairs are of required edges, and a pool whose
-/// shores belong to the instance. The one error is want of memory. Afterwards the table is filled for the set that is given.
+/// It asks for the network of the instance, a table that was made for it, a branch whose pairs are of required edges,
+/// and a pool whose shores belong to the instance. The only error is want of memory. Afterwards the table is filled for
+/// the set that is given.
 ///
-/// A number that cannot be raised costs no fill of the table. One that can be raised costs a fill for each try, mostly one to three and
-/// some 60 at most; a price whose last try does not fit costs one more, and one fill stands between weights and prices. With E edges,
-/// m required edges, d decisions, k weights and a capacity of Q, the relation of pairs takes time in proportion to m * m + d, each
-/// shore that is looked at to E, each price to Q, and each try, besides its fill, to E * k and to the distances by its deadhead prices.
+/// A number that cannot be raised costs no fill of the table. One that can be raised costs a fill for each try, mostly
+/// one to three and some 60 at most. A price whose last try does not fit costs one more, and one fill stands between
+/// weights and prices. With E edges, m required edges, d decisions, k weights and a capacity of Q, the relation of
+/// pairs takes time in proportion to m * m + d, each shore that is looked at to E, and each price to Q. Each try takes
+/// time in proportion to E * k and to the distances by its deadhead prices, besides its fill.
 pub fn tighten(
     alloc: Global,
     inst: &Instance,

@@ -14,8 +14,8 @@ use road_network::Network;
 use route_pricing::Table;
 use std::alloc::Global;
 
-/// What price sets are tested against: an instance with its network, a pool of shores, a branch, and the pairs that it does not
-/// exclude.
+/// What price sets are tested against: an instance with its network, a pool of shores, a branch, and the pairs that it
+/// does not exclude.
 #[derive(Clone, Copy)]
 pub(crate) struct Setting<'a> {
     pub(crate) inst: &'a Instance,
@@ -36,7 +36,7 @@ pub(crate) enum Probe {
     TooHeavy,
 }
 
-/// Tests a set. It takes one fill of the table, or none where a deadhead price is negative.
+/// Tests a set. It takes one fill of the table, or none if a deadhead price is negative.
 pub(crate) fn try_set(
     alloc: Global,
     setting: &Setting<'_>,
@@ -58,7 +58,8 @@ pub(crate) fn try_set(
     }
 }
 
-/// Fills the table for a set; `false` exactly where a deadhead price is negative, and then the table stays as it was.
+/// Fills the table for a set. It answers `false` exactly if a deadhead price is negative, and then the table stays as
+/// it was.
 pub(crate) fn fill(
     alloc: Global,
     setting: &Setting<'_>,

@@ -14,8 +14,8 @@ use deadhead_paths::least_prices_are_there;
 use route_pricing::{Rate, Table};
 use std::alloc::Global;
 
-/// A set that fits, by how much more the number can be raised at most, and whether the table is filled for the set. The raise that is
-/// tried next is a guess, and any will do: it only matters for the number of tries.
+/// A set that fits, by how much more the number can be raised at most, and whether the table is filled for the set. The
+/// raise that is tried next is a guess, and any will do: it only matters for the number of tries.
 #[derive(Drop)]
 pub(crate) struct Search {
     pub(crate) set: PriceSet,
@@ -120,8 +120,8 @@ fn refused(search: Search, more: u64, guess: u64) -> Search
     }
 }
 
-/// By how much a number can be raised at most, by a table that is filled for the set: a price by no more than the least value of the
-/// tours that serve the edge. It takes as many steps as the capacity.
+/// By how much a number can be raised at most, by a table that is filled for the set: a price by no more than the least
+/// value of the tours that serve the edge. It takes as many steps as the capacity.
 pub(crate) fn left(table: &Table, place: Place, most: u64) -> u64
     requires ready { IsReady table.now }
     requires edge { IsEdgeOf table.now place }

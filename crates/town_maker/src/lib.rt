@@ -1,6 +1,10 @@
 //! Towns that a number determines: a hundred crossings on a grid, with streets whose costs and demands are drawn.
 //!
-//! A town serves to try the solver on an instance that anyone can make again. [`town`] makes it, and it is valid for every number.
+//! A town serves to try the solver on an instance that anyone can make again. [`town`] makes it, and it is valid for
+//! every number.
+//!
+//! - `grid`, `draws`: where the streets lie, and what is drawn for them.
+//! - `maker`: the town of a number. `laws`: each number has a valid one.
 #![tactic(auto)]
 
 mod draws;

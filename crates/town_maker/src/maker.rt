@@ -30,12 +30,18 @@ fn build(
 
 /// The town of a number: a valid instance that the number determines, for every number.
 ///
-/// It has 100 vertices in ten rows of ten, and the 180 streets between neighbours: first those along the rows, and then those from each
-/// row to the next. The generator of that seed, PCG XSH RR 64/32 (O'Neill), draws for one street after another a cost of 10 to 99 and,
-/// by a draw of 0 or 1, whether it is required, and for a required one a demand of 1 to 9; and at last the depot. A service costs
-/// what a crossing costs, and the capacity is 60.
+/// It has 100 vertices in ten rows of ten, and the 180 streets between neighbours: first those along the rows, and then
+/// those from each row to the next. The generator of that seed is PCG XSH RR 64/32 (O'Neill 2014). For one street after
+/// another it draws a cost of 10 to 99 and, by a draw of 0 or 1, whether it is required. For a required street it also
+/// draws a demand of 1 to 9. At last it draws the depot. A service costs what a crossing costs, and the capacity is 60.
 ///
-/// Its error says only that memory was not to be had. Time and memory are in proportion to the streets, and so the same for all numbers.
+/// The error says only that there was not enough memory. Time and memory are in proportion to the streets, and so the
+/// same for all numbers.
+///
+/// ```
+/// let inst = town(alloc, 7)?;
+/// assert_eq!(rt; (inst.vertices(), inst.edge_count(), inst.required()), (100, 180, 87));
+/// ```
 pub fn town(alloc: Global, seed: u64) -> Result<Instance, Memory>
     ensures { IfOk result (λ inst. inst ≡ town_of seed) }
 {

@@ -40,15 +40,15 @@ impl Given<'_> {
     }
 }
 
-/// The greatest bound, up to a cost below 10^18, that a tree shows: the least of the cost and of what each leaf shows under the decisions
-/// on the way to it. A price leaf shows its value divided by its denominator, rounded up, a fixed leaf the fixed value of its branch,
-/// and a void leaf whatever is asked for. The distances are those by cost.
+/// The greatest bound, up to a cost below 10^18, that a tree shows: the least of the cost and of what each leaf shows
+/// under the decisions on the way to it. A price leaf shows its value divided by its denominator, rounded up. A fixed
+/// leaf shows the fixed value of its branch, and a void leaf every bound. The distances are those by cost.
 ///
-/// The tree would show some bound: its void and fixed leaves are so, and its sets fit under the decisions on the way to them. The only error
-/// is want of memory.
+/// The tree would show some bound: its void and fixed leaves are so, and its sets fit under the decisions on the way to
+/// them. The only error is want of memory.
 ///
-/// With n nodes, m required edges, k weights in a set and at most d decisions on a path it takes time in proportion to n (m + d) k, and
-/// for each fixed leaf besides to m * m + d and to the steps of a plan.
+/// With n nodes, m required edges, k weights in a set and at most d decisions on a path it takes time in proportion to
+/// n (m + d) k, and for each fixed leaf besides to m * m + d and to the steps of a plan.
 pub fn greatest_bound(
     alloc: Global,
     inst: &Instance,

@@ -8,8 +8,8 @@ use crate::{
 use decision_chains::{excluded_is_symmetric, yes_pairs_join};
 use grown_trees::decisions_keep_exclusions;
 
-/// Where numbers rise, the tree that is carried over is lean, its pairs are of required edges, and it shows each bound that the older
-/// tree showed, by each value that a fixed branch has.
+/// If numbers rise, the tree that is carried over is lean, its pairs are of required edges, and it shows each bound
+/// that the older tree showed, by each value that a fixed branch has.
 pub fn carried_trees_show()
     ensures { CarriedTreesShow }
 {

@@ -12,10 +12,12 @@ use carp_base::{Instance, Memory};
 use cut_pool::ShorePool;
 use std::alloc::Global;
 
-/// The tree of an older instance carried over: a node whose pair is excluded under the decisions that are left gives way to its second
-/// child, and so does a cut whose number is below the lower number of its shore. All other nodes stay. The only error is want of memory.
+/// The tree of an older instance carried over. A node whose pair is excluded under the decisions that are left gives
+/// way to its second child, and so does a cut whose number is below the lower number of its shore. All other nodes
+/// stay. The only error is want of memory.
 ///
-/// With n nodes, m required edges and at most d decisions on a path it takes time in proportion to n (m * m + d), and memory for n nodes.
+/// With n nodes, m required edges and at most d decisions on a path it takes time in proportion to n (m * m + d), and
+/// memory for n nodes.
 pub fn carry_tree(
     alloc: Global,
     inst: &Instance,

@@ -20,8 +20,8 @@ pub fn raised_rooms_are_no_more()
     ensures weights { RoomWeightsFall }
 {}
 
-/// A price set that fits an instance fits a raised one, also under a branch that has the same upper numbers, says yes to no fewer pairs and
-/// excludes no fewer.
+/// A price set that fits an instance fits a raised one, also under a branch that has the same upper numbers, says yes
+/// to no fewer pairs and excludes no fewer.
 pub fn raised_sets_stay_fit()
     ensures deadheads { DeadheadsStayLight }
     ensures fit { SetsStayFit }

@@ -1,12 +1,16 @@
 //! Trees of decisions that are carried over to another instance.
 //!
-//! If costs, service costs and demands rise, and streets that need no service are closed, the proof
-//! of a bound need not be found anew. [`carry_tree`] reads the tree of the older instance under the
-//! new one: a pair that is excluded there gives way to its second child, and so does a cut below
-//! the lower number of its shore; all else stays. What is left shows each bound that the older tree
-//! showed ([`carried_trees_show`]), if its fixed branches have values. [`greatest_bound`] says what
-//! such a tree shows with the price sets that it names, and [`note_nodes`] what each of its nodes
-//! shows. Laws say which facts about the old instance are facts about the new one.
+//! If costs, service costs and demands rise, and streets that need no service are closed, the proof of a bound need not
+//! be found anew. [`carry_tree`] reads the tree of the older instance under the new one. A pair that is excluded there
+//! gives way to its second child, and so does a cut below the lower number of its shore. All else stays. What is left
+//! shows each bound that the older tree showed ([`carried_trees_show`]), if its fixed branches have values.
+//!
+//! [`greatest_bound`] says what such a tree shows with the price sets that it names, and [`note_nodes`] what each of
+//! its nodes shows. Laws say which facts about the old instance are facts about the new one.
+//!
+//! - `carrying`: a tree that is carried over, node by node.
+//! - `bounding`, `noting`: the greatest bound that a tree shows, and that of each node.
+//! - `laws`, `carried_laws`: what is proved of raised instances, and of carried trees.
 #![tactic(auto)]
 
 #[cfg(test)]

@@ -16,8 +16,9 @@ use deadhead_paths::Distances;
 use grown_trees::GrowingNode;
 use std::alloc::Global;
 
-/// The nodes of a tree in preorder, each with the greatest bound that it shows by itself, as trees have them that grow at their leaves
-/// (`grown_trees`). What a leaf shows is as in [`greatest_bound`](crate::greatest_bound), and so are the tree and the distances.
+/// The nodes of a tree in preorder, each with the greatest bound that it shows by itself, as trees have them that grow
+/// at their leaves (`grown_trees`). What a leaf shows is as in [`greatest_bound`](crate::greatest_bound), and so are
+/// the tree and the distances.
 ///
 /// The only error is want of memory. It takes time as `greatest_bound` does, and memory for so many nodes.
 pub fn note_nodes(
