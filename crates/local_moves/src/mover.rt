@@ -15,8 +15,8 @@ use std::alloc::Global;
 ///
 /// It draws on from call to call, and begins with its seed; no clause speaks of the draws.
 ///
-/// With r required edges it takes time in proportion to r for each service that one of at most 90,000 steps of ruin and recreate
-/// puts back, and to r * r for each change that settling finds.
+/// With r required edges it takes time in proportion to r for each of at most 120,000 steps of ruin and recreate, and to r * r for each
+/// change that settling finds.
 #[derive(Drop)]
 pub struct MoveFinder {
     generator: Lcg64Xsh32,

@@ -7,19 +7,15 @@ ghost use Rattle.ruin_recreate.specs.Search.{IsSearchOn};
 use crate::board::Board;
 use crate::draws::draw;
 use crate::neighbours::{Neighbours, neighbours};
-use crate::ordering::{order, shuffle};
+use crate::ordering::order;
 use crate::pricing::{fine_of, first_price, next_price};
 use crate::recreating::put;
-use crate::regretting::Regret;
 use crate::rounds::Round;
 use crate::ruining::{Ruin, locate};
 use carp_base::Memory;
 use rand_pcg::Lcg64Xsh32;
 use std::alloc::Global;
 use std::mem;
-
-// A step puts services back by regret if a number below this one that it draws is below the search's share.
-const DRAWS: u32 = 16;
 
 // After so many steps the price of load follows how many of their rounds were lawful.
 const STEPS_AT_A_PRICE: u32 = 16;
@@ -29,9 +25,6 @@ const STEPS_AT_A_PRICE: u32 = 16;
 pub(crate) struct Search {
     near: Vec<Neighbours>,
     ruin: Ruin,
-    regret: Regret,
-    // In how many of 16 steps, on average, services are put back by regret.
-    share: u32,
     pub(crate) current: Round,
     trial: Round,
     // The load above the room in the current round.
@@ -46,12 +39,7 @@ pub(crate) struct Search {
 }
 
 impl Search {
-    pub(crate) fn new(
-        alloc: Global,
-        board: &Board,
-        start: Vec<u32>,
-        share: u32,
-    ) -> Result<Search, Memory>
+    pub(crate) fn new(alloc: Global, board: &Board, start: Vec<u32>) -> Result<Search, Memory>
         requires board { IsBoard board.now }
         requires within { All (λ x. x < board.now.width) start.items }
         ensures { IfOk result (IsSearchOn board.now.width) }
@@ -62,8 +50,6 @@ impl Search {
         Ok(Search {
             near: neighbours(alloc, board)?,
             ruin: Ruin::new(alloc, board.width)?,
-            regret: Regret::new(alloc),
-            share,
             current,
             trial: Round::new(alloc, board.width)?,
             excess: 0,
@@ -84,43 +70,6 @@ impl Search {
         locate(&self.current, &mut self.ruin.places);
     }
 
-    // Puts services back one after another, each where it costs least.
-    fn put_in_order(&mut self, board: &Board, costs: &[u32]) -> Result<(), Memory>
-        requires board { IsBoard board.now }
-        requires search { IsSearchOn board.now.width self.old }
-        requires costs { length costs.now ≡ board.now.width }
-        ensures { OnOk result (IsSearchOn board.now.width self.new) }
-    {
-        for i in 0..self.ruin.removed.len() {
-            let stop = self.ruin.removed[i].stop;
-            put(board, costs, &mut self.trial, self.price, stop)?;
-        }
-        Ok(())
-    }
-
-    // Puts services back by regret, or in an order that is drawn.
-    fn recreate(
-        &mut self,
-        board: &Board,
-        costs: &[u32],
-        generator: &mut Lcg64Xsh32,
-    ) -> Result<(), Memory>
-        requires board { IsBoard board.now }
-        requires search { IsSearchOn board.now.width self.old }
-        requires costs { length costs.now ≡ board.now.width }
-        ensures { OnOk result (IsSearchOn board.now.width self.new) }
-    {
-        if draw(generator, DRAWS) < self.share {
-            shuffle(&mut self.ruin.removed, generator);
-            let removed = &self.ruin.removed;
-            self.regret
-                .put_back(board, costs, &mut self.trial, self.price, removed)
-        } else {
-            order(board, &mut self.ruin.removed, generator);
-            self.put_in_order(board, costs)
-        }
-    }
-
     // Makes the trial: some services of the current round are taken out and put back.
     fn vary(
         &mut self,
@@ -137,8 +86,13 @@ impl Search {
         self.ruin
             .take_out(board, &self.current, &self.near, generator)?;
         self.trial.rest(board, &self.current, &self.ruin.gone)?;
-        self.ruin.unmark(board);
-        self.recreate(board, costs, generator)
+        order(board, &mut self.ruin.removed, generator);
+        for i in 0..self.ruin.removed.len() {
+            let stop = self.ruin.removed[i].stop;
+            put(board, costs, &mut self.trial, self.price, stop)?;
+            self.ruin.gone[stop as usize / 2] = false;
+        }
+        Ok(())
     }
 
     // Whether the trial costs no more than the current round and a limit, which is in 256ths and is rounded at random.

@@ -8,12 +8,9 @@ use crate::board::Board;
 use crate::rounds::{Gap, Round};
 use carp_base::Memory;
 
-// No service costs so much at a seat that it is offered.
-pub(crate) const TOO_DEAR: u64 = 1 << 40;
-
 // A service that is put back.
 #[derive(Clone, Copy)]
-pub(crate) struct Service<'a> {
+struct Service<'a> {
     stop: u32,
     // The links from it to all stops, and the same of the service in its other direction.
     ahead: &'a [u32],
@@ -22,47 +19,21 @@ pub(crate) struct Service<'a> {
     crossing: u32,
 }
 
-// A gap of a tour, counted from the first gap of that tour, and whether the service goes there in its other direction.
+// A gap of a tour, and whether the service goes there in its other direction.
 #[derive(Clone, Copy)]
-pub(crate) struct Seat {
-    pub(crate) tour: usize,
-    pub(crate) place: usize,
-    pub(crate) turned: bool,
+struct Seat {
+    tour: usize,
+    place: usize,
+    turned: bool,
 }
 
-// A seat for a service, if there is one, and what it costs there: the deadheads that it adds, the fine for loads above the
-// room, and a crossing of its edge. With that crossing it is never below 0: by way of the edge one comes over the gap, and so
-// for no less than its price.
+// A seat for a service, or a tour of its own, and what it costs there: the deadheads that it adds, the fine for loads above
+// the room, and a crossing of its edge. With that crossing it is never below 0: by way of the edge one comes over the gap, and
+// so for no less than its price.
 #[derive(Clone, Copy)]
-pub(crate) struct Offer {
-    pub(crate) cost: u64,
-    pub(crate) seat: Option<Seat>,
-}
-
-// The service of a stop.
-pub(crate) fn service_at<'a>(board: &'a Board, costs: &[u32], stop: u32) -> Service<'a>
-    requires board { IsBoard board.now }
-    requires costs { length costs.now ≡ board.now.width }
-    requires stop { stop < board.now.width }
-    ensures stop { result.stop ≡ stop }
-    ensures ahead { length result.ahead.now ≡ board.now.width }
-    ensures back { length result.back.now ≡ board.now.width }
-{
-    Service {
-        stop,
-        ahead: board.row(stop),
-        back: board.row(board.turn(stop)),
-        crossing: costs[stop as usize],
-    }
-}
-
-// What a service costs in a tour of its own.
-pub(crate) fn own_cost(service: Service) -> u64
-    requires ahead { 1 ≤ length service.ahead.now }
-    requires back { 1 ≤ length service.back.now }
-    ensures { result < 2 ^ 34 }
-{
-    u64::from(service.ahead[0]) + u64::from(service.back[0]) + u64::from(service.crossing)
+struct Offer {
+    cost: u64,
+    seat: Option<Seat>,
 }
 
 // What is paid for the load above the room that a demand adds to a tour.
@@ -101,66 +72,13 @@ fn best_in_tour(
                 cost: cost.saturating_sub(u64::from(gap.price)),
                 seat: Some(Seat {
                     tour,
-                    place: place - places.0,
+                    place,
                     turned: back < ahead,
                 }),
             };
         }
     }
     best
-}
-
-// The best of an offer and a tour, if the fine alone is less there than a limit.
-fn best_with_tour(
-    board: &Board,
-    round: &Round,
-    service: Service,
-    price: u64,
-    tour: usize,
-    limit: u64,
-    best: Offer,
-) -> Offer
-    requires board { IsBoard board.now }
-    requires round { IsRoundOn board.now.width round.now }
-    requires stop { service.stop < board.now.width }
-    requires ahead { length service.ahead.now ≡ board.now.width }
-    requires back { length service.back.now ≡ board.now.width }
-    requires limit { limit ≤ 2 ^ 40 }
-    requires best { best.cost ≤ 2 ^ 40 }
-    ensures { result.cost ≤ 2 ^ 40 }
-{
-    let Some(&open) = round.tours.get(tour) else {
-        return best;
-    };
-    let fine = fine(open.load, board.demand(service.stop), board.room, price);
-    if fine >= limit {
-        return best;
-    }
-    let places = (open.first, round.end(tour));
-    let extra = fine + u64::from(service.crossing);
-    best_in_tour(&round.gaps, places, service, tour, extra, best)
-}
-
-// The best seat for a service in a tour, if the fine alone is less there than what a tour of its own costs.
-pub(crate) fn offer_of(
-    board: &Board,
-    round: &Round,
-    service: Service,
-    price: u64,
-    tour: usize,
-) -> Offer
-    requires board { IsBoard board.now }
-    requires round { IsRoundOn board.now.width round.now }
-    requires stop { service.stop < board.now.width }
-    requires ahead { length service.ahead.now ≡ board.now.width }
-    requires back { length service.back.now ≡ board.now.width }
-{
-    let limit = own_cost(service);
-    let none = Offer {
-        cost: TOO_DEAR,
-        seat: None,
-    };
-    best_with_tour(board, round, service, price, tour, limit, none)
 }
 
 // The best offer for a service: a tour of its own, or a seat in a tour whose fine alone is less than the best so far.
@@ -171,36 +89,21 @@ fn best_offer(board: &Board, round: &Round, service: Service, price: u64) -> Off
     requires ahead { length service.ahead.now ≡ board.now.width }
     requires back { length service.back.now ≡ board.now.width }
 {
+    let crossing = u64::from(service.crossing);
+    let demand = board.demand(service.stop);
     let mut best = Offer {
-        cost: own_cost(service),
+        cost: u64::from(service.ahead[0]) + u64::from(service.back[0]) + crossing,
         seat: None,
     };
     for tour in 0..round.tours.len() {
-        best = best_with_tour(board, round, service, price, tour, best.cost, best);
-    }
-    best
-}
-
-// Puts a service into a seat, or into a tour of its own.
-pub(crate) fn take_seat(
-    board: &Board,
-    round: &mut Round,
-    stop: u32,
-    seat: Option<Seat>,
-) -> Result<(), Memory>
-    requires board { IsBoard board.now }
-    requires round { IsRoundOn board.now.width round.old }
-    requires stop { stop < board.now.width }
-    ensures { OnOk result (IsRoundOn board.now.width round.new) }
-{
-    match seat {
-        None => round.open_tour(board, stop),
-        Some(seat) => {
-            let stop = if seat.turned { board.turn(stop) } else { stop };
-            let place = round.start(seat.tour).saturating_add(seat.place);
-            round.insert(board, stop, seat.tour, place)
+        let open = round.tours[tour];
+        let fine = fine(open.load, demand, board.room, price);
+        if fine < best.cost {
+            let places = (open.first, round.end(tour));
+            best = best_in_tour(&round.gaps, places, service, tour, fine + crossing, best);
         }
     }
+    best
 }
 
 // Puts a service back where it costs least.
@@ -217,7 +120,18 @@ pub(crate) fn put(
     requires stop { stop < board.now.width }
     ensures { OnOk result (IsRoundOn board.now.width round.new) }
 {
-    let service = service_at(board, costs, stop);
-    let offer = best_offer(board, round, service, price);
-    take_seat(board, round, stop, offer.seat)
+    let turned = board.turn(stop);
+    let service = Service {
+        stop,
+        ahead: board.row(stop),
+        back: board.row(turned),
+        crossing: costs[stop as usize],
+    };
+    match best_offer(board, round, service, price).seat {
+        None => round.open_tour(board, stop),
+        Some(seat) => {
+            let stop = if seat.turned { turned } else { stop };
+            round.insert(board, stop, seat.tour, seat.place)
+        }
+    }
 }

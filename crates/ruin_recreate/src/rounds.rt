@@ -198,14 +198,6 @@ impl Round {
         Ok(())
     }
 
-    // The place of the first gap of a tour, or one behind all gaps if there is no such tour.
-    pub(crate) fn start(&self, tour: usize) -> usize {
-        match self.tours.get(tour) {
-            Some(found) => found.first,
-            None => usize::MAX,
-        }
-    }
-
     // The place behind the last gap of a tour.
     pub(crate) fn end(&self, tour: usize) -> usize
         ensures { result ≤ length self.now.gaps.items }

@@ -1,5 +1,0 @@
-use Rattle.ruin_recreate.specs.Search.{AreOut}
-use Rattle.ruin_recreate.proofs.regretting.Regret.add.Given as goal
-
-abbrev pub invariant-loop-tour : goal.invariant-loop-tour
-invariant-loop-tour l = AreOut l.board.width l.self.out.items
