@@ -20,7 +20,8 @@ import tempfile
 sys.dont_write_bytecode = True
 sys.path.insert(0, os.path.join(os.path.dirname(os.path.abspath(__file__)), "plain"))
 import check  # noqa: E402
-from mutated_certificates import made_by_hand, mutated, text_of  # noqa: E402
+from mutated_certificates import made_by_hand, mutated, parted, text_of, with_groups, without_counts  # noqa: E402
+from mutated_groups import lines_at_limits, mutated_lines, with_bonds  # noqa: E402
 from mutated_texts import draw_far, draw_instance, mutated_instance, mutated_text, text_of_instance  # noqa: E402
 from reading import LONGEST_CERTIFICATE, LONGEST_INSTANCE, USAGE, PriceSet, read_certificate  # noqa: E402
 
@@ -29,6 +30,8 @@ EACH = 25  # mutants of an instance
 # Every kind of answer of the page; X stands for a number.
 KINDS = """
 accepted
+accepted with groups
+accepted with yes weights
 bad certificate: ends before line X is complete
 bad certificate: line X cannot be read
 bad certificate: line X passes a limit
@@ -74,6 +77,7 @@ rejected: node X is not void
 rejected: prices X do not fit the instance
 rejected: set X at node X has a tour at X
 rejected: set X at node X has no upper number for shore X
+rejected: set X at node X needs the pair X X
 rejected: set X prices edge X at X
 rejected: shore X does not fit the instance
 rejected: tour X does not start and end at the depot
@@ -119,7 +123,7 @@ class Race:
         answer = check.answer(file, certificate)
         ours = (answer.code, "".join(line + "\n" for line in answer.lines))
         self.codes[ours[0]] += 1
-        self.kinds[re.sub(r"-?\d+", "X", answer.lines[0])] += 1
+        self.kinds[re.sub(r"-?\d+", "X", answer.lines[0]) + (groups_of(certificate) if answer.code == 0 else "")] += 1
         false = answer.code == 0 and int(answer.lines[2][6:]) > int(answer.lines[1][5:])  # no bound is above what a lawful plan costs
         if ours != theirs or run.stderr or false:
             self.differences += 1
@@ -147,29 +151,44 @@ def write(path, data):
         file.write(data)
 
 
+def groups_of(path):
+    """What weights a certificate has besides those of shores."""
+    with open(path, "rb") as file:
+        data = file.read()
+    if re.search(rb"^bonds.* -", data, re.MULTILINE):
+        return " with yes weights"
+    return " with groups" if data.startswith(b"carp-certificate 4") else ""
+
+
 def one(rng, race, instance, text, solved, other):
     """One mutant of an instance and its certificate, where the other certificate is that of another instance."""
     certificate = read_certificate(solved)
-    kind = rng.randrange(20)
+    if rng.randrange(3):
+        certificate = with_groups(rng, instance, certificate)
+    kind = rng.randrange(26)
     if kind < 4:
-        race.judge(text, mutated_text(rng, solved))
-    elif kind < 9:
+        race.judge(text, mutated_text(rng, text_of(certificate)))
+    elif kind < 7:
+        race.judge(text, mutated_lines(rng, text_of(certificate)))
+    elif kind < 12:
         race.judge(text, text_of(mutated(rng, instance, certificate)))
-    elif kind < 15:
-        race.judge(text, text_of(made_by_hand(rng, instance, certificate)))
     elif kind < 18:
-        version = certificate if rng.randrange(3) == 0 else certificate._replace(counts=None)
+        race.judge(text, text_of(made_by_hand(rng, instance, certificate)))
+    elif kind < 20:
+        race.judge(text, text_of(parted(rng, instance, certificate)))
+    elif kind < 24:
+        version = without_counts(certificate) if rng.randrange(2) else certificate
         race.judge(mutated_instance(rng, instance), text_of(version))
-    elif kind == 18:
+    elif kind == 24:
         foreign = read_certificate(other)
-        race.judge(text, text_of(foreign if rng.randrange(3) == 0 else foreign._replace(counts=None)))
+        race.judge(text, text_of(without_counts(foreign) if rng.randrange(3) else foreign))
     else:
         mixed = made_by_hand(rng, instance, certificate)
         race.judge(text, mutated_text(rng, text_of(mixed)))
 
 
 def special(race, instance, text, solved):
-    """Files beyond the limits of length, and files that are not there."""
+    """Files beyond the limits of length, files that are not there, groups at their limits, and reasons of a leaf that come before others."""
     race.judge(text + b" " * (LONGEST_INSTANCE - len(text)), solved)
     race.judge(text + b" " * (LONGEST_INSTANCE + 1 - len(text)), solved)
     race.judge(b"(" + text + b" " * LONGEST_INSTANCE, b"x\n")
@@ -182,8 +201,15 @@ def special(race, instance, text, solved):
     for nodes in [b"nodes 3\nprice 0\n", b"nodes 2\nprice 1\nprice 0\n", b"nodes 1\npair 0 1\n", b"nodes 1\npair 1 601\n"]:
         race.judge(text, solved[:solved.index(b"nodes")] + nodes)
     plain = read_certificate(solved)._replace(shores=[[vertex for vertex in range(1, instance.vertices + 1) if vertex != instance.depot]])
-    sets = [PriceSet(1, [0] * instance.required, [(1, 10**9)]), PriceSet(1, [0] * (instance.required + 1), [])]
+    sets = [PriceSet(1, [0] * instance.required, [(1, 10**9)], []), PriceSet(1, [0] * (instance.required + 1), [], [])]
     race.judge(text, text_of(plain._replace(sets=sets)))
+    yes, other = (-1, [1, 2]), (-1, [2, 3])
+    for weights, groups in [([(1, -1)], [yes]), ([], [yes]), ([], [yes, other]), ([], [other, yes]), ([], [(1, [1, 2]), other])]:
+        dear = PriceSet(1, [10**9] * instance.required, weights, groups)  # no upper number, then a missing pair, then a tour that earns too much
+        race.judge(text, text_of(plain._replace(sets=[dear], nodes=[["price", 1]])))
+    for line in lines_at_limits():
+        race.judge(text, with_bonds(solved, line))
+    race.judge(text, with_bonds(text_of(plain._replace(sets=[])), b""))
     race.judge(b"(" + text, b"x\n")
     race.compare(race.file, os.path.join(race.folder, "none"))
     with open(race.certificate, "wb") as file:

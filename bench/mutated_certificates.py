@@ -1,6 +1,7 @@
 """Changes certificates in many ways, and makes trees and prices by hand."""
 import check
 from check import Branch
+from mutated_groups import change_groups, draw_group, draw_groups, draw_yes_weights, scaled
 from mutated_texts import replaced
 from reading import PriceSet
 
@@ -9,7 +10,9 @@ from reading import PriceSet
 
 def text_of(certificate):
     counts, cost, bound, tours, shores, sets, nodes = certificate
-    out = ["carp-certificate 1"] if counts is None else ["carp-certificate 2", "instance " + " ".join(map(str, counts))]
+    grouped = any(prices.groups for prices in sets)  # without counts the text is then of no version
+    out = [f"carp-certificate {4 if grouped else 1 if counts is None else 2}"]
+    out += [] if counts is None else ["instance " + " ".join(map(str, counts))]
     out += [f"cost {cost}", f"bound {bound}", f"tours {len(tours)}"]
     out += [" ".join(["tour", str(len(tour)), *(f"{byte}{edge}" for byte, edge in tour)]) for tour in tours]
     out.append(f"shores {len(shores)}")
@@ -18,9 +21,17 @@ def text_of(certificate):
     for prices in sets:
         out.append(" ".join(map(str, ["prices", prices.denominator, len(prices.prices), *prices.prices])))
         out.append(" ".join(map(str, ["weights", len(prices.weights), *sum(map(list, prices.weights), [])])))
+        if grouped:
+            groups = [number for weight, edges in prices.groups for number in [weight, len(edges), *edges]]
+            out.append(" ".join(map(str, ["bonds", len(prices.groups), *groups])))
     out.append(f"nodes {len(nodes)}")
     out += [" ".join(map(str, node)) for node in nodes]
     return "\n".join(out + ["end", ""]).encode()
+
+
+def without_counts(certificate):
+    """The certificate in version 1, and so without groups."""
+    return certificate._replace(counts=None, sets=[prices._replace(groups=[]) for prices in certificate.sets])
 
 
 def counts_of(instance):
@@ -102,7 +113,7 @@ def change_shores(rng, instance, certificate):
 
 def changed_prices(rng, certificate, prices):
     """The set with another price, weight or number, or with a weight more."""
-    denominator, values, weights = prices
+    denominator, values, weights, groups = prices
     by = rng.choice([-1, 1, -1, 1, -denominator, denominator, rng.randint(-10, 10) * denominator, rng.choice([-1, 1]) * 10**rng.randint(2, 15)])
     kind = rng.randrange(7)
     if kind == 0 and values:
@@ -118,7 +129,8 @@ def changed_prices(rng, certificate, prices):
         return prices._replace(denominator=max(1, denominator + by))
     if kind == 4:
         scale = rng.choice([1, 2, 3, 5, 1_000, 10**6, 10**9])
-        return PriceSet(denominator * scale, [value * scale for value in values], [(shore, weight * scale) for shore, weight in weights])
+        values, weights = [value * scale for value in values], [(shore, weight * scale) for shore, weight in weights]
+        return PriceSet(denominator * scale, values, weights, scaled(groups, scale))
     if kind == 5:
         return prices._replace(prices=values[:-1] if rng.randrange(2) else [*values, by])
     chosen = dict(weights)
@@ -185,7 +197,7 @@ def change_head(rng, instance, certificate):
 
 
 def mutated(rng, instance, certificate):
-    changes = [change_tours, change_shores, change_sets, change_sets, change_tree, change_tree, change_head]
+    changes = [change_tours, change_shores, change_sets, change_sets, change_groups, change_groups, change_tree, change_tree, change_head]
     if rng.randrange(5) == 0:
         changes = [rng.choice(changes)]  # of one sort, and more of them
     for _ in range(rng.choice([1, 1, 1, 2, 2, 3]) if len(changes) > 1 else rng.randint(2, 5)):
@@ -201,7 +213,7 @@ def draw_prices(rng, instance, shores, sets):
     """Prices and weights from nothing, or those of a set of the certificate changed, made small enough that no tour earns more than it pays at the root."""
     named = [(number, rng.randint(1, 3)) for number in range(1, len(shores) + 1) if rng.randrange(2)]
     denominator = rng.choice([1, 1, 2, 3, 60])
-    prices = PriceSet(denominator, [edge.service * denominator + rng.randint(-1, 5) for edge in instance.edges[:instance.required]], named)
+    prices = PriceSet(denominator, [edge.service * denominator + rng.randint(-1, 5) for edge in instance.edges[:instance.required]], named, [])
     if sets and rng.randrange(3):
         prices = rng.choice(sets)
         if len(prices.prices) != instance.required or any(shore > len(shores) for shore, _ in prices.weights):
@@ -209,7 +221,11 @@ def draw_prices(rng, instance, shores, sets):
     if rng.randrange(2):
         prices = prices._replace(weights=[(shore, -weight if rng.randrange(3) == 0 else weight) for shore, weight in prices.weights])
     prices = prices._replace(prices=[value + rng.randint(0, 2 * prices.denominator) for value in prices.prices])
-    prices = lowered(instance, shores, prices)
+    if rng.randrange(2):
+        prices = prices._replace(groups=draw_groups(rng, instance, prices.denominator))
+    prices = lowered(instance, shores, root(instance, shores), prices)
+    if rng.randrange(10) == 0:
+        prices = prices._replace(groups=prices.groups + [(-rng.randint(1, prices.denominator), draw_group(rng, instance)[:2])])
     if rng.randrange(6) == 0 and prices.prices:
         place = rng.randrange(instance.required)
         return prices._replace(prices=replaced(prices.prices, place, prices.prices[place] + 1))
@@ -219,8 +235,11 @@ def draw_prices(rng, instance, shores, sets):
 def raised(rng, instance, shores, branch, prices):
     """The set with prices raised as far as no tour of the branch earns more than it pays, and now and then one more."""
     values = list(prices.prices)
+    table = check.distances(instance, check.deadhead_prices(instance, shores, prices))
     for place in rng.sample(range(len(values)), len(values)):
-        low, high = 0, 4_000_000 * prices.denominator
+        edge = instance.edges[place]
+        alone = prices.denominator * edge.service + table[instance.depot, edge.u] + table[edge.v, instance.depot]
+        low, high = 0, max(0, alone - values[place])  # the tour of this edge alone pays at most so much more
         while low < high:
             middle = (low + high + 1) // 2
             more = prices._replace(prices=replaced(values, place, values[place] + middle))
@@ -235,15 +254,15 @@ def root(instance, shores):
     return Branch(set(), set(), {number: check.least_crossings(instance, shore) for number, shore in enumerate(shores, 1)}, {}, 0)
 
 
-def lowered(instance, shores, prices):
-    """The set with weights that leave no price of a deadhead below 0, and prices such that the least tour is at 0 or more at the root."""
+def lowered(instance, shores, branch, prices):
+    """The set with weights that leave no price of a deadhead below 0, and prices such that the least tour of the branch is at 0 or more."""
     for _ in range(20):
         if min(check.deadhead_prices(instance, shores, prices), default=0) >= 0:
             break
         prices = prices._replace(weights=[(shore, weight - 1 or -1) for shore, weight in prices.weights if weight != 1])
     if min(check.deadhead_prices(instance, shores, prices), default=0) < 0:
         prices = prices._replace(weights=[])
-    least = check.least_tour(instance, shores, root(instance, shores), prices)
+    least = check.least_tour(instance, shores, branch, prices)
     return prices._replace(prices=[value + least for value in prices.prices])
 
 
@@ -280,6 +299,16 @@ def children_of(branch, node):
     if kind == "cut":
         return check.branches_of_cut(branch, first, second)
     return [branch._replace(no=branch.no | {(first, second)}), branch._replace(yes=branch.yes | {(first, second)})]
+
+
+def branches_of(instance, certificate):
+    """The branch of each node, in the order of the nodes."""
+    branches, waiting = [], [root(instance, certificate.shores)]
+    for node in certificate.nodes:
+        branches.append(waiting.pop())
+        if node[0] in ("pair", "cut"):
+            waiting += children_of(branches[-1], node)
+    return branches
 
 
 def grown_tree(rng, instance, certificate, deep):
@@ -321,20 +350,46 @@ def made_by_hand(rng, instance, certificate):
     return tightened(rng, instance, certificate) if rng.randrange(4) else certificate
 
 
+def with_groups(rng, instance, certificate):
+    """The certificate with weights on groups in its sets, and the bound that it shows with them. A weight only adds to what tours pay."""
+    sets = [prices._replace(groups=prices.groups + draw_groups(rng, instance, prices.denominator)) for prices in certificate.sets]
+    sets = [prices if rng.randrange(3) else old for prices, old in zip(sets, certificate.sets)]
+    return tightened(rng, instance, certificate._replace(sets=sets))
+
+
 def with_raised(rng, instance, certificate):
-    """The certificate, in which one price leaf names a set of its own, raised as far as its branch lets it."""
+    """The certificate, in which one price leaf names a set of its own."""
     places = [place for place, node in enumerate(certificate.nodes) if node[0] == "price"]
-    if not places or not certificate.sets or any(node[0] == "pair" and node[2] > instance.required for node in certificate.nodes):
+    if not places or not certificate.sets or not has_known_pairs(instance, certificate):
         return certificate
-    chosen = rng.choice(places)
-    branches = [root(instance, certificate.shores)]
-    for node in certificate.nodes[:chosen]:
-        branch = branches.pop()
-        if node[0] in ("pair", "cut"):
-            branches += children_of(branch, node)
-    own = raised(rng, instance, certificate.shores, branches.pop(), rng.choice(certificate.sets))
-    nodes = replaced(certificate.nodes, chosen, ["price", len(certificate.sets) + 1])
+    return with_own_set(rng, instance, certificate, rng.choice(places), rng.choice(certificate.sets))
+
+
+def has_known_pairs(instance, certificate):
+    return all(node[0] != "pair" or node[2] <= instance.required for node in certificate.nodes)
+
+
+def with_own_set(rng, instance, certificate, place, prices):
+    """The certificate, in which the price leaf at a place names a set of its own, perhaps with yes weights, raised as far as its branch lets it."""
+    branch = branches_of(instance, certificate)[place]
+    if rng.randrange(3):
+        more = draw_yes_weights(rng, branch, prices.denominator)
+        prices = lowered(instance, certificate.shores, branch, prices._replace(groups=prices.groups + more))
+    own = raised(rng, instance, certificate.shores, branch, prices)
+    nodes = replaced(certificate.nodes, place, ["price", len(certificate.sets) + 1])
     return certificate._replace(sets=[*certificate.sets, own], nodes=nodes)
+
+
+def parted(rng, instance, certificate):
+    """The plan of the certificate, a small tree of pairs whose price leaves name sets of their own, and the bound that it shows."""
+    first = draw_prices(rng, instance, [], [])
+    certificate = certificate._replace(shores=[], sets=[first], bound=0)
+    certificate = certificate._replace(nodes=grown_tree(rng, instance, certificate, rng.choice([0, 0, 1])))
+    if has_known_pairs(instance, certificate):
+        for place, node in enumerate(certificate.nodes):
+            if node[0] == "price":
+                certificate = with_own_set(rng, instance, certificate, place, first)
+    return tightened(rng, instance, certificate)
 
 
 def tightened(rng, instance, certificate):

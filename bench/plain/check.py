@@ -4,10 +4,11 @@
 usage: check.py FILE CERT
 
 It was written from docs/FORMATS.md without a look at the code: reading.py reads the two texts, and here stands what makes a certificate good for an instance.
-What that page left open then about the words on nodes was settled by what the program answers, and stands there now. It is for small instances, and slow.
+What that page left open then about the words on nodes was settled by what the program answers, and stands there now. Groups were added from the page alone,
+before the program knew them. It is for small instances, and slow.
 """
 import sys
-from collections import namedtuple
+from collections import Counter, namedtuple
 
 from reading import LONGEST_CERTIFICATE, LONGEST_INSTANCE, USAGE, Answer, read_certificate, read_instance
 
@@ -244,18 +245,43 @@ def judge_price_leaf(instance, certificate, branch, number, named):
     for shore, weight in prices.weights:
         if weight < 0 and shore not in branch.upper:
             reject(f"set {named} at node {number} has no upper number for shore {shore}")
+    for weight, group in prices.groups:
+        if weight < 0 and tuple(group) not in branch.yes:
+            reject(f"set {named} at node {number} needs the pair {group[0]} {group[1]}")
     least = least_tour(instance, certificate.shores, branch, prices)
     if least < 0:
         reject(f"set {named} at node {number} has a tour at {least}")
+    judge_value(number, set_value(instance, branch, prices), prices.denominator * (certificate.bound - 1))
+
+
+def set_value(instance, branch, prices):
     value = sum(prices.prices)
     value += sum(weight * (branch.lower if weight > 0 else branch.upper)[shore] for shore, weight in prices.weights)
-    judge_value(number, value, prices.denominator * (certificate.bound - 1))
+    return value - sum(weight * (room(instance, group) if weight > 0 else 1) for weight, group in prices.groups)
+
+
+def room(instance, group):
+    """How many bonds of a group a plan can have. An edge that is not required, or not in the instance, has no demand."""
+    demand = load_of(instance, [edge for edge in group if edge <= instance.required])
+    return len(group) - -(-demand // instance.capacity)
+
+
+def bond_weights(instance, groups):
+    """What it pays besides if two edges are served one directly after the other: the weights of the groups that both are of."""
+    weights = Counter()
+    for weight, group in groups:
+        members = [edge for edge in group if edge <= instance.required]
+        for a in members:
+            for b in members:
+                weights[a, b] += weight
+    return weights
 
 
 def least_tour(instance, shores, branch, prices):
     """The least that a tour pays less what it earns, or 0 where none is below. It is a closed walk from the depot whose services have the capacity
     as their demand at most; one edge is served directly after another only if their pair is open or said yes to, and so never directly after itself,
     but it may be served again later."""
+    bonds = bond_weights(instance, prices.groups)
     table = distances(instance, deadhead_prices(instance, shores, prices))
     numbers = range(1, instance.required + 1)
     follows = {(a, b) for a in numbers for b in numbers if a != b and ((min(a, b), max(a, b)) in branch.yes or is_open(instance, branch, a, b))}
@@ -270,7 +296,11 @@ def least_tour(instance, shores, branch, prices):
                 continue
             starts = {(None, instance.depot): 0} if before == 0 else at[before]
             for begin, end in ways(edge):
-                reached = [price + table[place, begin] for (last, place), price in starts.items() if last is None or (last, number) in follows]
+                reached = [
+                    price + bonds[last, number] + table[place, begin]
+                    for (last, place), price in starts.items()
+                    if last is None or (last, number) in follows
+                ]
                 if reached:
                     price = min(reached) + prices.denominator * edge.service - prices.prices[number - 1]
                     at[load][number, end] = price

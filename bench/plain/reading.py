@@ -146,7 +146,7 @@ def reached_from(instance):
 # ---- The text of a certificate ----
 
 Certificate = namedtuple("Certificate", "counts cost bound tours shores sets nodes")
-PriceSet = namedtuple("PriceSet", "denominator prices weights")  # weights are pairs of a shore and a weight
+PriceSet = namedtuple("PriceSet", "denominator prices weights groups")  # weights are pairs of a shore and a weight, groups of a weight and a list of edges
 
 
 class Reader:
@@ -188,13 +188,13 @@ class Reader:
 
 def read_certificate(data):
     reader = Reader(data)
-    version = reader.take("carp-certificate (1|2)")[1]
-    counts = read_counts(reader) if version == "2" else None
+    version = reader.take("carp-certificate (1|2|4)")[1]
+    counts = read_counts(reader) if version != "1" else None
     cost = reader.number_of("cost", 0, 10**18 - 1)
     bound = reader.number_of("bound", 0, 10**18 - 1)
     tours = read_tours(reader)
     shores = read_shores(reader)
-    sets = [read_set(reader, len(shores)) for _ in range(reader.number_of("sets", 0, 256))]
+    sets = read_sets(reader, len(shores), version == "4")
     nodes = read_nodes(reader, len(shores), len(sets))
     reader.take("end")
     reader.finish()
@@ -240,14 +240,27 @@ def read_shores(reader):
     return shores
 
 
-def read_set(reader, shores):
+def read_sets(reader, shores, grouped):
+    sets, count = [], reader.number_of("sets", 0, 256)
+    for _ in range(count):
+        denominator, prices = read_prices(reader)
+        weights = read_weights(reader, shores)
+        sets.append(PriceSet(denominator, prices, weights, read_groups(reader) if grouped else []))
+    reader.agree(not grouped or any(prices.groups for prices in sets))  # the last line is that of the last set, or that of their number
+    return sets
+
+
+def read_prices(reader):
     denominator, count, *prices = [int(word) for word in reader.take("prices NAT NAT( INT)*")[1:]]
     reader.within(denominator, 1, 1_000_000)
     reader.within(count, 0, 600)
     for price in prices:
         reader.within(price, -10**15, 10**15)
     reader.agree(len(prices) == count)
+    return denominator, prices
 
+
+def read_weights(reader, shores):
     count, *numbers = [int(word) for word in reader.take("weights NAT( NAT INT)*")[1:]]
     weighted, weights = numbers[0::2], numbers[1::2]
     reader.within(count, 0, shores)
@@ -255,7 +268,38 @@ def read_set(reader, shores):
         reader.within(shore, 1, shores)
         reader.within(weight, -10**15, 10**15)
     reader.agree(len(weights) == count and rising(weighted) and 0 not in weights)
-    return PriceSet(denominator, prices, list(zip(weighted, weights)))
+    return list(zip(weighted, weights))
+
+
+def read_groups(reader):
+    """The groups of a set, each a weight and a list of edges."""
+    count, *numbers = [int(word) for word in reader.take("bonds NAT( INT)*")[1:]]
+    groups = split_groups(reader, numbers)
+    reader.within(count, 0, 2_000)
+    for weight, sizes, edges in groups:
+        reader.within(weight, -10**15, 10**15)
+        for size in sizes:
+            reader.within(size, 2, 600)
+        for edge in edges:
+            reader.within(edge, 1, 600)
+    reader.within(sum(sum(sizes) for _, sizes, _ in groups), 0, 60_000)
+    reader.agree(len(groups) == count)
+    for weight, sizes, edges in groups:
+        reader.agree(sizes == [len(edges)] and rising(edges) and weight != 0 and (weight > 0 or len(edges) == 2))
+    return [(weight, edges) for weight, _, edges in groups]
+
+
+def split_groups(reader, numbers):
+    """What stands of each group: its weight, a list of its size, and its edges. The last group may lack its size or edges."""
+    groups, at = [], 0
+    while at < len(numbers):
+        sizes = numbers[at + 1:at + 2]
+        end = at + 2 + sum(sizes)
+        edges = numbers[at + 2:end] if sizes and sizes[0] >= 0 else []
+        reader.agree(min(sizes + edges, default=0) >= 0)  # only a weight is an INT, and these are NATs
+        groups.append((numbers[at], sizes, edges))
+        at = end
+    return groups
 
 
 def read_nodes(reader, shores, sets):

@@ -11,4 +11,5 @@ mod Turns
 mod Regrown
 mod Root
 mod Finding
+mod Groups
 mod Shortness

@@ -23,7 +23,8 @@ use Rattle.dual_master.specs.Growth.{GrowthKeepsSets}
 use Rattle.dual_master.specs.Raising.{IsNoLower}
 use Rattle.branch_tree.specs.Known.{Known}
 use Rattle.branch_tree.specs.Leaves.{IsRaisedFrom, MayStand, NamesSet, set_in, with_pool}
-use Rattle.branch_tree.specs.Searches.{IsHeld, IsHeldSet, State, support_in}
+use Rattle.branch_tree.proofs.Groups.{kept_in_range}
+use Rattle.branch_tree.specs.Searches.{HasGroupsInRange, IsHeld, IsHeldSet, State, support_in}
 use Rattle.branch_tree.specs.Values.{just_above}
 
 grown_at : (pool more : List (List ℕ)) (i : ℕ) → IsShoreNumber pool i → shore_at (pool ++ more) i ≡ shore_at pool i
@@ -63,7 +64,7 @@ held_set_grows p pool more set is = record {
   not_negative = still_not_negative p pool more set (numbers_of p pool set is.shores) is.not_negative;
   shores =
       All-weaker (λ (w : Weight). IsShoreOf p pool w.shore) (λ (w : Weight). IsShoreOf p (pool ++ more) w.shore) (λ w. shore_of_grown p pool more w.shore) set.weights is.shores;
-  no_groups = is.no_groups;
+  groups = is.groups;
 }
 
 module _ (known : Known) (p : Problem) (s : State) (held : IsHeld p s) where
@@ -150,12 +151,13 @@ no_lower_now law p s number branch after set grown shores raised =
 
 -- so it may stand there
 pub may_stand : GrowthKeepsSets → (p : Problem) (s : State) (number : ℕ) (branch : List Decision) (after : List (List ℕ)) (set : Prices) → IsGrown s.pool after → 1 ≤ set.unit →
-    All (λ w. IsShoreOf p s.pool w.shore) (set_in s.sets number).weights → IsRaisedFrom p s.pool branch s.sets number after set → MayStand p (with_pool s after) branch number set
-may_stand law p s number branch after set grown some shores raised = record {
+    All (λ w. IsShoreOf p s.pool w.shore) (set_in s.sets number).weights → HasGroupsInRange (set_in s.sets number) → IsRaisedFrom p s.pool branch s.sets number after set →
+    MayStand p (with_pool s after) branch number set
+may_stand law p s number branch after set grown some shores groups raised = record {
   some_unit = some;
   from_unit = raised.from_unit;
   fits = raised.tight.fits;
   shores = raised.shores;
-  no_groups = raised.no_groups;
+  groups = kept_in_range (set_in s.sets number) set raised.groups groups;
   no_lower = no_lower_now law p s number branch after set grown shores raised;
 }

@@ -24,6 +24,7 @@ use Rattle.branch_tree.specs.Searches.{IsHeld, IsHeldSet, State, support_in}
 use Rattle.grown_trees.specs.Values.{IsMostShown, IsShown}
 use Rattle.branch_tree.specs.declared.beginning.Floor.{Floor}
 use Rattle.branch_tree.specs.Values.{IsFloored, just_above}
+use Rattle.branch_tree.proofs.Groups.{none_in_range}
 use Rattle.branch_tree.proofs.Numbers.{bound_covers, shown_reaches, shown_within}
 
 pub no_depot : (p : Problem) (pool : List (List ℕ)) → All (Belongs p) pool → NoDepot p pool
@@ -83,7 +84,7 @@ module _ (costs : ShortPlansCostLittle) (p : Problem) (floor : Floor) (is : IsFl
     below = λ other lawful. shown_within floor.set.unit shows (plan_cost p other) (plain_value p floor.pool floor.set) is_shown (is.floors.below other lawful);
     tree = price 1;
     sound = root_sound;
-    sets = All-cons (IsHeldSet p floor.pool) floor.set [] (record { one_each = (is.fits []).one_each; not_negative = (is.fits []).fits.not_negative; shores = is.shores; no_groups = is.no_groups }) (All-nil (IsHeldSet p floor.pool));
+    sets = All-cons (IsHeldSet p floor.pool) floor.set [] (record { one_each = (is.fits []).one_each; not_negative = (is.fits []).fits.not_negative; shores = is.shores; groups = none_in_range floor.set is.no_groups }) (All-nil (IsHeldSet p floor.pool));
     few_sets = omega arith;
     belong = is.belong;
     allowed = allowed;

@@ -23,7 +23,7 @@ use Rattle.grown_trees.specs.Laws.{IsKept, IsOpenDecision}
 use Rattle.grown_trees.specs.Stands.{NodeFits, stands, with_sets}
 use Rattle.branch_tree.specs.Known.{Known}
 use Rattle.branch_tree.specs.Leaves.{IsAtLeaf, IsSplitBy, IsSplitNode, MayBegin, MayStand, NamesSet, set_in, split_nodes}
-use Rattle.branch_tree.specs.Searches.{IsHeld, IsHeldSet, State, support_in}
+use Rattle.branch_tree.specs.Searches.{HasGroupsInRange, IsHeld, IsHeldSet, State, support_in}
 use Rattle.branch_tree.specs.Splits.{split_tree}
 use Rattle.grown_trees.specs.Values.{IsMostShown, IsShown}
 use Rattle.branch_tree.specs.declared.children.Children.{Children}
@@ -228,9 +228,12 @@ module _ (known : Known) (p : Problem) (s : State) (held : IsHeld p s) where
       pub named_shores : All (λ w. IsShoreOf p s.pool w.shore) named.weights
       named_shores = named_held.shores
 
+      pub named_groups : HasGroupsInRange named
+      named_groups = named_held.groups
+
       -- so it may be raised
       pub may_begin : MayBegin p s.pool branch s.sets number
-      may_begin = record { from_one = from_one; to_last = to_last; pairs = leaf_pairs; fits = named_fits; shores = named_shores; no_groups = named_held.no_groups }
+      may_begin = record { from_one = from_one; to_last = to_last; pairs = leaf_pairs; fits = named_fits; shores = named_shores; groups = named_groups }
 
       -- both children have the set of the leaf
       pub old_split_sound : 1 ≤ named.unit → (node : Node) (c : Children) → IsSplitBy p s.pool branch named node c →

@@ -113,7 +113,7 @@ module _ (known : Known) (p : Problem) (s : State) (held : IsHeld p s) (place : 
   -- with one more set
   module _ (set : Prices) (may : MayStand p (with_pool s pool) branch number set) (tight : IsTight p pool (length s.pool) branch set) where
     held_set : All (IsHeldSet p pool) (set ∷ [])
-    held_set = All-cons (IsHeldSet p pool) set [] (record { one_each = may.fits.one_each; not_negative = may.fits.fits.not_negative; shores = may.shores; no_groups = may.no_groups }) (All-nil (IsHeldSet p pool))
+    held_set = All-cons (IsHeldSet p pool) set [] (record { one_each = may.fits.one_each; not_negative = may.fits.fits.not_negative; shores = may.shores; groups = may.groups }) (All-nil (IsHeldSet p pool))
 
     few_then : length (s.sets ++ set ∷ []) ≤ 256
     few_then = omega (arith, length-append s.sets (set ∷ []), few)

@@ -32,7 +32,7 @@ use Rattle.branch_tree.specs.declared.search.Turn.{Turn}
 use Rattle.branch_tree.specs.declared.search.Turn.TheVariants.{Closed, Split}
 use Rattle.grown_trees.specs.Values.{IsMostShown, IsShown}
 use Rattle.branch_tree.proofs.Pools.{may_stand, names_then, no_lower_now, pool_grows}
-use Rattle.branch_tree.proofs.Standing.{leaf_shores, named_shores, raised_value_some}
+use Rattle.branch_tree.proofs.Standing.{leaf_shores, named_groups, named_shores, raised_value_some}
 use Rattle.branch_tree.proofs.Taking.{is_leaf, old, old_is, sound}
 use Rattle.branch_tree.proofs.Turning.{Goes, closes_fixed, closes_new, same_pool, splits_new}
 
@@ -194,7 +194,9 @@ module _ (known : Known) (p : Problem) (before middle : Search) (place : ℕ) (b
   module _ (set : Prices) (raised : IsRaisedFrom p before.pool branch before.sets.items number middle.pool set) (few : length before.sets.items < 256) where
     plain_may : 1 ≤ set.unit → MayStand p middle_state branch number set
     plain_may some =
-        may_stand known.growth p (state_of before) number branch middle.pool set grown some (named_shores known p (state_of before) search.held place branch names.at number names) raised
+        may_stand known.growth p (state_of before) number branch middle.pool set grown some
+        (named_shores known p (state_of before) search.held place branch names.at number names)
+        (named_groups known p (state_of before) search.held place branch names.at number names) raised
 
     pub middle_may : 1 ≤ set.unit → MayStand p (state_of middle) branch number set
     middle_may some = subst (λ (s : State). MayStand p s branch number set) (sym state) (plain_may some)

@@ -15,7 +15,7 @@ use Rattle.branch_rules.specs.declared.node.Node.{Node}
 use Rattle.branch_rules.specs.declared.node.Node.TheVariants as nodes
 use Rattle.route_pricing.specs.Tables.{IsRoom}
 use Rattle.tight_prices.specs.Tight.{IsTight}
-use Rattle.dual_master.specs.Raising.{IsNoLower}
+use Rattle.dual_master.specs.Raising.{IsNoLower, KeepsGroups}
 use Rattle.grown_trees.specs.Growth.{IsLeastOpen, IsSpelledNode, turns_in}
 use Rattle.grown_trees.specs.Places.{IsFineNode, branch_to}
 use Rattle.grown_trees.specs.declared.growing.GrowingNode.{GrowingNode}
@@ -23,7 +23,7 @@ use Rattle.branch_tree.specs.declared.children.Children.{Children}
 use Rattle.branch_tree.specs.declared.kinds.Kind.{Kind}
 use Rattle.branch_tree.specs.declared.kinds.Kind.TheVariants.{Void, Fixed, Open}
 use Rattle.branch_tree.specs.declared.search.Search.{Search}
-use Rattle.branch_tree.specs.Searches.{IsSearch, State, state_of}
+use Rattle.branch_tree.specs.Searches.{HasGroupsInRange, IsSearch, State, state_of}
 use Rattle.branch_tree.specs.declared.search.Turn.{Turn}
 use Rattle.branch_tree.specs.declared.search.Turn.TheVariants.{Closed, Split}
 use Rattle.branch_tree.specs.Steps.{IsAsBefore, IsStep}
@@ -53,14 +53,14 @@ abbrev pub set_in : List Prices → ℕ → Prices
 set_in sets zero = no_prices
 set_in sets (suc k) = slice_index_or sets k no_prices
 
--- A price set that may stand at such a leaf: it fits there, its shores are in the pool and belong to the instance, it has no groups, and
--- its value, divided by its denominator, is no less than that of the leaf's set.
+-- A price set that may stand at such a leaf: it fits there, its shores are in the pool and belong to the instance, the edges of its groups
+-- are in range, and its value, divided by its denominator, is no less than that of the leaf's set.
 pub record MayStand (p : Problem) (s : State) (branch : List Decision) (number : ℕ) (set : Prices) : Type 0 where
   pub some_unit : 1 ≤ set.unit
   pub from_unit : 1 ≤ (set_in s.sets number).unit
   pub fits : FitsBranch p s.pool branch set
   pub shores : All (λ w. IsShoreOf p s.pool w.shore) set.weights
-  pub no_groups : set.groups ≡ []
+  pub groups : HasGroupsInRange set
   pub no_lower : IsNoLower p branch s.pool (set_in s.sets number) s.pool set
 
 -- the set of a number may be raised under a branch
@@ -70,14 +70,15 @@ pub record MayBegin (p : Problem) (pool : List (List ℕ)) (branch : List Decisi
   pub pairs : ArePairsIn p branch
   pub fits : FitsBranch p pool branch (set_in sets number)
   pub shores : All (λ w. IsShoreOf p pool w.shore) (set_in sets number).weights
-  pub no_groups : (set_in sets number).groups ≡ []
+  pub groups : HasGroupsInRange (set_in sets number)
 
--- a set that is tight under a branch and has no groups, from the set of a number, where shores were added to the pool
+-- a set that is tight under a branch, from the set of a number, where shores were added to the pool; its groups are those of that set, or
+-- there are none
 pub record IsRaisedFrom (p : Problem) (pool : List (List ℕ)) (branch : List Decision) (sets : List Prices) (number : ℕ) (after : List (List ℕ)) (set : Prices) : Type 0 where
   pub from_unit : 1 ≤ (set_in sets number).unit
   pub tight : IsTight p after (length pool) branch set
   pub shores : All (λ w. IsShoreOf p after w.shore) set.weights
-  pub no_groups : set.groups ≡ []
+  pub groups : KeepsGroups (set_in sets number) set
   pub no_lower : IsNoLower p branch pool (set_in sets number) after set
 
 -- what a set shows under the decisions of both children of a node

@@ -8,6 +8,7 @@ use Rattle.task_tours.specs.Shorts.{IsAllowedPlan}
 use Rattle.deadhead_paths.specs.Prices.{costs_of}
 use Rattle.cut_pool.specs.Shores.{Belongs}
 use Rattle.route_pricing.specs.Tables.{IsRoom}
+use Rattle.branch_rules.specs.Bonds.{GroupWeight}
 use Rattle.branch_rules.specs.Limits.{IsShoreOf}
 use Rattle.branch_rules.specs.Prices.{Prices}
 use Rattle.branch_rules.specs.Refusals.{NoneTooHeavy}
@@ -38,13 +39,21 @@ state_of s = record { pool = s.pool; sets = s.sets.items; nodes = s.tree.nodes; 
 abbrev pub support_in : Problem → State → Support
 support_in p s = record { problem = p; pool = s.pool; sets = s.sets }
 
+-- each edge of the group has a number from 1 to 600
+abbrev pub IsGroupInRange : GroupWeight → Type 0
+IsGroupInRange w = All (λ e. (1 ≤ e) × (e ≤ 600)) w.edges
+
+-- so has each edge of each group of the price set
+abbrev pub HasGroupsInRange : Prices → Type 0
+HasGroupsInRange set = All IsGroupInRange set.groups
+
 -- a price set that a certificate may have: a price for each required edge, no negative price of a deadhead, its shores are in the pool and
--- belong to the instance, and it has no groups
+-- belong to the instance, and the edges of its groups are in range
 pub record IsHeldSet (p : Problem) (pool : List (List ℕ)) (set : Prices) : Type 0 where
   pub one_each : length set.services ≡ p.required
   pub not_negative : NoneTooHeavy p pool set
   pub shores : All (λ w. IsShoreOf p pool w.shore) set.weights
-  pub no_groups : set.groups ≡ []
+  pub groups : HasGroupsInRange set
 
 -- A lean tree that grew leaf by leaf. Each price leaf names a set that fits there, and shows the bound that the search began with; each
 -- node has with it the greatest bound that it shows. There are at most 256 sets.

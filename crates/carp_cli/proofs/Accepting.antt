@@ -1,5 +1,5 @@
 -- What one run kept, the next run takes.
-use Rattle.std.proofs.Common.{◌≡◌, ◌≢◌, ℕ, ◌-◌, ◌≤◌, ◌++◌, List, [], ◌∷◌, length, inl, inr, refl, sym, ap, ◌∙◌, subst, Option, Some, codes}
+use Rattle.std.proofs.Common.{◌≡◌, ◌≢◌, ℕ, ◌-◌, ◌≤◌, ◌++◌, List, [], ◌∷◌, length, inl, refl, sym, ap, ◌∙◌, subst, Option, Some, codes}
 use Rattle.std.specs.Prelude.{◌⊎◌, IsSomeAnd}
 use Rattle.carp_base.specs.Problem.{Problem, IsValid}
 use Rattle.dat_text.specs.DatText.{dat_of}
@@ -12,10 +12,10 @@ use Rattle.cert_format.specs.Good.{IsGood, with_counts}
 use Rattle.instance_edits.specs.Edits.{edited}
 use Rattle.town_maker.specs.Laws.{TownsAreValid}
 use Rattle.town_maker.specs.Towns.{town_of}
-use Rattle.command_words.specs.Commands.{Command, Solve, Check, Make, Upgrade, Edit, instance_at, certificate_at}
+use Rattle.command_words.specs.Commands.{Command, Solve, Check, Make, Upgrade, Edit, Improve, instance_at, certificate_at}
 use Rattle.command_jobs.specs.Files.{Holds, IsInstance, IsGoodText}
 use Rattle.command_jobs.specs.declared.status.Status.{Status}
-use Rattle.command_jobs.specs.declared.status.Status.TheVariants.{Proven, Gap, Accepted}
+use Rattle.command_jobs.specs.declared.status.Status.TheVariants.{Accepted}
 use Rattle.command_jobs.specs.Inputs.{CanBeDone, IsUnread}
 use Rattle.command_works.specs.Texts.{answer_text}
 use Rattle.command_works.specs.Works.{Kept, Work}
@@ -23,7 +23,8 @@ use Rattle.carp_cli.specs.Outside.{Outside, AreKept}
 use Rattle.carp_cli.specs.Answers.{IsDoneStatus}
 use Rattle.carp_cli.specs.Refusals.{HasReport}
 use Rattle.carp_cli.specs.Runs.{IsNoAnswer}
-use Rattle.carp_cli.specs.Laws.{RunLeaves, IsCheckedLater, IsAccepted, IsEditedThenAccepted, SolvedIsAccepted, UpgradedIsAccepted, EditedIsAccepted, MadeIsHeld, MadeIsSolved}
+use Rattle.carp_cli.specs.Laws.{RunLeaves, IsCheckedLater, IsAccepted, IsEditedThenAccepted, SolvedIsAccepted, UpgradedIsAccepted, EditedIsAccepted, ImprovedIsAccepted, MadeIsHeld, MadeIsSolved}
+use Rattle.carp_cli.proofs.Refusing.{found_reports}
 use Rattle.carp_cli.proofs.Promised.{held_too, one_unreported, pair_unreported, three_unreported, IsPromised, promised, one_kept, both_kept}
 
 -- A file that is held.
@@ -76,13 +77,9 @@ accepted unique short file cert p c text now after later answer held there is go
 
 -- The laws.
 
-solved_report : (status : Status) → (status ≡ Proven) ⊎ (status ≡ Gap) → HasReport status
-solved_report status (inl is) = subst HasReport (sym is) tt
-solved_report status (inr is) = subst HasReport (sym is) tt
-
 pub solved_accepted : TextIsUnique → TextIsShort → SolvedIsAccepted
 solved_accepted unique short file cert turns seed before now after later status answer apart left ends checked =
-    let report = solved_report status ends in
+    let report = found_reports status ends in
     let all = promised (Solve file cert turns seed) before now status report (one_unreported file before.contents status report) left in
     let p = all.done.instance in
     let by = all.done.solution in
@@ -131,6 +128,26 @@ edited_accepted unique short read brief file cert edits new_file new_cert before
     let report : HasReport status = subst HasReport (sym done) tt in
     edited_from unique short read brief file cert edits new_file new_cert before now after later status answer apart
     (promised (Edit file cert edits new_file new_cert) before now status report (three_unreported file cert edits before.contents status report) left) checked
+
+pub improved_accepted : TextIsUnique → TextIsShort → ImprovedIsAccepted
+improved_accepted unique short file cert improved turns seed before now after later status answer apart left ends checked =
+    let report = found_reports status ends in
+    let all = promised (Improve file cert improved turns seed) before now status report (pair_unreported file cert before.contents status report) left in
+    let p = all.done.instance in
+    let by = all.done.improvement in
+    let held = one_kept improved by.kept_text before.contents now.contents (subst (λ (ks : List Kept). AreKept ks before.contents now.contents) by.keeps all.kept) in
+    record {
+      instance = p;
+      old = all.done.old;
+      old_text = all.done.certified.certified;
+      new = by.certificate;
+      turns = by.turns;
+      reported = all.wrote ∙ ap (λ (t : List ℕ). before.written ++ t) by.writes;
+      no_dearer = by.better.no_dearer;
+      no_lower = by.better.no_lower;
+      accepted = accepted unique short file improved p by.certificate by.kept_text now after later answer
+          (same_text file before.contents now.contents p (held.others file apart) all.done.certified.read) held.there by.kept_is by.better.good checked;
+    }
 
 pub made_held : WrittenIsRead → WrittenIsShort → TownsAreValid → MadeIsHeld
 made_held read brief towns file seed before now status left done =

@@ -5,11 +5,12 @@ use Rattle.std.specs.List.{AllByRecursion}
 use Rattle.std.specs.Prelude.{◌⊎◌}
 use Rattle.carp_outside.specs.Causes.{Rose}
 use Rattle.carp_outside.specs.Told.{SameContents, WroteFront}
-use Rattle.command_words.specs.Commands.{Command, Solve, Check, Sheet, Make, Drill, Upgrade, Postman, Fleet, Edit}
+use Rattle.command_words.specs.Commands.{Command}
 use Rattle.command_works.specs.Works.{Kept, Work}
 use Rattle.carp_cli.specs.Outside.{Outside, found, AreKept, AreKeptInPart, IsLeftShort}
 use Rattle.carp_cli.specs.Runs.{IsHelped, Leaves}
 use Rattle.carp_cli.specs.Steps.{IsPrepared}
+use Rattle.carp_cli.proofs.Refusing.{done_reports}
 use Rattle.command_jobs.specs.declared.status.Status.{Status}
 use Rattle.command_jobs.specs.declared.status.Status.TheVariants.{WriteFault, Memory}
 
@@ -115,26 +116,8 @@ delivered {held} {told} {command} {before} {now} {looks} {given} {keeps} {conten
 -- helpers are asked by a command that is done
 pub cut_is_not_helped : (command : Option Command) → IsHelped command WriteFault → ⊥
 cut_is_not_helped None none = none
-cut_is_not_helped (Some (Solve file cert turns seed)) (is, inl e) = cc
-cut_is_not_helped (Some (Solve file cert turns seed)) (is, inr e) = cc
-cut_is_not_helped (Some (Check file cert)) (is, e) = cc
-cut_is_not_helped (Some (Sheet file cert)) (is, e) = cc
-cut_is_not_helped (Some (Make file seed)) (is, e) = cc
-cut_is_not_helped (Some (Drill turns seed)) (is, e) = cc
-cut_is_not_helped (Some (Upgrade file cert renewed)) (is, e) = cc
-cut_is_not_helped (Some (Postman file)) (is, e) = cc
-cut_is_not_helped (Some (Fleet file turns)) (is, e) = cc
-cut_is_not_helped (Some (Edit file cert edits edited carried)) (is, e) = cc
+cut_is_not_helped (Some c) (asks, done) = done_reports c WriteFault done
 
 pub memory_is_not_helped : (command : Option Command) → IsHelped command Memory → ⊥
 memory_is_not_helped None none = none
-memory_is_not_helped (Some (Solve file cert turns seed)) (is, inl e) = cc
-memory_is_not_helped (Some (Solve file cert turns seed)) (is, inr e) = cc
-memory_is_not_helped (Some (Check file cert)) (is, e) = cc
-memory_is_not_helped (Some (Sheet file cert)) (is, e) = cc
-memory_is_not_helped (Some (Make file seed)) (is, e) = cc
-memory_is_not_helped (Some (Drill turns seed)) (is, e) = cc
-memory_is_not_helped (Some (Upgrade file cert renewed)) (is, e) = cc
-memory_is_not_helped (Some (Postman file)) (is, e) = cc
-memory_is_not_helped (Some (Fleet file turns)) (is, e) = cc
-memory_is_not_helped (Some (Edit file cert edits edited carried)) (is, e) = cc
+memory_is_not_helped (Some c) (asks, done) = done_reports c Memory done

@@ -5,7 +5,7 @@ use Rattle.std.specs.Prelude.{Result, Ok, Err, IsSomeAnd}
 use Rattle.carp_base.specs.declared.fail.Fail.{Fail}
 use Rattle.carp_base.specs.declared.fail.Fail.TheVariants.{Refused}
 use Rattle.cert_lines.specs.Texts as certificates
-use Rattle.command_words.specs.Commands.{Command, Solve, Check, Sheet, Make, Drill, Upgrade, Postman, Fleet, Edit, Source, asks_helpers, keeps, seed_of}
+use Rattle.command_words.specs.Commands.{Command, Solve, Check, Sheet, Make, Drill, Upgrade, Postman, Fleet, Edit, Improve, Source, asks_helpers, keeps, seed_of}
 use Rattle.command_jobs.specs.Files.{GivenIn, HeldIn}
 use Rattle.command_jobs.specs.Reads.{IsTried, Seen}
 use Rattle.command_jobs.specs.declared.status.Status.{Status}
@@ -16,6 +16,7 @@ use Rattle.command_jobs.specs.declared.job.Job.{Job}
 use Rattle.command_jobs.specs.declared.job.Job.TheVariants as jobs
 use Rattle.command_works.specs.Made.{IsMade, job_asks, job_seed}
 use Rattle.command_works.specs.Solving.{IsSolvedBy}
+use Rattle.command_works.specs.Improving.{IsImprovedBy}
 use Rattle.command_works.specs.Drills.{IsDrilled}
 use Rattle.command_works.specs.Fleets.{IsFleetFound}
 use Rattle.cert_format.specs.Certs.{certificate_in}
@@ -32,7 +33,7 @@ use Rattle.carp_cli.specs.Answers.{IsDone, IsDoneStatus, IsKnown, refusal_work}
 use Rattle.carp_cli.specs.Refusals.{HasReport}
 use Rattle.carp_cli.specs.Runs.{IsHelped}
 use Rattle.carp_cli.specs.Steps.{IsPrepared}
-use Rattle.carp_cli.proofs.Refusing.{IsRefusal, is_refusal, read_or_told, reads_nothing_refuses_nothing, refusals_report_nothing, refuses_only_read}
+use Rattle.carp_cli.proofs.Refusing.{IsRefusal, done_reports, is_refusal, read_or_told, reads_nothing_refuses_nothing, refusals_report_nothing, refuses_only_read}
 
 -- what is so of what is there
 of_some : {X : Type 0} {P Q : X → Type 0} (o : Option X) → IsSomeAnd o P → ((x : X) → P x → Q x) → IsSomeAnd o Q
@@ -197,6 +198,19 @@ module _ (Reads : Source → (List ℕ → Type 0) → Type 0) (offered : List (
       }
   carried_along apart file cert edits new_file new_cert _ fails sound was made = absurd fails
 
+  improved : (file cert better : List ℕ) (turns seed : ℕ) (job : Job) → IsFor (Improve file cert better turns seed) job → WasRead Reads (Improve file cert better turns seed) job
+      → IsMade job offered status work → IsPerformed Reads (Improve file cert better turns seed) offered status work
+  improved file cert better turns seed (jobs.Improve inst c name asked drawn) is read made =
+      let old = certificate_in c in
+      let by : IsImprovedBy inst old better turns offered status work =
+      subst (λ (t : ℕ). IsImprovedBy inst old better t offered status work) is.1 (subst (λ (n : List ℕ). IsImprovedBy inst old n asked offered status work) is.0 made.1) in
+      record {
+        status_is = made.0;
+        names = ap (map (λ k. k.name)) by.keeps;
+        done = record { instance = inst; old = old; certified = read; improvement = by };
+      }
+  improved file cert better turns seed _ fails read made = absurd fails
+
   performed : AreApart Reads → (c : Command) (job : Job) → IsFor c job → IsSoundJob job → WasRead Reads c job
       → IsMade job offered status work → IsPerformed Reads c offered status work
   performed apart (Solve file cert turns seed) job is sound = solved file cert turns seed job is
@@ -208,6 +222,7 @@ module _ (Reads : Source → (List ℕ → Type 0) → Type 0) (offered : List (
   performed apart (Postman file) job is sound = round_found file job is sound
   performed apart (Fleet file turns) job is sound = fleet_counted file turns job is
   performed apart (Edit file cert edits edited carried) job is sound = carried_along apart file cert edits edited carried job is sound
+  performed apart (Improve file cert better turns seed) job is sound = improved file cert better turns seed job is
 
 -- a job asks the helpers where its command does, and with its seed
 abbrev AsksAlike : Command → Job → Type 0
@@ -250,19 +265,10 @@ asks_alike (Edit file cert edits edited carried) job is = by job is where
   by : (job : Job) → IsFor (Edit file cert edits edited carried) job → AsksAlike (Edit file cert edits edited carried) job
   by (jobs.Edit read first second) is = (refl, refl)
   by _ fails = absurd fails
-
-done_reports : (c : Command) (status : Status) → IsDoneStatus c status → HasReport status
-done_reports (Solve file cert turns seed) status (inl is) = subst HasReport (sym is) tt
-done_reports (Solve file cert turns seed) status (inr is) = subst HasReport (sym is) tt
-done_reports (Check file cert) status is = subst HasReport (sym is) tt
-done_reports (Sheet file cert) status is = subst HasReport (sym is) tt
-done_reports (Make file seed) status is = subst HasReport (sym is) tt
-done_reports (Drill turns seed) status is = subst HasReport (sym is) tt
-done_reports (Upgrade file cert renewed) status is = subst HasReport (sym is) tt
-done_reports (Postman file) status is = subst HasReport (sym is) tt
-done_reports (Fleet file turns) status (inl is) = subst HasReport (sym is) tt
-done_reports (Fleet file turns) status (inr is) = subst HasReport (sym is) tt
-done_reports (Edit file cert edits edited carried) status is = subst HasReport (sym is) tt
+asks_alike (Improve file cert improved turns seed) job is = by job is where
+  by : (job : Job) → IsFor (Improve file cert improved turns seed) job → AsksAlike (Improve file cert improved turns seed) job
+  by (jobs.Improve inst c name asked drawn) is = (refl, is.2)
+  by _ fails = absurd fails
 
 names_apart : (other : List ℕ) (kept : List Kept) (names : List (List ℕ)) → map (λ k. k.name) kept ≡ names → AllByRecursion (λ name. other ≢ name) names → AllByRecursion (λ k. other ≢ k.name) kept
 names_apart other kept names is apart = by kept (subst (AllByRecursion (λ name. other ≢ name)) (sym is) apart) where

@@ -1,7 +1,7 @@
 -- By which answers commands are refused, and what is known of those that read nothing.
-use Rattle.std.proofs.Common.{◌≡◌, List, [], ℕ, Option, Some, inl, inr, IsTrue, Bool}
+use Rattle.std.proofs.Common.{◌≡◌, List, [], ℕ, Option, Some, inl, inr, IsTrue, Bool, subst, sym}
 use Rattle.std.specs.Prelude.{◌⊎◌}
-use Rattle.command_words.specs.Commands.{Command, Solve, Check, Sheet, Make, Drill, Upgrade, Postman, Fleet, Edit, Source, reads}
+use Rattle.command_words.specs.Commands.{Command, Solve, Check, Sheet, Make, Drill, Upgrade, Postman, Fleet, Edit, Improve, Source, reads}
 use Rattle.command_jobs.specs.Files.{HeldIn}
 use Rattle.command_jobs.specs.Reads.{IsOfBytes, IsOfCertificate, IsOfFile, IsOfInstance, IsOfRound}
 use Rattle.command_jobs.specs.declared.status.Status.{Status}
@@ -11,7 +11,7 @@ use Rattle.command_jobs.specs.Inputs.{IsOfPair, IsRefusalOf, IsRefused}
 use Rattle.command_jobs.specs.Jobs.{WasRead}
 use Rattle.command_jobs.specs.declared.job.Job.{Job}
 use Rattle.command_jobs.specs.declared.job.Job.TheVariants as jobs
-use Rattle.carp_cli.specs.Answers.{IsKnown}
+use Rattle.carp_cli.specs.Answers.{IsDoneStatus, IsKnown}
 use Rattle.carp_cli.specs.Refusals.{HasReport}
 
 -- an answer by which some command is refused
@@ -66,6 +66,24 @@ is_refusal (Edit file cert edits edited carried) status (inl is) = of_file statu
 is_refusal (Edit file cert edits edited carried) status (inr (inl is)) = of_instance status is
 is_refusal (Edit file cert edits edited carried) status (inr (inr (inl is))) = of_certificate status is
 is_refusal (Edit file cert edits edited carried) status (inr (inr (inr is))) = of_edits status is
+is_refusal (Improve file cert improved turns seed) status is = of_pair status is
+
+pub found_reports : (status : Status) → (status ≡ Proven) ⊎ (status ≡ Gap) → HasReport status
+found_reports status (inl is) = subst HasReport (sym is) tt
+found_reports status (inr is) = subst HasReport (sym is) tt
+
+-- a command that is done has a report
+pub done_reports : (c : Command) (status : Status) → IsDoneStatus c status → HasReport status
+done_reports (Solve file cert turns seed) status is = found_reports status is
+done_reports (Check file cert) status is = subst HasReport (sym is) tt
+done_reports (Sheet file cert) status is = subst HasReport (sym is) tt
+done_reports (Make file seed) status is = subst HasReport (sym is) tt
+done_reports (Drill turns seed) status is = subst HasReport (sym is) tt
+done_reports (Upgrade file cert renewed) status is = subst HasReport (sym is) tt
+done_reports (Postman file) status is = subst HasReport (sym is) tt
+done_reports (Fleet file turns) status is = found_reports status is
+done_reports (Edit file cert edits edited carried) status is = subst HasReport (sym is) tt
+done_reports (Improve file cert improved turns seed) status is = found_reports status is
 
 -- a refusal has no report
 pub refusals_report_nothing : (status : Status) → IsRefusal status → HasReport status → ⊥
@@ -88,6 +106,7 @@ reads_nothing_refuses_nothing (Upgrade file cert renewed) status none is = cc
 reads_nothing_refuses_nothing (Postman file) status none is = cc
 reads_nothing_refuses_nothing (Fleet file turns) status none is = cc
 reads_nothing_refuses_nothing (Edit file cert edits edited carried) status none is = cc
+reads_nothing_refuses_nothing (Improve file cert improved turns seed) status none is = cc
 
 -- what a job without files says is so of any contents
 pub read_or_told : {held : Bool} (Reads : Source → (List ℕ → Type 0) → Type 0) (contents : List ℕ → Option (List ℕ)) (c : Command) (job : Job) → (IsTrue held → WasRead (HeldIn contents) c job) → WasRead Reads c job
@@ -108,6 +127,7 @@ read_or_told Reads contents (Upgrade file cert renewed) job told some (inr none)
 read_or_told Reads contents (Postman file) job told some (inr none) = cc
 read_or_told Reads contents (Fleet file turns) job told some (inr none) = cc
 read_or_told Reads contents (Edit file cert edits edited carried) job told some (inr none) = cc
+read_or_told Reads contents (Improve file cert improved turns seed) job told some (inr none) = cc
 
 -- nor is what names hold refused
 pub refuses_only_read : {held : Bool} {P : Type 0} (contents : List ℕ → Option (List ℕ)) (status : Status) (c : Command) → IsKnown held (Some c) → IsRefused c contents status → (IsTrue held → P) → P
@@ -121,3 +141,4 @@ refuses_only_read contents status (Upgrade file cert renewed) (inr none) bad f =
 refuses_only_read contents status (Postman file) (inr none) bad f = cc
 refuses_only_read contents status (Fleet file turns) (inr none) bad f = cc
 refuses_only_read contents status (Edit file cert edits edited carried) (inr none) bad f = cc
+refuses_only_read contents status (Improve file cert improved turns seed) (inr none) bad f = cc

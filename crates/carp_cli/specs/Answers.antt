@@ -2,7 +2,7 @@
 use Rattle.std.specs.Prelude.{◌≡◌, ℕ, Bool, IsTrue, List, [], ◌∷◌, Option, None, Some, ◌⊎◌}
 use Rattle.dat_text.specs.DatText.{dat_of}
 use Rattle.town_maker.specs.Towns.{town_of}
-use Rattle.command_words.specs.Commands.{Command, Source, Solve, Check, Sheet, Make, Drill, Upgrade, Postman, Fleet, Edit, sources_of}
+use Rattle.command_words.specs.Commands.{Command, Source, Solve, Check, Sheet, Make, Drill, Upgrade, Postman, Fleet, Edit, Improve, sources_of}
 use Rattle.command_jobs.specs.Files.{HeldIn}
 use Rattle.command_jobs.specs.Inputs.{IsRefused, IsUnread}
 use Rattle.command_works.specs.Drills.{IsDrilled}
@@ -11,6 +11,7 @@ use Rattle.command_works.specs.Works.{Work}
 use Rattle.carp_cli.specs.Outside.{Finding}
 use Rattle.carp_cli.specs.Refusals.{refusal_text}
 use Rattle.carp_cli.specs.Solving.{IsSolved}
+use Rattle.carp_cli.specs.Improving.{IsImprovedFrom}
 use Rattle.carp_cli.specs.Checking.{IsChecked, IsSpelledOut, IsUpgraded}
 use Rattle.carp_cli.specs.Neighbours.{IsRoundFound, IsFleetCounted}
 use Rattle.carp_cli.specs.Editing.{IsCarriedAlong}
@@ -28,6 +29,7 @@ IsDoneStatus (Upgrade file cert renewed) status = status ≡ Done
 IsDoneStatus (Postman file) status = status ≡ Done
 IsDoneStatus (Fleet file turns) status = (status ≡ Proven) ⊎ (status ≡ Gap)
 IsDoneStatus (Edit file cert edits edited carried) status = status ≡ Done
+IsDoneStatus (Improve file cert improved turns seed) status = (status ≡ Proven) ⊎ (status ≡ Gap)
 
 -- the text of the town of a number is to be kept, and its numbers are to be written
 abbrev pub IsTownKept : (file : List ℕ) (seed : ℕ) → Work → Type 0
@@ -44,6 +46,7 @@ IsDone Reads (Upgrade file cert renewed) offered status work = IsUpgraded Reads 
 IsDone Reads (Postman file) offered status work = IsRoundFound Reads file work
 IsDone Reads (Fleet file turns) offered status work = IsFleetCounted Reads file turns status work
 IsDone Reads (Edit file cert edits edited carried) offered status work = IsCarriedAlong Reads file cert edits edited carried work
+IsDone Reads (Improve file cert improved turns seed) offered status work = IsImprovedFrom Reads file cert improved turns offered status work
 
 -- a refusal keeps nothing, and writes its text
 abbrev pub refusal_work : Status → Work

@@ -2,7 +2,7 @@
 use Rattle.std.specs.Prelude.{ℕ, [], None, List, codes}
 use Rattle.carp_base.specs.Problem.{Problem}
 use Rattle.cert_lines.specs.Certificates.{Certificate}
-use Rattle.command_words.specs.Commands.{Command, Solve, Check, Make, Postman, Edit}
+use Rattle.command_words.specs.Commands.{Command, Solve, Check, Make, Postman, Edit, Improve}
 use Rattle.carp_cli.specs.Outside.{Outside}
 
 -- an instance with nothing to serve
@@ -27,6 +27,9 @@ touring = Postman (codes "f")
 
 abbrev pub editing : Command
 editing = Edit (codes "f") (codes "c") (codes "e") (codes "g") (codes "d")
+
+abbrev pub improving : Command
+improving = Improve (codes "f") (codes "c") (codes "n") 64 1
 
 -- this is written and so many keeps failed; no name holds anything, and no other call failed
 abbrev pub outside : List ℕ → ℕ → Outside

@@ -1,11 +1,12 @@
 -- Laws over two runs: what one command keeps, the next one takes. The shelf tells what names hold, and the sink what was written.
-use Rattle.std.specs.Prelude.{◌≡◌, ◌≢◌, ℕ, ◌++◌, List, Some, true, ◌⊎◌, codes}
+use Rattle.std.specs.Prelude.{◌≡◌, ◌≢◌, ℕ, ◌≤◌, ◌++◌, List, Some, true, ◌⊎◌, codes}
 use Rattle.carp_base.specs.Problem.{Problem}
 use Rattle.dat_text.specs.Text.{IsTextOf}
 use Rattle.cert_lines.specs.Certificates.{Certificate}
+use Rattle.cert_lines.specs.Texts as certificates
 use Rattle.plan_print.specs.Report.{report_text}
 use Rattle.town_maker.specs.Towns.{town_of}
-use Rattle.command_words.specs.Commands.{Command, Solve, Check, Make, Upgrade, Edit, instance_at}
+use Rattle.command_words.specs.Commands.{Command, Solve, Check, Make, Upgrade, Edit, Improve, instance_at, certificate_at}
 use Rattle.command_jobs.specs.Files.{Holds}
 use Rattle.command_jobs.specs.declared.status.Status.{Status}
 use Rattle.command_jobs.specs.declared.status.Status.TheVariants.{Proven, Gap, Accepted, Done}
@@ -54,6 +55,18 @@ pub record IsEditedThenAccepted (before now after later : Outside) (answer : Sta
   pub reported : now.written ≡ before.written ++ edit_text edges closed cost bound
   pub accepted : IsAccepted cost bound after later answer
 
+-- `improve` read a certificate and reported another one, which is accepted, costs no more, and has no lower bound
+pub record IsImprovedThenAccepted (cert : List ℕ) (before now after later : Outside) (answer : Status) : Type 0 where
+  pub instance : Problem
+  pub old : Certificate
+  pub old_text : Holds (certificate_at cert) before.contents (λ bytes. certificates.IsTextOf bytes old)
+  pub new : Certificate
+  pub turns : ℕ
+  pub reported : now.written ≡ before.written ++ report_text instance new turns
+  pub no_dearer : new.cost ≤ old.cost
+  pub no_lower : old.bound ≤ new.bound
+  pub accepted : IsAccepted new.cost new.bound after later answer
+
 -- What `solve` keeps, `check` accepts.
 abbrev pub SolvedIsAccepted : Type 0
 SolvedIsAccepted =
@@ -74,6 +87,13 @@ EditedIsAccepted =
     (file cert edits new_file new_cert : List ℕ) (before now after later : Outside) (status answer : Status) →
     new_file ≢ new_cert → RunLeaves (Edit file cert edits new_file new_cert) before now status → status ≡ Done →
     IsCheckedLater new_file new_cert now after later answer → IsEditedThenAccepted before now after later answer
+
+-- What `improve` keeps, `check` accepts beside the same instance.
+abbrev pub ImprovedIsAccepted : Type 0
+ImprovedIsAccepted =
+    (file cert improved : List ℕ) (turns seed : ℕ) (before now after later : Outside) (status answer : Status) →
+    file ≢ improved → RunLeaves (Improve file cert improved turns seed) before now status → (status ≡ Proven) ⊎ (status ≡ Gap) →
+    IsCheckedLater file improved now after later answer → IsImprovedThenAccepted cert before now after later answer
 
 -- What `make` keeps is the text of the town, and not too long for an instance file.
 abbrev pub MadeIsHeld : Type 0

@@ -1,6 +1,7 @@
 pub mod Outside
 pub mod Refusals
 pub mod Solving
+pub mod Improving
 pub mod Checking
 pub mod Neighbours
 pub mod Editing

@@ -13,7 +13,7 @@ ghost use Rattle.command_works.specs.Solving.{IsEnding};
 ghost use Rattle.command_works.specs.Works.{Work};
 ghost use Rattle.carp_cli.specs.Refusals.{HasReport};
 ghost use Rattle.carp_cli.specs.Runs.{IsHelped, Leaves};
-ghost use Rattle.carp_cli.specs.Examples.{idle, stating, solving, checking, making, touring, editing, outside};
+ghost use Rattle.carp_cli.specs.Examples.{idle, stating, solving, checking, making, touring, editing, improving, outside};
 
 use crate::Status;
 
@@ -24,9 +24,12 @@ fn facts_of_a_run_hold()
     ensures rose { RoseAtSome (reads checking) (λ _. 0) (λ _. 1) }
     ensures limit { HasLimit 268435456 (reads checking) }
     ensures accepted { IsDoneStatus checking Status.Accepted }
+    ensures improved { IsDoneStatus improving Status.Gap }
     ensures budget { HasBudget solving }
+    ensures more_turns { HasBudget improving }
     ensures of_bytes { IsOfBytes (Status.NotJoined 1) }
     ensures helped { IsHelped (Some solving) Status.Gap }
+    ensures helped_again { IsHelped (Some improving) Status.Gap }
     ensures report { HasReport Status.Gap }
 {}
 
@@ -41,6 +44,7 @@ fn facts_of_a_run_fail()
     ensures rose { RoseAtSome (reads checking) (λ _. 1) (λ _. 1) → ⊥ }
     ensures limit { HasLimit 268435456 (reads solving) → ⊥ }
     ensures accepted { IsDoneStatus checking Status.Proven → ⊥ }
+    ensures improved { IsDoneStatus improving Status.Done → ⊥ }
     ensures budget { HasBudget (Drill 0 1) → ⊥ }
     ensures of_bytes { IsOfBytes Status.ReadFault → ⊥ }
     ensures helped { IsHelped (Some checking) Status.Accepted → ⊥ }
@@ -54,6 +58,7 @@ fn facts_of_answers_hold()
     ensures of_file { IsOfFile (Status.TooLong 1) }
     ensures of_round { IsOfRound (Status.NotJoined 1) }
     ensures unread { IsRefusalOf checking Status.ReadFault }
+    ensures unread_again { IsRefusalOf improving Status.ReadFault }
     ensures apart { IsRefusalOf touring (Status.NotJoined 1) }
     ensures too_long { IsRefusalOf editing (Status.TooLong 1048576) }
     ensures held { HeldIn (λ _. Some []) (instance_at []) (λ bytes. bytes ≡ []) }
@@ -72,6 +77,7 @@ fn facts_of_answers_fail()
     ensures of_none { IsOfNone (Status.NotJoined 1) → ⊥ }
     ensures never_refused { IsRefusalOf making Status.ReadFault → ⊥ }
     ensures apart { IsRefusalOf checking (Status.NotJoined 1) → ⊥ }
+    ensures not_improved { IsRefusalOf improving (Status.NotJoined 1) → ⊥ }
     ensures no_edit { IsRefusalOf editing (Status.NotJoined 1) → ⊥ }
     ensures held { HeldIn (λ _. None) (instance_at []) (λ bytes. bytes ≡ []) → ⊥ }
     ensures given { GivenIn 4 6 (instance_at []) (λ bytes. bytes ≡ codes "dat") → ⊥ }

@@ -3,6 +3,7 @@ ghost use Rattle.carp_cli.specs.Laws.{
   SolvedIsAccepted,
   UpgradedIsAccepted,
   EditedIsAccepted,
+  ImprovedIsAccepted,
   MadeIsHeld,
   MadeIsSolved,
 };
@@ -15,12 +16,14 @@ use town_maker::towns_are_valid;
 ///
 /// If `solve FILE CERT` ended `Proven` or `Gap`, a later `check FILE CERT`, of which no look at the files failed,
 /// answers `Accepted`, with the cost and the bound that `solve` reported, or it could not write, or had no memory. The
-/// same holds of what `upgrade` and `edit` keep. What `make` keeps is the text of its town, within the limit of an
-/// instance file, so that `solve` solves it.
+/// same holds of what `upgrade`, `edit` and `improve` keep. What `improve` keeps costs no more than what it read, and
+/// its bound is no lower. What `make` keeps is the text of its town, within the limit of an instance file, so that
+/// `solve` solves it.
 pub fn kept_is_accepted()
     ensures solved { SolvedIsAccepted }
     ensures upgraded { UpgradedIsAccepted }
     ensures edited { EditedIsAccepted }
+    ensures improved { ImprovedIsAccepted }
     ensures made { MadeIsHeld }
     ensures made_solved { MadeIsSolved }
 {

@@ -17,7 +17,7 @@ pub(crate) fn refusal(alloc: Global, status: &Status) -> Result<Vec<u8>, Memory>
     match status {
         Status::BadUsage => Ok(Vec::from_slice(
             alloc,
-            b"usage: carp solve FILE CERT [--turns N] [--seed N]\n       carp check FILE CERT\n       carp sheet FILE CERT\n       carp make FILE [--seed N]\n       carp drill [--turns N] [--seed N]\n       carp upgrade FILE CERT NEWCERT\n       carp postman FILE\n       carp fleet FILE [--turns N]\n       carp edit FILE CERT EDITS NEWFILE NEWCERT\n",
+            b"usage: carp solve FILE CERT [--turns N] [--seed N]\n       carp check FILE CERT\n       carp sheet FILE CERT\n       carp make FILE [--seed N]\n       carp drill [--turns N] [--seed N]\n       carp upgrade FILE CERT NEWCERT\n       carp postman FILE\n       carp fleet FILE [--turns N]\n       carp edit FILE CERT EDITS NEWFILE NEWCERT\n       carp improve FILE CERT NEWCERT [--turns N] [--seed N]\n",
         )?),
         Status::BadInstance(fault) => instance_fault_line(alloc, fault),
         Status::BadCertificate(fault) => certificate_fault_line(alloc, fault),

@@ -37,6 +37,11 @@ use std::alloc::Global;
 ///   and writes a summary. The turns are 4 and the number is 1 if they are not given. It ends `Done`.
 /// - `upgrade FILE CERT NEWCERT` does as `check`, but holds the certificate. If it is good, the command keeps it at
 ///   NEWCERT with the numbers of the instance, and ends `Done`.
+/// - `improve FILE CERT NEWCERT [--turns N] [--seed N]` reads the instance of FILE and then the certificate of CERT,
+///   with the refusals of `upgrade`. It goes on from its plan and its tree with the aid of the helpers
+///   ([`carp_engine::improve`]), keeps a certificate at NEWCERT that costs no more and whose bound is no lower, and
+///   writes its report. It ends as `solve` does. The turns are those beside the old ones. Turns and seed are 64 and 1
+///   if they are not given.
 /// - `postman FILE` writes a least closed walk over all required edges of the instance of FILE, for one vehicle without
 ///   a limit ([`postman::postman`]), and ends `Done`. If they do not hang together with the depot, it ends `NotJoined`.
 /// - `fleet FILE [--turns N]` finds a number of vehicles that carry all demands ([`fleet_pack::pack`]). It writes a
@@ -63,8 +68,8 @@ use std::alloc::Global;
 ///   by at least the length of each text.
 /// - A certificate is accepted only if such bytes spell an instance, and such bytes a certificate that is good for it,
 ///   with the cost and the bound that are to be printed.
-/// - A sheet, an upgrade and an edit rest on such a certificate. A solution, a round and a fleet rest on such an
-///   instance.
+/// - A sheet, an upgrade, an edit and an improvement rest on such a certificate. A solution, a round and a fleet rest
+///   on such an instance.
 ///
 /// It also says which count rose if an answer is a fault, and what becomes of the helpers. It does not say that these
 /// are the bytes of the named files, nor that what is to be kept and written arrives there.
@@ -176,7 +181,7 @@ fn perform<'a, H: Shelf, P: Proposer>(
     ensures fouls { IfOk result (λ d. IsHelped (Some (command_in command.entry)) d.status → All (λ helper. (P.tally helper).fouls ≤ 1) helpers.new.items) }
 {
     match gather(alloc, command, shelf) {
-        Ok(job) => make(alloc, &job, helpers),
+        Ok(job) => make(alloc, job, helpers),
         Err(Fail::Memory) => Err(Memory),
         Err(Fail::Refused(status)) => refuse(alloc, status),
     }

@@ -53,7 +53,12 @@ const CARRIED: &str =
     "carp-certificate 2~instance 4 4 3 5 8~cost 67~bound 45~tours 3~tour 4 >4 +1 <1 <4~tour 5 >4 >1 +2 >3 <4~tour 4 >4 -3 >3 <4~shores 2~shore 3 2 3 4~shore 2 3 4~sets 1~prices 1 3 1 1 1~weights 2 1 10 2 1~nodes 1~price 1~end~";
 
 // A text with line feeds, under a name.
-fn place(alloc: Global, shelf: &mut MemShelf, name: &str, text: &str) -> Result<(), Fail> {
+pub(crate) fn place(
+    alloc: Global,
+    shelf: &mut MemShelf,
+    name: &str,
+    text: &str,
+) -> Result<(), Fail> {
     let text = text.replace(alloc, "~", "\n")?;
     Ok(shelf.place(name, text.as_bytes())?)
 }
@@ -82,7 +87,7 @@ fn files(alloc: Global, wanted: &str, edits: &str) -> Result<MemShelf, Fail> {
 }
 
 // The code and the text of a command, with `~` for a line feed.
-fn answer(alloc: Global, shelf: &mut MemShelf, words: &[&str]) -> Result<String, Fail> {
+pub(crate) fn answer(alloc: Global, shelf: &mut MemShelf, words: &[&str]) -> Result<String, Fail> {
     let mut out = MemSink::new(alloc, REPORT_ROOM, 65_536, Vec::new(alloc))?;
     let status = run_words(alloc, words, shelf, &mut out)?;
     let text = str::from_utf8(out.written()).unwrap_or("");
@@ -169,7 +174,7 @@ fn drawn_edits(alloc: Global, state: &mut u64) -> Result<String, Fail> {
 }
 
 // The numbers behind the words of an answer.
-fn numbers_in(alloc: Global, told: &str) -> Result<Vec<u64>, Fail> {
+pub(crate) fn numbers_in(alloc: Global, told: &str) -> Result<Vec<u64>, Fail> {
     let mut numbers = Vec::new(alloc);
     for line in told.split('~') {
         if let Some((_, number)) = line.rsplit_once(' ') {

@@ -1,4 +1,4 @@
-//! Tests of the top call ([`carp_cli::run`]) over certificates: those that are checked, renewed, and carried over.
+//! Tests of the top call ([`carp_cli::run`]) over certificates: those that are checked, renewed, carried over, and gone on from.
 //!
 //! They stand in a crate of their own, since a crate with tests is proved twice.
 #![tactic(auto)]
@@ -7,3 +7,5 @@
 mod carried_tests;
 #[cfg(test)]
 mod check_tests;
+#[cfg(test)]
+mod improve_tests;

@@ -34,6 +34,8 @@ const ROWS: &str = "\
     check file cert | 7 | 0 | 0 | accepted~cost 16~bound 16~\n\
     sheet file cert | 7 | 0 | 0 | tour 1 load 3 cost 16~1 serve 1 2 cost 5\n\
     upgrade file cert new | 7 | 1 | 0 | upgraded~cost 16~bound 16~\n\
+    improve file cert new | 7 | 1 | 0 | instance vertices 3 edges 3 required 3 capacity 3 demand 3~cost 16~bound 16~turns 1~proven~tours 1~\n\
+    full: improve file cert new --turns 1 | 7 | 1 | 0 | instance vertices 3 edges 2 required 2 capacity 2 demand 4~cost 20~bound 20~turns 1~proven~tours 2~\n\
     make new | 0 | 1 | 0 | made vertices 100 edges 180 required\n\
     postman file | 4 | 0 | 0 | postman cost 16~deadheads 0~\n\
     fleet file | 4 | 0 | 0 | fleet 1~bound 1~turns 1~proven~\n\

@@ -41,6 +41,7 @@ const USAGE: &str = "usage: carp solve FILE CERT [--turns N] [--seed N]
        carp postman FILE
        carp fleet FILE [--turns N]
        carp edit FILE CERT EDITS NEWFILE NEWCERT
+       carp improve FILE CERT NEWCERT [--turns N] [--seed N]
 ";
 
 // Whether a file is solved with this code, this report and this certificate, and the other file stays, with files and output that
@@ -218,7 +219,15 @@ const CALLS: &str = "\
     upgrade file cert | | | | 3 | no | usage\n\
     upgrade file cert file | | | | 3 | no | usage\n\
     upgrade file cert cert | | | | 3 | no | usage\n\
-    upgrade file other cert | | | | 5 | no | bad certificate: ends before line 1 is complete~";
+    upgrade file other cert | | | | 5 | no | bad certificate: ends before line 1 is complete~\n\
+    improve file cert | | | | 3 | no | usage\n\
+    improve file cert cert | | | | 3 | no | usage\n\
+    improve file cert file | | | | 3 | no | usage\n\
+    improve file other cert --turns 0 | | | | 3 | no | usage\n\
+    improve none other cert | | | | 6 | no | read fault~\n\
+    improve file none cert | | | | 6 | no | read fault~\n\
+    improve other none cert | | | | 4 | no | bad instance: key VERTICES is missing~\n\
+    improve file other cert | | | | 5 | no | bad certificate: ends before line 1 is complete~";
 
 // What is said to be written.
 fn text_of(alloc: Global, written: &str) -> Result<String, Fail> {

@@ -28,6 +28,7 @@ use Rattle.cert_lines.specs.Spelling.{IsFine, IsFineNode, IsFineSet, IsFineShore
 use Rattle.cert_format.specs.Good.{CountsAreInRange, HasPriceEach, IsGood, PlansAreOnEdges}
 use Rattle.carp_engine.specs.Certifying.{AreWithinLimits, certificate_by}
 use Rattle.carp_engine.specs.Solutions.{IsAboveFloors}
+use Rattle.carp_engine.proofs.Groups.{in_range_spelled}
 
 -- the laws that a certificate rests on
 pub record Laws : Type 0 where
@@ -64,7 +65,7 @@ module _ (laws : Laws) (p : Problem) (f : Findings) (turns : ℕ) (found : IsFou
   fine_set set fine held = record {
     prices = fine;
     shores = All-weaker (λ (w : Weight). IsShoreOf p f.pool w.shore) (λ (w : Weight). IsShoreNumber f.pool w.shore) (λ w is. is.number) set.weights held.shores;
-    no_groups = held.no_groups;
+    group_edges = in_range_spelled set held.groups;
   }
 
   pub is_fine : AreWithinLimits f.pool f.sets → IsFine (certificate_by p f)
@@ -80,6 +81,7 @@ module _ (laws : Laws) (p : Problem) (f : Findings) (turns : ℕ) (found : IsFou
     different = limits.different;
     few_sets = found.few_sets;
     sets_fine = both_all IsPriceSet (IsHeldSet p f.pool) (IsFineSet f.pool) fine_set f.sets limits.fine found.sets;
+    counted = λ grouped. refl;
     few_nodes = found.few_nodes;
     nodes_fine = both_all (IsNodeIn p f.pool) (IsSpelledNode (length f.sets)) (IsFineNode (length f.pool) (length f.sets)) fine_node f.nodes found.inside found.spelled;
     tree = found.tree;

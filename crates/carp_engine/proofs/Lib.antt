@@ -1,4 +1,5 @@
 pub mod Sound
+pub mod Groups
 pub mod Certified
 pub mod Olds
 pub mod Better

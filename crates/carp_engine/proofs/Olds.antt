@@ -1,5 +1,5 @@
 -- What is known of a good certificate that can be spelled: a search may go on from its tree.
-use Rattle.std.proofs.Common.{◌≡◌, ℕ, zero, suc, ◌+◌, ◌≤◌, ◌<◌, List, [], ◌∷◌, ◌++◌, length, sym, ap, subst, arith, All}
+use Rattle.std.proofs.Common.{◌≡◌, ℕ, zero, suc, ◌+◌, ◌≤◌, ◌<◌, List, [], ◌∷◌, ◌++◌, length, sym, ap, subst, arith, All, get_or}
 use Rattle.std.specs.List.{AllByRecursion}
 use Rattle.std.proofs.lemmas.List.Elements.{All-from_recursion, All-weaker, recursion_from_All}
 use Rattle.carp_base.specs.Problem.{Problem, IsValid}
@@ -26,6 +26,7 @@ use Rattle.cert_lines.specs.Spelling.{IsFine, IsFineNode, IsFineSet, IsSpellable
 use Rattle.cert_format.specs.Good.{HasPriceEach, IsGood, support_of}
 use Rattle.tree_transfer.specs.Carried.{WouldShow}
 use Rattle.carp_engine.specs.Improved.{HaveTurns}
+use Rattle.carp_engine.proofs.Groups.{spelled_in_range}
 use Rattle.tree_transfer.specs.Shown.{AreNotedNodes, AreTreeNodes, HasShores, WouldShowSome}
 
 join_all : {X : Type 0} (P : X → Type 0) (xs ys : List X) → AllByRecursion P xs → AllByRecursion P ys → AllByRecursion P (xs ++ ys)
@@ -124,7 +125,7 @@ module _ (law : SpellableIsFine) (once : FixedValueIsUnique) (p : Problem) (c : 
     fine = All-weaker (IsFineSet c.shores) IsPriceSet (λ set is. is.prices) c.sets is_fine.sets_fine;
     held = λ k d less.
         let fine_set = is_fine.sets_fine k d less in
-        record { one_each = good.prices k d less; not_negative = good.deadheads k d less; shores = set_shores _ fine_set; no_groups = fine_set.no_groups };
+        record { one_each = good.prices k d less; not_negative = good.deadheads k d less; shores = set_shores _ fine_set; groups = spelled_in_range (get_or c.sets k d) fine_set.group_edges };
     few_sets = is_fine.few_sets;
     belong = good.shores;
     few_nodes = omega (arith, ap length good.nodes, is_fine.few_nodes);

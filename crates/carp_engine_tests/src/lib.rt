@@ -6,4 +6,6 @@
 #[cfg(test)]
 mod branch_tree_tests;
 #[cfg(test)]
+mod carp_engine_group_tests;
+#[cfg(test)]
 mod carp_engine_tests;

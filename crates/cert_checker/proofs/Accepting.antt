@@ -14,7 +14,7 @@ use Rattle.cert_lines.specs.Certificates.{Certificate}
 use Rattle.cert_format.specs.Good.{IsGood, support_of}
 use Rattle.cert_checker.specs.declared.reason.Part.TheVariants as parts
 use Rattle.cert_checker.specs.declared.reason.Reason.{Reason}
-use Rattle.cert_checker.specs.declared.reason.Reason.TheVariants.{PlanUnlawful, CostDiffers, Misfit, WeightTooLarge, CountsDiffer, NotLean, NotVoid, NotFixed, MissingUpper, TourTooCheap, LeafLow}
+use Rattle.cert_checker.specs.declared.reason.Reason.TheVariants.{PlanUnlawful, CostDiffers, Misfit, WeightTooLarge, CountsDiffer, NotLean, NotVoid, NotFixed, MissingUpper, MissingYes, TourTooCheap, LeafLow}
 use Rattle.cert_checker.specs.Claims.{IsSetRead, IsBacked}
 use Rattle.cert_checker.specs.Nodes.{NodeFails, NodesStand, FirstNodeFails}
 use Rattle.branch_rules.specs.Waiting.{waiting_after}
@@ -147,5 +147,6 @@ first_from p c (NotLean n) head fails = (head, fails)
 first_from p c (NotVoid n) head fails = (head, fails)
 first_from p c (NotFixed n) head fails = (head, fails)
 first_from p c (MissingUpper set n border) head fails = (head, fails)
+first_from p c (MissingYes set n a b) head fails = (head, fails)
 first_from p c (TourTooCheap set n value) head fails = (head, fails)
 first_from p c (LeafLow n value limit) head fails = (head, fails)

@@ -28,7 +28,7 @@ pub shore_of : (p : Problem) (pool : List (List ℕ)) (shore : ℕ) → All (Bel
 shore_of p pool shore belong number = record { number = number; belongs = at_shore (Belongs p) pool shore belong number }
 
 pub shores_of : (s : Support) (set : Prices) → All (Belongs s.problem) s.pool → IsSetRead s set → All (λ w. IsShoreOf s.problem s.pool w.shore) set.weights
-shores_of s set belong read k d less = shore_of s.problem s.pool _ belong (read.shores k d less)
+shores_of s set belong read k d less = shore_of s.problem s.pool _ belong (read k d less)
 
 pub none_and_heavy : (p : Problem) (pool : List (List ℕ)) (set : Prices) (named : TooHeavy) → NoneTooHeavy p pool set → IsTooHeavy p pool set named → ⊥
 none_and_heavy p pool set named none heavy =

@@ -9,16 +9,17 @@ use Rattle.decision_chains.specs.Exclusions.{IsDetermined}
 use Rattle.decision_chains.specs.PlanLaws.{FixedValueIsUnique}
 use Rattle.decision_chains.specs.Pairs.{IsPairWithin}
 use Rattle.branch_rules.specs.Decisions.{IsFixed, IsVoid, cuts_of}
-use Rattle.branch_rules.specs.Prices.{Prices, no_weight, weight_at}
-use Rattle.branch_rules.specs.Refusals.{HasUpper, IsWithoutUpper}
+use Rattle.branch_rules.specs.Prices.{Prices, group_at, no_group, no_weight, weight_at}
+use Rattle.branch_rules.specs.Refusals.{HasUpper, HasYes, IsWithoutUpper, IsWithoutYes}
 use Rattle.branch_rules.specs.declared.branch.NoUpper.{NoUpper}
+use Rattle.branch_rules.specs.declared.yes_pairs.NoYes.{NoYes}
 use Rattle.branch_rules.specs.Trees.{Support, set_at, IsLeanNode}
 use Rattle.branch_rules.specs.declared.node.Node.{Node}
 use Rattle.branch_rules.specs.declared.node.Node.TheVariants as nodes
 use Rattle.cert_checker.specs.declared.reason.Part.TheVariants as parts
 use Rattle.cert_checker.specs.declared.reason.Reason.{Reason}
-use Rattle.cert_checker.specs.declared.reason.Reason.TheVariants.{Misfit, NotLean, NotVoid, NotFixed, MissingUpper, TourTooCheap, LeafLow}
-use Rattle.cert_checker.specs.Nodes.{IsLeastTour, ToursPay, IsFixedLow, IsTourTooCheap, IsPriceLow, NodeFails, NodeStands, NodesStand, FirstNodeFails}
+use Rattle.cert_checker.specs.declared.reason.Reason.TheVariants.{Misfit, NotLean, NotVoid, NotFixed, MissingUpper, MissingYes, TourTooCheap, LeafLow}
+use Rattle.cert_checker.specs.Nodes.{IsLeastTour, ToursPay, IsFixedLow, IsPairMissing, IsTourTooCheap, IsPriceLow, NodeFails, NodeStands, NodesStand, FirstNodeFails}
 use Rattle.branch_rules.specs.Waiting.{waiting_after}
 
 -- What the reasons of each kind of node are.
@@ -64,6 +65,12 @@ record Missing (s : Support) (at : ℕ) (branch : List Decision) (set : ℕ) (r 
   pub is : r ≡ MissingUpper set at border
   pub lacks : IsWithoutUpper branch (set_at s set) (record { shore = border })
 
+record Unpaired (s : Support) (at : ℕ) (branch : List Decision) (set : ℕ) (r : Reason) : Type 0 where
+  pub a : ℕ
+  pub b : ℕ
+  pub is : r ≡ MissingYes set at a b
+  pub missing : IsPairMissing branch (set_at s set) a b
+
 record Cheap (s : Support) (at : ℕ) (branch : List Decision) (set : ℕ) (r : Reason) : Type 0 where
   pub value : ℤ
   pub is : r ≡ TourTooCheap set at value
@@ -77,12 +84,15 @@ record Low (s : Support) (bound at : ℕ) (branch : List Decision) (set : ℕ) (
 
 data PriceFails (s : Support) (bound at : ℕ) (branch : List Decision) (set : ℕ) (r : Reason) : Type 0 where
   by_upper : Missing s at branch set r → PriceFails s bound at branch set r
+  by_yes : Unpaired s at branch set r → PriceFails s bound at branch set r
   by_tour : Cheap s at branch set r → PriceFails s bound at branch set r
   by_value : Low s bound at branch set r → PriceFails s bound at branch set r
 
 price_fails : (s : Support) (bound at : ℕ) (branch : List Decision) (set : ℕ) (r : Reason) → NodeFails s bound at branch (nodes.Price set) r → PriceFails s bound at branch set r
 price_fails s bound at branch set (MissingUpper number n border) fails =
     by_upper (record { border = border; is = ap (λ i. MissingUpper i n border) fails.1 ∙ ap (λ k. MissingUpper set k border) fails.0; lacks = fails.2 })
+price_fails s bound at branch set (MissingYes number n a b) fails =
+    by_yes (record { a = a; b = b; is = ap (λ i. MissingYes i n a b) fails.1 ∙ ap (λ k. MissingYes set k a b) fails.0; missing = fails.2 })
 price_fails s bound at branch set (TourTooCheap number n value) fails =
     by_tour (record { value = value; is = ap (λ i. TourTooCheap i n value) fails.1 ∙ ap (λ k. TourTooCheap set k value) fails.0; cheap = fails.2 })
 price_fails s bound at branch set (LeafLow n value limit) fails = by_value (record { value = value; limit = limit; is = ap (λ k. LeafLow k value limit) fails.0; low = fails.1 })
@@ -101,6 +111,28 @@ one_border branch set one other is was = elim (cases_lt is.place was.place) [
     | inr same ↦
         let place : is.place ≡ was.place = omega (arith, more, same) in
         is.shore ∙ ap (λ k. (weight_at set k).shore) place ∙ sym was.shore
+  ]
+]
+
+yes_or_not : (branch : List Decision) (set : Prices) (named : NoYes) → All (HasYes branch) set.groups → IsWithoutYes branch set named → ⊥
+yes_or_not branch set named all without = without.lacks (all without.place no_group without.in_range)
+
+-- two lists of two numbers that are the same have the same numbers
+record SamePair (a b c d : ℕ) : Type 0 where
+  first : a ≡ c
+  second : b ≡ d
+
+same_pair : (a b c d : ℕ) → a ∷ b ∷ [] ≡ c ∷ d ∷ [] → SamePair a b c d
+same_pair a b c d same = record { first = cc; second = cc }
+
+one_pair : (branch : List Decision) (set : Prices) (one other : NoYes) → IsWithoutYes branch set one → IsWithoutYes branch set other → SamePair one.a one.b other.a other.b
+one_pair branch set one other is was = elim (cases_lt is.place was.place) [
+  | inl less ↦ absurd (is.lacks (was.before is.place less))
+  | inr more ↦ elim (cases_lt was.place is.place) [
+    | inl less ↦ absurd (was.lacks (is.before was.place less))
+    | inr same ↦
+        let place : is.place ≡ was.place = omega (arith, more, same) in
+        same_pair one.a one.b other.a other.b (sym is.edges ∙ ap (λ k. (group_at set k).edges) place ∙ was.edges)
   ]
 ]
 
@@ -138,8 +170,10 @@ module _ (unique : FixedValueIsUnique) (s : Support) (bound : ℕ) where
   ]
   fails_or_stands at branch (nodes.Price set) r fails stands =
       let uppers = All-from_recursion (HasUpper branch) (set_at s set).weights stands.2.fits.has_upper in
+      let yeses = All-from_recursion (HasYes branch) (set_at s set).groups stands.2.fits.has_yes in
       elim (price_fails s bound at branch set r fails) [
         | by_upper m ↦ upper_or_not branch (set_at s set) (record { shore = m.border }) uppers m.lacks
+        | by_yes m ↦ yes_or_not branch (set_at s set) (record { a = m.a; b = m.b }) yeses m.missing.lacks
         | by_tour c ↦ pay_or_not s branch (set_at s set) c.value stands.2.fits.tours c.cheap.least c.cheap.negative
         | by_value l ↦
             let le = subst (λ z. z ≤ℤ l.limit) l.low.is_value l.low.low in
@@ -176,12 +210,21 @@ module _ (unique : FixedValueIsUnique) (s : Support) (bound : ℕ) where
       both : PriceFails s bound at branch set r → PriceFails s bound at branch set q → r ≡ q
       both (by_upper m) (by_upper n) =
           m.is ∙ ap (λ k. MissingUpper set at k) (one_border branch (set_at s set) (record { shore = m.border }) (record { shore = n.border }) m.lacks n.lacks) ∙ sym n.is
-      both (by_upper m) (by_tour c) = absurd (upper_or_not branch (set_at s set) (record { shore = m.border }) c.cheap.has_upper m.lacks)
-      both (by_upper m) (by_value l) = absurd (upper_or_not branch (set_at s set) (record { shore = m.border }) l.low.has_upper m.lacks)
-      both (by_tour c) (by_upper m) = absurd (upper_or_not branch (set_at s set) (record { shore = m.border }) c.cheap.has_upper m.lacks)
+      both (by_upper m) (by_yes u) = absurd (upper_or_not branch (set_at s set) (record { shore = m.border }) u.missing.has_upper m.lacks)
+      both (by_upper m) (by_tour c) = absurd (upper_or_not branch (set_at s set) (record { shore = m.border }) c.cheap.needs.has_upper m.lacks)
+      both (by_upper m) (by_value l) = absurd (upper_or_not branch (set_at s set) (record { shore = m.border }) l.low.needs.has_upper m.lacks)
+      both (by_yes u) (by_upper m) = absurd (upper_or_not branch (set_at s set) (record { shore = m.border }) u.missing.has_upper m.lacks)
+      both (by_yes u) (by_yes v) =
+          let same = one_pair branch (set_at s set) (record { a = u.a; b = u.b }) (record { a = v.a; b = v.b }) u.missing.lacks v.missing.lacks in
+          u.is ∙ ap (λ k. MissingYes set at k u.b) same.first ∙ ap (λ k. MissingYes set at v.a k) same.second ∙ sym v.is
+      both (by_yes u) (by_tour c) = absurd (yes_or_not branch (set_at s set) (record { a = u.a; b = u.b }) c.cheap.needs.has_yes u.missing.lacks)
+      both (by_yes u) (by_value l) = absurd (yes_or_not branch (set_at s set) (record { a = u.a; b = u.b }) l.low.needs.has_yes u.missing.lacks)
+      both (by_tour c) (by_upper m) = absurd (upper_or_not branch (set_at s set) (record { shore = m.border }) c.cheap.needs.has_upper m.lacks)
+      both (by_tour c) (by_yes u) = absurd (yes_or_not branch (set_at s set) (record { a = u.a; b = u.b }) c.cheap.needs.has_yes u.missing.lacks)
       both (by_tour c) (by_tour d) = c.is ∙ ap (λ z. TourTooCheap set at z) (one_least s branch (set_at s set) c.value d.value c.cheap.least d.cheap.least) ∙ sym d.is
       both (by_tour c) (by_value l) = absurd (pay_or_not s branch (set_at s set) c.value l.low.pays c.cheap.least c.cheap.negative)
-      both (by_value l) (by_upper m) = absurd (upper_or_not branch (set_at s set) (record { shore = m.border }) l.low.has_upper m.lacks)
+      both (by_value l) (by_upper m) = absurd (upper_or_not branch (set_at s set) (record { shore = m.border }) l.low.needs.has_upper m.lacks)
+      both (by_value l) (by_yes u) = absurd (yes_or_not branch (set_at s set) (record { a = u.a; b = u.b }) l.low.needs.has_yes u.missing.lacks)
       both (by_value l) (by_tour c) = absurd (pay_or_not s branch (set_at s set) c.value l.low.pays c.cheap.least c.cheap.negative)
       both (by_value l) (by_value k) =
           l.is ∙ ap (λ z. LeafLow at z l.limit) (l.low.is_value ∙ sym k.low.is_value) ∙ ap (λ z. LeafLow at k.value z) (l.low.is_limit ∙ sym k.low.is_limit) ∙ sym k.is

@@ -20,7 +20,7 @@ use Rattle.cert_lines.specs.Certificates.{Certificate}
 use Rattle.cert_format.specs.Good.{IsGood, counts_in, support_of, HasPriceEach}
 use Rattle.cert_checker.specs.declared.reason.Part.TheVariants as parts
 use Rattle.cert_checker.specs.declared.reason.Reason.{Reason}
-use Rattle.cert_checker.specs.declared.reason.Reason.TheVariants.{PlanUnlawful, CostDiffers, Misfit, WeightTooLarge, CountsDiffer, NotLean, NotVoid, NotFixed, MissingUpper, TourTooCheap, LeafLow}
+use Rattle.cert_checker.specs.declared.reason.Reason.TheVariants.{PlanUnlawful, CostDiffers, Misfit, WeightTooLarge, CountsDiffer, NotLean, NotVoid, NotFixed, MissingUpper, MissingYes, TourTooCheap, LeafLow}
 use Rattle.cert_checker.specs.Nodes.{FirstNodeFails}
 use Rattle.cert_checker.specs.Reasons.{five, FirstDiffers, IsFirstWithout, IsFirstHeavy, CountsAgree, HeadIsRight, IsFirstReason}
 use Rattle.cert_checker.proofs.Backing.{at_set, at_shore, none_and_heavy}
@@ -125,6 +125,7 @@ in_order p c (NotLean n) h = at_nodes p c (NotLean n) h.0 h.1
 in_order p c (NotVoid n) h = at_nodes p c (NotVoid n) h.0 h.1
 in_order p c (NotFixed n) h = at_nodes p c (NotFixed n) h.0 h.1
 in_order p c (MissingUpper set n border) h = at_nodes p c (MissingUpper set n border) h.0 h.1
+in_order p c (MissingYes set n a b) h = at_nodes p c (MissingYes set n a b) h.0 h.1
 in_order p c (TourTooCheap set n value) h = at_nodes p c (TourTooCheap set n value) h.0 h.1
 in_order p c (LeafLow n value limit) h = at_nodes p c (LeafLow n value limit) h.0 h.1
 

@@ -1,9 +1,10 @@
 -- What good lines have, whatever follows them.
-use Rattle.std.proofs.Common.{◌≡◌, ℕ, zero, suc, ◌+◌, ◌-◌, ◌≤◌, ◌<◌, ◌==◌, ◌↔◌, Bool, true, false, IsTrue, if◌then◌else◌, List, [], ◌∷◌, ◌++◌, length, refl, sym, ap, subst, ◌∙◌, arith, length-append, append-nil}
+use Rattle.std.proofs.Common.{◌≡◌, ℕ, zero, suc, ◌+◌, ◌-◌, ◌≤◌, ◌==◌, ◌↔◌, Bool, true, false, if◌then◌else◌, List, [], ◌∷◌, ◌++◌, length, refl, sym, ap, subst, ◌∙◌, arith, length-append, append-nil}
 use Rattle.std.specs.List.{All}
 use Rattle.std.proofs.lemmas.List.Elements.{All-nil, All-cons, All-weaker, All-append}
 use Rattle.carp_base.specs.Problem.{Problem}
 use Rattle.cut_pool.specs.Pools.{IsShoreNumber}
+use Rattle.branch_rules.specs.Bonds.{GroupWeight}
 use Rattle.branch_rules.specs.Prices.{Prices}
 use Rattle.branch_rules.specs.Trees.{Support}
 use Rattle.branch_rules.specs.declared.node.Node.{Node}
@@ -13,9 +14,9 @@ use Rattle.cert_lines.specs.declared.item.Item.{Item}
 use Rattle.cert_lines.specs.declared.item.Item.TheVariants as items
 use Rattle.cert_lines.specs.declared.next.Next.{Next}
 use Rattle.cert_lines.specs.declared.next.Next.TheVariants as stands
-use Rattle.cert_lines.specs.Lines.{Line, version, counts, cost, bound, tours, tour, shores, shore, sets, prices, weights, nodes, node, end}
-use Rattle.cert_lines.specs.Order.{LatestFirst, next_of, after, follows, left_of, open_of, open_after, nodes_to_come, sets_to_come, shores_to_come, tours_to_come}
-use Rattle.cert_lines.specs.Certificates.{certificate_of, nodes_of, services_of, sets_of, shores_of, unit_of}
+use Rattle.cert_lines.specs.Lines.{Line, Remainder, version, counts, cost, bound, tours, tour, shores, shore, sets, prices, weights, bonds, nodes, node, end}
+use Rattle.cert_lines.specs.Order.{LatestFirst, version_of, next_of, after, follows, left_of, open_of, open_after, nodes_to_come, sets_to_come, shores_to_come, tours_to_come}
+use Rattle.cert_lines.specs.Certificates.{certificate_of, nodes_of, services_of, sets_of, shores_of, unit_of, weights_of}
 use Rattle.cert_lines.specs.Ranges.{IsInRange, IsWeightInRange}
 use Rattle.cert_lines.specs.Agreement.{Agrees, BecomesWhole}
 use Rattle.cert_lines.specs.Spelling.{AreGood}
@@ -63,6 +64,7 @@ nodes_are (shore n vertices ∷ said) = nodes_are said
 nodes_are (sets n ∷ said) = nodes_are said
 nodes_are (prices unit n services ∷ said) = nodes_are said
 nodes_are (weights n given ∷ said) = nodes_are said
+nodes_are (bonds n groups rest ∷ said) = nodes_are said
 nodes_are (nodes n ∷ said) = nodes_in-append (items_of said) (items.Head ∷ []) ∙ append-nil (nodes_in (items_of said)) ∙ nodes_are said
 nodes_are (node x ∷ said) = nodes_in-append (items_of said) (items.Node x ∷ []) ∙ ap (λ (r : List Node). r ++ x ∷ []) (nodes_are said)
 nodes_are (end ∷ said) = nodes_in-append (items_of said) (items.Whole ∷ []) ∙ append-nil (nodes_in (items_of said)) ∙ nodes_are said
@@ -152,22 +154,27 @@ early_sets : (n heads stated : ℕ) (all : List Node) → IsEarly heads all → 
 early_sets zero heads stated all early = early
 early_sets (suc n) heads stated all early = early
 
+early_bonds : (b : Bool) (left heads stated : ℕ) (all : List Node) → IsEarly heads all → InState (if b then stands.Bonds left else sets_to_come (left - 1)) heads stated all
+early_bonds true left heads stated all early = early
+early_bonds false left heads stated all early = early_sets (left - 1) heads stated all early
+
 -- after a line that is none of the tree
-early_after : (next : Next) (line : Line) (heads stated : ℕ) (all : List Node) → IsQuiet line → IsEarly heads all → InState (after next line) heads stated all
-early_after next (version n) heads stated all quiet early = early_if (n == 1) heads stated all early
-early_after next (counts c) heads stated all quiet early = early
-early_after next (cost n) heads stated all quiet early = early
-early_after next (bound n) heads stated all quiet early = early
-early_after next (tours n) heads stated all quiet early = early_tours n heads stated all early
-early_after next (tour n steps) heads stated all quiet early = early_tours (left_of next - 1) heads stated all early
-early_after next (shores n) heads stated all quiet early = early_shores n heads stated all early
-early_after next (shore n vertices) heads stated all quiet early = early_shores (left_of next - 1) heads stated all early
-early_after next (sets n) heads stated all quiet early = early_sets n heads stated all early
-early_after next (prices unit n services) heads stated all quiet early = early
-early_after next (weights n given) heads stated all quiet early = early_sets (left_of next - 1) heads stated all early
-early_after next (nodes n) heads stated all quiet early = absurd quiet
-early_after next (node x) heads stated all quiet early = absurd quiet
-early_after next end heads stated all quiet early = absurd quiet
+early_after : (v : ℕ) (next : Next) (line : Line) (heads stated : ℕ) (all : List Node) → IsQuiet line → IsEarly heads all → InState (after v next line) heads stated all
+early_after v next (version n) heads stated all quiet early = early_if (n == 1) heads stated all early
+early_after v next (counts c) heads stated all quiet early = early
+early_after v next (cost n) heads stated all quiet early = early
+early_after v next (bound n) heads stated all quiet early = early
+early_after v next (tours n) heads stated all quiet early = early_tours n heads stated all early
+early_after v next (tour n steps) heads stated all quiet early = early_tours (left_of next - 1) heads stated all early
+early_after v next (shores n) heads stated all quiet early = early_shores n heads stated all early
+early_after v next (shore n vertices) heads stated all quiet early = early_shores (left_of next - 1) heads stated all early
+early_after v next (sets n) heads stated all quiet early = early_sets n heads stated all early
+early_after v next (prices unit n services) heads stated all quiet early = early
+early_after v next (weights n given) heads stated all quiet early = early_bonds (v == 4) (left_of next) heads stated all early
+early_after v next (bonds n groups rest) heads stated all quiet early = early_sets (left_of next - 1) heads stated all early
+early_after v next (nodes n) heads stated all quiet early = absurd quiet
+early_after v next (node x) heads stated all quiet early = absurd quiet
+early_after v next end heads stated all quiet early = absurd quiet
 
 -- the number of nodes
 tree_begins : (n heads : ℕ) (all : List Node) → 1 ≤ n → n ≤ 2097153 → heads ≡ 1 → all ≡ [] → InState (nodes_to_come n 1) heads n all
@@ -239,23 +246,34 @@ node_stays s t (tree.Price set) pools long read = record { from_one = read.from_
 node_stays s t tree.Void pools long read = tt
 node_stays s t tree.Fixed pools long read = tt
 
+weights_stay : (s t : Support) (given : List Weight) → length s.pool ≤ length t.pool → All (λ w. IsShoreNumber s.pool w.shore) given → All (λ w. IsShoreNumber t.pool w.shore) given
+weights_stay s t given pools read =
+    All-weaker (λ (w : Weight). IsShoreNumber s.pool w.shore) (λ (w : Weight). IsShoreNumber t.pool w.shore)
+    (λ w number. record { from_one = number.from_one; in_range = omega (arith, number.in_range, pools) }) given read
+
 set_stays : (s t : Support) (set : Prices) → length s.pool ≤ length t.pool → IsSetRead s set → IsSetRead t set
-set_stays s t set pools read = record {
-  shores = All-weaker (λ w. IsShoreNumber s.pool w.shore) (λ w. IsShoreNumber t.pool w.shore)
-      (λ w number. record { from_one = number.from_one; in_range = omega (arith, number.in_range, pools) }) set.weights read.shores;
-  no_groups = read.no_groups;
-}
+set_stays s t set pools read = weights_stay s t set.weights pools read
+
+-- a set that comes, or not
+sets_if : (P : Prices → Type 0) (b : Bool) (old : List Prices) (set : Prices) → All P old → P set → All P (if b then old else old ++ set ∷ [])
+sets_if P true old set all is = all
+sets_if P false old set all is = All-append P old (set ∷ []) all (All-cons P set [] is (All-nil P))
+
+no_fewer_if : (b : Bool) (old : List Prices) (set : Prices) → length old ≤ length (if b then old else old ++ set ∷ [])
+no_fewer_if true old set = omega arith
+no_fewer_if false old set = omega (arith, length-append old (set ∷ []))
 
 -- what good lines keep
 record Kept (p : Problem) (said : LatestFirst) : Type 0 where
   sets_read : All (IsSetRead (said_support p said)) (sets_of said)
   read : All (IsNodeRead (said_support p said)) (nodes_of said)
   fits : Fits (nodes_of said) 1
+  weights_read : All (λ w. IsShoreNumber (shores_of said) w.shore) (weights_of said)
   state : InState (next_of said) (head_count (items_of said)) (stated_nodes said) (nodes_of said)
 
-keep_quiet : (p : Problem) (line : Line) (said : LatestFirst) → IsQuiet line → follows (next_of said) line ≡ true → Kept p said → InState (after (next_of said) line) (head_count (items_of said)) (stated_nodes said) (nodes_of said)
+keep_quiet : (p : Problem) (line : Line) (said : LatestFirst) → IsQuiet line → follows (next_of said) line ≡ true → Kept p said → InState (after (version_of said) (next_of said) line) (head_count (items_of said)) (stated_nodes said) (nodes_of said)
 keep_quiet p line said quiet follows kept =
-    early_after (next_of said) line (head_count (items_of said)) (stated_nodes said) (nodes_of said) quiet
+    early_after (version_of said) (next_of said) line (head_count (items_of said)) (stated_nodes said) (nodes_of said) quiet
     (early_before (next_of said) line (head_count (items_of said)) (stated_nodes said) (nodes_of said) quiet follows kept.state)
 
 keep_shore : (p : Problem) (n : ℕ) (vertices : List ℕ) (said : LatestFirst) → follows (next_of said) (shore n vertices) ≡ true → Kept p said → Kept p (shore n vertices ∷ said)
@@ -267,6 +285,7 @@ keep_shore p n vertices said follows kept =
       sets_read = All-weaker (IsSetRead s) (IsSetRead t) (λ set read. set_stays s t set pools read) (sets_of said) kept.sets_read;
       read = All-weaker (IsNodeRead s) (IsNodeRead t) (λ x read. node_stays s t x pools (omega arith) read) (nodes_of said) kept.read;
       fits = kept.fits;
+      weights_read = weights_stay s t (weights_of said) pools kept.weights_read;
       state = keep_quiet p (shore n vertices) said tt follows kept;
     }
 
@@ -275,18 +294,32 @@ keep_weights : (p : Problem) (n : ℕ) (given : List Weight) (said : LatestFirst
 keep_weights p n given said follows fine kept =
     let s = said_support p said in
     let t = said_support p (weights n given ∷ said) in
+    let b : Bool = version_of said == 4 in
     let set : Prices = record { unit = unit_of said; services = services_of said; weights = given; groups = [] } in
-    let new : IsSetRead t set = record {
-      shores = All-weaker (IsWeightInRange (length (shores_of said))) (λ w. IsShoreNumber (shores_of said) w.shore)
-          (λ w in_range. record { from_one = in_range.shore.from_first; in_range = in_range.shore.to_last }) given fine;
-      no_groups = refl;
-    } in
+    let new : All (λ w. IsShoreNumber (shores_of said) w.shore) given =
+    All-weaker (IsWeightInRange (length (shores_of said))) (λ w. IsShoreNumber (shores_of said) w.shore)
+    (λ w in_range. record { from_one = in_range.shore.from_first; in_range = in_range.shore.to_last }) given fine in
+    record {
+      sets_read = sets_if (IsSetRead t) b (sets_of said) set (All-weaker (IsSetRead s) (IsSetRead t) (λ old read. set_stays s t old (omega arith) read) (sets_of said) kept.sets_read) new;
+      read = All-weaker (IsNodeRead s) (IsNodeRead t) (λ x read. node_stays s t x (omega arith) (no_fewer_if b (sets_of said) set) read) (nodes_of said) kept.read;
+      fits = kept.fits;
+      weights_read = new;
+      state = keep_quiet p (weights n given) said tt follows kept;
+    }
+
+keep_bonds : (p : Problem) (n : ℕ) (groups : List GroupWeight) (rest : Remainder) (said : LatestFirst) → follows (next_of said) (bonds n groups rest) ≡ true → Kept p said → Kept p (bonds n groups rest ∷ said)
+keep_bonds p n groups rest said follows kept =
+    let s = said_support p said in
+    let t = said_support p (bonds n groups rest ∷ said) in
+    let set : Prices = record { unit = unit_of said; services = services_of said; weights = weights_of said; groups = groups } in
     record {
       sets_read = All-append (IsSetRead t) (sets_of said) (set ∷ [])
-          (All-weaker (IsSetRead s) (IsSetRead t) (λ old read. set_stays s t old (omega arith) read) (sets_of said) kept.sets_read) (All-cons (IsSetRead t) set [] new (All-nil (IsSetRead t)));
+          (All-weaker (IsSetRead s) (IsSetRead t) (λ old read. set_stays s t old (omega arith) read) (sets_of said) kept.sets_read)
+          (All-cons (IsSetRead t) set [] kept.weights_read (All-nil (IsSetRead t)));
       read = All-weaker (IsNodeRead s) (IsNodeRead t) (λ x read. node_stays s t x (omega arith) (omega (arith, length-append (sets_of said) (set ∷ []))) read) (nodes_of said) kept.read;
       fits = kept.fits;
-      state = keep_quiet p (weights n given) said tt follows kept;
+      weights_read = kept.weights_read;
+      state = keep_quiet p (bonds n groups rest) said tt follows kept;
     }
 
 keep_nodes : (p : Problem) (n : ℕ) (said : LatestFirst) → follows (next_of said) (nodes n) ≡ true → 1 ≤ n → n ≤ 2097153 → Kept p said → Kept p (nodes n ∷ said)
@@ -296,6 +329,7 @@ keep_nodes p n said follows some few kept =
       sets_read = kept.sets_read;
       read = kept.read;
       fits = kept.fits;
+      weights_read = kept.weights_read;
       state = tree_begins n _ (nodes_of said) some few (omega (arith, head_count-append (items_of said) (items.Head ∷ []), early.none)) early.empty;
     }
 
@@ -308,7 +342,8 @@ keep_node p x said follows in_range agrees kept =
       read = All-append (IsNodeRead (said_support p said)) (nodes_of said) (x ∷ []) kept.read
           (All-cons (IsNodeRead (said_support p said)) x [] (node_read (said_support p said) _ _ x refl refl in_range) (All-nil (IsNodeRead (said_support p said))));
       fits = fits_more (nodes_of said) x 1 kept.fits (omega (arith, at.state.open_is, at.state.some_open));
-      state = subst (λ (k : ℕ). InState (after (next_of said) (node x)) k (stated_nodes said) (nodes_of said ++ x ∷ [])) same
+      weights_read = kept.weights_read;
+      state = subst (λ (k : ℕ). InState (after (version_of said) (next_of said) (node x)) k (stated_nodes said) (nodes_of said ++ x ∷ [])) same
           (after_node (next_of said) x (head_count (items_of said)) (stated_nodes said) (nodes_of said) at agrees.1);
     }
 
@@ -319,32 +354,34 @@ keep_end p said follows kept =
       sets_read = kept.sets_read;
       read = kept.read;
       fits = kept.fits;
+      weights_read = kept.weights_read;
       state = record { one = omega (arith, head_count-append (items_of said) (items.Whole ∷ []), done.one); some_stated = done.some_stated; few = done.few };
     }
 
 keep : (p : Problem) (line : Line) (said : LatestFirst) → follows (next_of said) line ≡ true → IsInRange said line → Agrees said line → Kept p said → Kept p (line ∷ said)
 keep p (shore n vertices) said follows in_range agrees kept = keep_shore p n vertices said follows kept
 keep p (weights n given) said follows in_range agrees kept = keep_weights p n given said follows in_range.1 kept
+keep p (bonds n groups rest) said follows in_range agrees kept = keep_bonds p n groups rest said follows kept
 keep p (nodes n) said follows in_range agrees kept = keep_nodes p n said follows in_range.from_first in_range.to_last kept
 keep p (node x) said follows in_range agrees kept = keep_node p x said follows in_range agrees kept
 keep p end said follows in_range agrees kept = keep_end p said follows kept
-keep p (version n) said follows in_range agrees kept = record { sets_read = kept.sets_read; read = kept.read; fits = kept.fits; state = keep_quiet p (version n) said tt follows kept }
-keep p (counts c) said follows in_range agrees kept = record { sets_read = kept.sets_read; read = kept.read; fits = kept.fits; state = keep_quiet p (counts c) said tt follows kept }
-keep p (cost n) said follows in_range agrees kept = record { sets_read = kept.sets_read; read = kept.read; fits = kept.fits; state = keep_quiet p (cost n) said tt follows kept }
-keep p (bound n) said follows in_range agrees kept = record { sets_read = kept.sets_read; read = kept.read; fits = kept.fits; state = keep_quiet p (bound n) said tt follows kept }
-keep p (tours n) said follows in_range agrees kept = record { sets_read = kept.sets_read; read = kept.read; fits = kept.fits; state = keep_quiet p (tours n) said tt follows kept }
-keep p (tour n steps) said follows in_range agrees kept = record { sets_read = kept.sets_read; read = kept.read; fits = kept.fits; state = keep_quiet p (tour n steps) said tt follows kept }
-keep p (shores n) said follows in_range agrees kept = record { sets_read = kept.sets_read; read = kept.read; fits = kept.fits; state = keep_quiet p (shores n) said tt follows kept }
-keep p (sets n) said follows in_range agrees kept = record { sets_read = kept.sets_read; read = kept.read; fits = kept.fits; state = keep_quiet p (sets n) said tt follows kept }
+keep p (version n) said follows in_range agrees kept = record { sets_read = kept.sets_read; read = kept.read; fits = kept.fits; weights_read = kept.weights_read; state = keep_quiet p (version n) said tt follows kept }
+keep p (counts c) said follows in_range agrees kept = record { sets_read = kept.sets_read; read = kept.read; fits = kept.fits; weights_read = kept.weights_read; state = keep_quiet p (counts c) said tt follows kept }
+keep p (cost n) said follows in_range agrees kept = record { sets_read = kept.sets_read; read = kept.read; fits = kept.fits; weights_read = kept.weights_read; state = keep_quiet p (cost n) said tt follows kept }
+keep p (bound n) said follows in_range agrees kept = record { sets_read = kept.sets_read; read = kept.read; fits = kept.fits; weights_read = kept.weights_read; state = keep_quiet p (bound n) said tt follows kept }
+keep p (tours n) said follows in_range agrees kept = record { sets_read = kept.sets_read; read = kept.read; fits = kept.fits; weights_read = kept.weights_read; state = keep_quiet p (tours n) said tt follows kept }
+keep p (tour n steps) said follows in_range agrees kept = record { sets_read = kept.sets_read; read = kept.read; fits = kept.fits; weights_read = kept.weights_read; state = keep_quiet p (tour n steps) said tt follows kept }
+keep p (shores n) said follows in_range agrees kept = record { sets_read = kept.sets_read; read = kept.read; fits = kept.fits; weights_read = kept.weights_read; state = keep_quiet p (shores n) said tt follows kept }
+keep p (sets n) said follows in_range agrees kept = record { sets_read = kept.sets_read; read = kept.read; fits = kept.fits; weights_read = kept.weights_read; state = keep_quiet p (sets n) said tt follows kept }
 keep p (prices unit n services) said follows in_range agrees kept =
-    record { sets_read = kept.sets_read; read = kept.read; fits = kept.fits; state = keep_quiet p (prices unit n services) said tt follows kept }
+    record { sets_read = kept.sets_read; read = kept.read; fits = kept.fits; weights_read = kept.weights_read; state = keep_quiet p (prices unit n services) said tt follows kept }
 
 keep_lines : (p : Problem) (lines : List Line) (said : LatestFirst) → AreGood said lines → Kept p said → Kept p (after_lines lines said)
 keep_lines p [] said good kept = kept
 keep_lines p (line ∷ lines) said good kept = keep_lines p lines (line ∷ said) good.3 (keep p line said good.0 good.1 good.2 kept)
 
 none_kept : (p : Problem) → Kept p []
-none_kept p = record { sets_read = All-nil (IsSetRead (said_support p [])); read = All-nil (IsNodeRead (said_support p [])); fits = tt; state = record { none = refl; empty = refl } }
+none_kept p = record { sets_read = All-nil (IsSetRead (said_support p [])); read = All-nil (IsNodeRead (said_support p [])); fits = tt; weights_read = All-nil (λ (w : Weight). IsShoreNumber [] w.shore); state = record { none = refl; empty = refl } }
 
 all_kept : (p : Problem) (said : LatestFirst) → GoesOn [] said → Kept p said
 all_kept p said on = subst (Kept p) (sym on.is) (keep_lines p on.lines [] on.good (none_kept p))
@@ -422,10 +459,10 @@ late_line stands.End line late follows = late_at_end line follows
 late_line stands.Nothing line late follows = absurd (early_at_nothing line follows)
 late_line _ line late follows = absurd late
 
-late_after : (next : Next) (line : Line) → IsLateLine line → IsLate (after next line)
-late_after next (node x) late = late_to_come (left_of next - 1) (open_after (open_of next) x)
-late_after next end late = tt
-late_after next _ late = absurd late
+late_after : (v : ℕ) (next : Next) (line : Line) → IsLateLine line → IsLate (after v next line)
+late_after v next (node x) late = late_to_come (left_of next - 1) (open_after (open_of next) x)
+late_after v next end late = tt
+late_after v next _ late = absurd late
 
 same_head : (line : Line) (said : LatestFirst) → IsLateLine line → with_nodes (certificate_of (line ∷ said)) [] ≡ with_nodes (certificate_of said) []
 same_head (node x) said late = refl
@@ -436,7 +473,7 @@ same_heads : (lines : List Line) (said : LatestFirst) → IsLate (next_of said) 
 same_heads [] said late good = refl
 same_heads (line ∷ lines) said late good =
     let here = late_line (next_of said) line late good.0 in
-    same_heads lines (line ∷ said) (late_after (next_of said) line here) good.3 ∙ same_head line said here
+    same_heads lines (line ∷ said) (late_after (version_of said) (next_of said) line here) good.3 ∙ same_head line said here
 
 pub steady_head : (p : Problem) (before said : LatestFirst) → GoesOn [] before → GoesOn before said → head_count (items_of before) ≡ 1 → with_nodes (certificate_of said) [] ≡ with_nodes (certificate_of before) []
 steady_head p before said from on one =

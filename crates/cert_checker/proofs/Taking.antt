@@ -12,7 +12,6 @@ use Rattle.cert_lines.specs.declared.fault.CertFault.{CertFault}
 use Rattle.cert_lines.specs.declared.item.Item.{Item}
 use Rattle.cert_lines.specs.declared.item.Item.TheVariants as items
 use Rattle.cert_lines.specs.declared.next.Next.TheVariants.{Nothing}
-use Rattle.cert_lines.specs.Laws.{ReadIsNotBad, ReadIsSpellable, ReadingIsUnique}
 use Rattle.cert_lines.specs.Order.{LatestFirst, next_of}
 use Rattle.cert_lines.specs.Certificates.{Certificate, certificate_of, nodes_of, counts_of, cost_of, bound_of, plan_of, shores_of, sets_of}
 use Rattle.cert_lines.specs.Texts.{BreaksAt, IsTextOf, ReadsAs, items_of, parts_of}
@@ -231,13 +230,13 @@ whole_heads p stream bytes said streamed reads whole =
 rejected_answer : (p : Problem) (c : Certificate) (reason : Reason) (answer : Answer) → answer ≡ answers.Rejected reason → IsFirstReason p c reason → IsAnswer p c answer
 rejected_answer p c reason answer is first = subst (IsAnswer p c) (sym is) first
 
-walked_answer : (p : Problem) (c : Certificate) (checker : Checker) (reason : Option Reason) (answer : Answer) → ReadIsSpellable → (bytes : List ℕ) → IsTextOf bytes c → checker.reason ≡ reason → Walks p c checker →
+walked_answer : (p : Problem) (c : Certificate) (checker : Checker) (reason : Option Reason) (answer : Answer) → TextLaws → (bytes : List ℕ) → IsTextOf bytes c → checker.reason ≡ reason → Walks p c checker →
     MatchOption reason (answer ≡ answers.Accepted) (λ r. answer ≡ answers.Rejected r) → IsAnswer p c answer
-walked_answer p c checker None answer spellable bytes text is walks told =
-    let s = spelled_is (support_of p c) c refl refl (spellable bytes c text) in
+walked_answer p c checker None answer laws bytes text is walks told =
+    let s = spelled_is laws.fine (support_of p c) c refl refl (laws.spellable bytes c text) in
     let says : TreeSays (support_of p c) c.bound c.nodes None = subst (TreeSays (support_of p c) c.bound c.nodes) is (tree_says (support_of p c) c.bound c.nodes checker.reason _ _ walks.walked) in
     subst (IsAnswer p c) (sym told) (good_from p c (walks.head c.nodes) s.whole says)
-walked_answer p c checker (Some reason) answer spellable bytes text is walks told =
+walked_answer p c checker (Some reason) answer laws bytes text is walks told =
     let says : TreeSays (support_of p c) c.bound c.nodes (Some reason) = subst (TreeSays (support_of p c) c.bound c.nodes) is (tree_says (support_of p c) c.bound c.nodes checker.reason _ _ walks.walked) in
     rejected_answer p c reason answer told (first_from p c reason (walks.head c.nodes) says)
 
@@ -245,4 +244,4 @@ pub stage_answer : (p : Problem) (stage : Stage) (said : LatestFirst) (bytes : L
     StageAnswers stage answer → IsAnswer p (certificate_of said) answer
 stage_answer p Before said bytes answer laws one says text told = absurd (omega (arith, one))
 stage_answer p (Rejected reason) said bytes answer laws one says text told = rejected_answer p (certificate_of said) reason answer told (says (nodes_of said))
-stage_answer p (Walking checker) said bytes answer laws one says text told = walked_answer p (certificate_of said) checker checker.reason answer laws.spellable bytes text refl says told
+stage_answer p (Walking checker) said bytes answer laws one says text told = walked_answer p (certificate_of said) checker checker.reason answer laws bytes text refl says told

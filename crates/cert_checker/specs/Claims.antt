@@ -9,7 +9,6 @@ use Rattle.branch_rules.specs.Trees.{Support}
 use Rattle.branch_rules.specs.declared.node.Node.{Node}
 use Rattle.branch_rules.specs.declared.node.Node.TheVariants as nodes
 use Rattle.cert_lines.specs.Certificates.{Certificate}
-use Rattle.cert_lines.specs.Spelling.{HasNoGroups}
 use Rattle.cert_format.specs.Good.{HasPriceEach}
 use Rattle.cert_checker.specs.declared.claim.Claim.{Claim}
 
@@ -34,12 +33,11 @@ pub record IsSetNumber (s : Support) (set : ℕ) : Type 0 where
   pub from_one : 1 ≤ set
   pub in_range : set ≤ length s.sets
 
--- a price set as a certificate that can be spelled has it: its weights are on shores of the pool, and it has no groups
-pub record IsSetRead (s : Support) (set : Prices) : Type 0 where
-  pub shores : All (λ w. IsShoreNumber s.pool w.shore) set.weights
-  pub no_groups : HasNoGroups set
+-- a price set as a certificate that can be spelled has it: its weights are on shores of the pool
+abbrev pub IsSetRead : Support → Prices → Type 0
+IsSetRead s set = All (λ w. IsShoreNumber s.pool w.shore) set.weights
 
--- each shore belongs to the instance, and each price set has its prices, its shores, no groups, and no negative price of a deadhead
+-- each shore belongs to the instance, and each price set has its prices, its shores, and no negative price of a deadhead
 pub record IsBacked (s : Support) : Type 0 where
   pub belong : All (Belongs s.problem) s.pool
   pub prices : All (HasPriceEach s.problem) s.sets

@@ -13,12 +13,12 @@ use Rattle.branch_rules.specs.Bonds.{bond_weight}
 use Rattle.branch_rules.specs.Prices.{Prices, PaysAtLeast, task_adds, crossing_prices, signed_sum, value_of}
 use Rattle.branch_rules.specs.Decisions.{rules_of, cuts_of, IsVoid, IsFixed}
 use Rattle.decision_chains.specs.Pairs.{IsPairWithin}
-use Rattle.branch_rules.specs.Refusals.{HasUpper, IsWithoutUpper}
+use Rattle.branch_rules.specs.Refusals.{HasUpper, HasYes, IsWithoutUpper, IsWithoutYes}
 use Rattle.branch_rules.specs.Waiting.{waiting_after}
 use Rattle.branch_rules.specs.Trees.{Support, set_at, IsLeanNode, PriceShows, FixedShows}
 use Rattle.cert_checker.specs.declared.reason.Part.TheVariants as parts
 use Rattle.cert_checker.specs.declared.reason.Reason.{Reason}
-use Rattle.cert_checker.specs.declared.reason.Reason.TheVariants.{Misfit, NotLean, NotVoid, NotFixed, MissingUpper, TourTooCheap, LeafLow}
+use Rattle.cert_checker.specs.declared.reason.Reason.TheVariants.{Misfit, NotLean, NotVoid, NotFixed, MissingUpper, MissingYes, TourTooCheap, LeafLow}
 
 -- with the prices of a set, a relaxed tour has this value: what its services add, its deadhead, and what its bonds weigh
 pub record HasValue (s : Support) (branch : List Decision) (set : Prices) (tasks : List Task) (value : ℤ) : Type 0 where
@@ -50,15 +50,26 @@ pub record IsFixedLow (s : Support) (bound : ℕ) (branch : List Decision) (valu
   pub is_limit : limit ≡ limit_of 1 bound
   pub low : cost < bound
 
+-- each shore of a negative weight has an upper number, and the set has a negative weight on a pair to which the branch does not say yes;
+-- this is the pair of the first such weight
+pub record IsPairMissing (branch : List Decision) (set : Prices) (a b : ℕ) : Type 0 where
+  pub has_upper : All (HasUpper branch) set.weights
+  pub lacks : IsWithoutYes branch set (record { a = a; b = b })
+
+-- each shore of a negative weight has an upper number, and the branch says yes to each pair of a negative weight
+pub record HasWhatItNeeds (branch : List Decision) (set : Prices) : Type 0 where
+  pub has_upper : All (HasUpper branch) set.weights
+  pub has_yes : All (HasYes branch) set.groups
+
 -- a relaxed tour of a price leaf costs less than it earns, and this is the least value
 pub record IsTourTooCheap (s : Support) (branch : List Decision) (set : Prices) (value : ℤ) : Type 0 where
-  pub has_upper : All (HasUpper branch) set.weights
+  pub needs : HasWhatItNeeds branch set
   pub least : IsLeastTour s branch set value
   pub negative : value <ℤ pos 0
 
 -- the set of a price leaf fits but for the bound: its value is not above the limit
 pub record IsPriceLow (s : Support) (bound : ℕ) (branch : List Decision) (set : Prices) (value limit : ℤ) : Type 0 where
-  pub has_upper : All (HasUpper branch) set.weights
+  pub needs : HasWhatItNeeds branch set
   pub pays : ToursPay s branch set
   pub is_value : value ≡ value_of (rules_of s.problem s.pool branch) set
   pub is_limit : limit ≡ limit_of set.unit bound
@@ -74,6 +85,7 @@ NodeFails s bound at branch nodes.Fixed (NotFixed n) = (n ≡ at) × ¬ (IsFixed
 NodeFails s bound at branch nodes.Fixed (LeafLow n value limit) = (n ≡ at) × IsFixedLow s bound branch value limit
 NodeFails s bound at branch (nodes.Price set) (MissingUpper number n border) =
     (n ≡ at) × (number ≡ set) × IsWithoutUpper branch (set_at s set) (record { shore = border })
+NodeFails s bound at branch (nodes.Price set) (MissingYes number n a b) = (n ≡ at) × (number ≡ set) × IsPairMissing branch (set_at s set) a b
 NodeFails s bound at branch (nodes.Price set) (TourTooCheap number n value) = (n ≡ at) × (number ≡ set) × IsTourTooCheap s branch (set_at s set) value
 NodeFails s bound at branch (nodes.Price set) (LeafLow n value limit) = (n ≡ at) × IsPriceLow s bound branch (set_at s set) value limit
 NodeFails s bound at branch node reason = ⊥

@@ -16,7 +16,7 @@ use Rattle.cert_checker.specs.declared.reason.Answer.{Answer}
 use Rattle.cert_checker.specs.declared.reason.Answer.TheVariants.{Accepted, Rejected}
 use Rattle.cert_checker.specs.declared.reason.Part.TheVariants as parts
 use Rattle.cert_checker.specs.declared.reason.Reason.{Reason}
-use Rattle.cert_checker.specs.declared.reason.Reason.TheVariants.{PlanUnlawful, CostDiffers, Misfit, WeightTooLarge, CountsDiffer, NotLean, NotVoid, NotFixed, MissingUpper, TourTooCheap, LeafLow}
+use Rattle.cert_checker.specs.declared.reason.Reason.TheVariants.{PlanUnlawful, CostDiffers, Misfit, WeightTooLarge, CountsDiffer, NotLean, NotVoid, NotFixed, MissingUpper, MissingYes, TourTooCheap, LeafLow}
 use Rattle.cert_checker.specs.Nodes.{FirstNodeFails}
 
 -- the five numbers of an instance, in their order
@@ -89,6 +89,7 @@ IsFirstReason p c (NotLean n) = NodesFail p c (NotLean n)
 IsFirstReason p c (NotVoid n) = NodesFail p c (NotVoid n)
 IsFirstReason p c (NotFixed n) = NodesFail p c (NotFixed n)
 IsFirstReason p c (MissingUpper set n border) = NodesFail p c (MissingUpper set n border)
+IsFirstReason p c (MissingYes set n a b) = NodesFail p c (MissingYes set n a b)
 IsFirstReason p c (TourTooCheap set n value) = NodesFail p c (TourTooCheap set n value)
 IsFirstReason p c (LeafLow n value limit) = NodesFail p c (LeafLow n value limit)
 

@@ -14,7 +14,7 @@ use Rattle.cert_lines.specs.declared.next.Next.{Next}
 use Rattle.cert_lines.specs.declared.next.Next.TheVariants as stands
 use Rattle.cert_lines.specs.Order.{LatestFirst, next_of, open_after}
 use Rattle.cert_lines.specs.Certificates.{Certificate, certificate_of, nodes_of, sets_of, shores_of}
-use Rattle.cert_lines.specs.Laws.{ReadIsNotBad, ReadIsSpellable, ReadingIsUnique}
+use Rattle.cert_lines.specs.Laws.{ReadIsNotBad, ReadIsSpellable, ReadingIsUnique, SpellableIsFine}
 use Rattle.cert_lines.specs.Texts.{IsFaultOf, IsTextOf, ReadsAs, items_of}
 use Rattle.cert_format.specs.declared.cert.CertHead.{CertHead}
 use Rattle.cert_format.specs.Certs.{IsHeadOf, stated_nodes}
@@ -108,7 +108,7 @@ Fits (node ∷ nodes) subtrees = (1 ≤ subtrees) × Fits nodes (open_after subt
 abbrev pub said_support : Problem → LatestFirst → Support
 said_support p said = support_of p (certificate_of said)
 
--- what good lines have: their weights are on their shores, no set has groups, and their nodes name their shores and their sets and fit into one tree
+-- what good lines have: their weights are on their shores, and their nodes name their shores and their sets and fit into one tree
 pub record AreSound (p : Problem) (said : LatestFirst) : Type 0 where
   pub sets_read : All (IsSetRead (said_support p said)) (sets_of said)
   pub read : All (IsNodeRead (said_support p said)) (nodes_of said)
@@ -179,11 +179,13 @@ pub record HasRead (p : Problem) (stream : Stream) (tells : Bool) (held : Option
   pub front : IsTrue tells → IfSome held (λ file. (bytes ≡ take (length bytes) file) × (length bytes ≤ length file))
   pub there : IsTrue tells → 0 < length bytes → IsSome held
 
--- what is said of all texts: their lines are read in one way, or one of them is bad, and a certificate that is read can be spelled
+-- what is said of all texts: their lines are read in one way, or one of them is bad, and a certificate that is read can be spelled, and has
+-- its numbers in range and the nodes of one tree
 pub record TextLaws : Type 0 where
   pub reading : ReadingIsUnique
   pub apart : ReadIsNotBad
   pub spellable : ReadIsSpellable
+  pub fine : SpellableIsFine
 
 -- What is answered of a name that holds this or nothing; the looks at it that failed and the bytes that were given were so many before, and
 -- are so many now. Each refusal has its cause, and where no look failed, the bytes decide, and memory.

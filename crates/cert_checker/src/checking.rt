@@ -13,6 +13,7 @@ use crate::{Answer, Reason};
 use branch_rules::Tree;
 use carp_base::{Instance, Memory};
 use cert_format::{Cert, good_is_proof};
+use cert_lines::spellable_is_fine;
 use std::alloc::Global;
 
 /// Whether a certificate that can be spelled is good, or the first reason why it is not.
@@ -48,6 +49,7 @@ fn answer(alloc: Global, claim: &Claim<'_>, tree: &Tree) -> Result<Answer, Memor
     ensures proof { IfOk result (Proves claim.now.inst.now (claimed claim.now tree.now.nodes)) }
 {
     good_is_proof();
+    spellable_is_fine();
     // What a read of the instance says of it is needed: that it is valid.
     let _ = claim.inst.vertices();
     if let Some(reason) = head_reason(alloc, claim)? {

@@ -1,22 +1,26 @@
 // What the leaves of a tree show.
-ghost use Rattle.std.specs.Prelude.{◌≡◌, ℕ, ◌≤◌, IfOk, IfSome, IsTrue, OnOk};
+ghost use Rattle.std.specs.Prelude.{◌≡◌, ℕ, ◌≤◌, IfErr, IfOk, IfSome, IsTrue, OnOk};
 ghost use Rattle.carp_base.specs.Allowed.{allows};
 ghost use Rattle.plan_model.specs.Plans.{IsLawful, plan_cost};
 ghost use Rattle.decision_chains.specs.Pairs.{ArePairsIn};
 ghost use Rattle.decision_chains.specs.FixedValue.{HasFixedValue};
 ghost use Rattle.route_pricing.specs.Pricing.{AreSurcharges};
 ghost use Rattle.branch_rules.specs.Bonds.{IsSurchargeTable};
-ghost use Rattle.branch_rules.specs.Decisions.{IsFixed};
+ghost use Rattle.branch_rules.specs.Decisions.{IsFixed, rules_of};
 ghost use Rattle.branch_rules.specs.Limits.{AreShoresIn};
+ghost use Rattle.branch_rules.specs.Prices.{value_of};
 ghost use Rattle.branch_rules.specs.Trees.{set_at};
 ghost use Rattle.branch_rules.specs.declared.node.Node.TheVariants as nodes;
 ghost use Rattle.cert_checker.specs.Claims.{IsBacked, IsSetNumber, support_in};
 ghost use Rattle.cert_checker.specs.Leaves.{AreByCost, AreLeaves, ArePricesOf, IsFilledFor, IsFilledLike, IsIfNegative, NodeSays, PermitSame, TourSays, ValueSays};
-ghost use Rattle.cert_checker.specs.Nodes.{limit_of};
+ghost use Rattle.cert_checker.specs.Nodes.{HasWhatItNeeds, NodeFails, limit_of};
+ghost use Rattle.cert_checker.specs.declared.reason.Reason.TheVariants.{MissingUpper, MissingYes};
 
 use crate::Reason;
 use crate::claim::Claim;
-use branch_rules::{Branch, PriceSet, surcharge_table, surcharges_are_bond_weights};
+use branch_rules::{
+    Branch, NoUpper, NoYes, PriceSet, surcharge_table, surcharges_are_bond_weights,
+};
 use carp_base::{Allowed, Fail, Instance, Memory};
 use deadhead_paths::{Distances, cost_prices, distances};
 use plan_model::{JudgeRoom, Plan, Verdict, judge, verdicts_are_exact};
@@ -81,16 +85,9 @@ impl Leaves {
         ensures leaves { OnOk result (AreLeaves (support_in claim.now) self.new) }
         ensures says { IfOk result (NodeSays (support_in claim.now) claim.now.bound node branch.now (nodes.Price set)) }
     {
-        let prices = claim.set(set);
-        let value = match branch.value_at(claim.inst, claim.shores, prices) {
+        let value = match leaf_value(claim, branch, set, node) {
             Ok(value) => value,
-            Err(lacks) => {
-                return Ok(Some(Reason::MissingUpper {
-                    set: u64::from(set),
-                    node,
-                    shore: lacks.shore,
-                }));
-            }
+            Err(reason) => return Ok(Some(reason)),
         };
         match self.cheap_tour(alloc, claim, branch, set)? {
             Some(value) => Ok(Some(Reason::TourTooCheap {
@@ -98,7 +95,7 @@ impl Leaves {
                 node,
                 value,
             })),
-            None => Ok(low_leaf(node, value, limit(prices.unit(), claim.bound))),
+            None => Ok(low_leaf(node, value, limit(claim.set(set).unit(), claim.bound))),
         }
     }
 
@@ -218,6 +215,48 @@ impl Leaves {
         let cost = lawful_cost(alloc, claim.inst, &plan)?;
         self.costs = Some(dist);
         Ok(cost)
+    }
+}
+
+// The value of the set of a leaf; as an error, what the branch has not and the set needs.
+fn leaf_value(claim: &Claim<'_>, branch: &Branch, set: u32, node: u64) -> Result<i128, Reason>
+    requires backed { IsBacked (support_in claim.now) }
+    requires set { IsSetNumber (support_in claim.now) set }
+    ensures value { IfOk result (λ value. value ≡ value_of (rules_of claim.now.inst.now claim.now.shores.now branch.now) (set_at (support_in claim.now) set)) }
+    ensures needs { OnOk result (HasWhatItNeeds branch.now (set_at (support_in claim.now) set)) }
+    ensures lacks { IfErr result (NodeFails (support_in claim.now) claim.now.bound node branch.now (nodes.Price set)) }
+{
+    let prices = claim.set(set);
+    let value = match branch.value_at(claim.inst, claim.shores, prices) {
+        Ok(value) => value,
+        Err(lacks) => return Err(missing_upper(set, node, &lacks)),
+    };
+    match branch.check_yes(prices) {
+        Ok(()) => Ok(value),
+        Err(lacks) => Err(missing_yes(set, node, &lacks)),
+    }
+}
+
+// That the set of a leaf needs an upper number that its branch has not.
+fn missing_upper(set: u32, node: u64, lacks: &NoUpper) -> Reason
+    ensures { result ≡ MissingUpper set node lacks.now.shore }
+{
+    Reason::MissingUpper {
+        set: u64::from(set),
+        node,
+        shore: lacks.shore,
+    }
+}
+
+// That the set of a leaf needs a yes that its branch does not say.
+fn missing_yes(set: u32, node: u64, lacks: &NoYes) -> Reason
+    ensures { result ≡ MissingYes set node lacks.now.a lacks.now.b }
+{
+    Reason::MissingYes {
+        set: u64::from(set),
+        node,
+        a: lacks.a,
+        b: lacks.b,
     }
 }
 

@@ -41,6 +41,9 @@ pub enum Reason {
     /// A number of the instance is not the one that is stated. The places: 1 vertices, 2 edges, 3 required edges, 4 capacity, 5 total
     /// demand.
     CountsDiffer { place: u64, stated: u64, found: u64 },
+    /// The set of a leaf has a negative weight on a pair of edges to which the branch of the leaf does not say yes; this is the pair of the
+    /// first such weight.
+    MissingYes { set: u64, node: u64, a: u32, b: u32 },
 }
 
 /// Whether a certificate is good.

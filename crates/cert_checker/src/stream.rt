@@ -19,7 +19,7 @@ use crate::{Answer, Reason};
 use branch_rules::Node;
 use carp_base::{Fail, Instance, Memory};
 use cert_format::{CertFault, CertHead, CertReader, Item};
-use cert_lines::{read_is_spelled, readings_are_unique};
+use cert_lines::{read_is_spelled, readings_are_unique, spellable_is_fine};
 use std::alloc::Global;
 
 /// How far a certificate is known.
@@ -218,4 +218,5 @@ fn stream_laws()
 {
     readings_are_unique();
     read_is_spelled();
+    spellable_is_fine();
 }

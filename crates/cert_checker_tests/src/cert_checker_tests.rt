@@ -78,7 +78,7 @@ end
 ";
 
 // A ring of three streets at the end of a long way, for vehicles of this capacity.
-fn ring(alloc: Global, capacity: u64) -> Result<Instance, Fail> {
+pub(crate) fn ring(alloc: Global, capacity: u64) -> Result<Instance, Fail> {
     let required = [street(2, 3, 1, 2), street(3, 4, 1, 2), street(4, 2, 1, 2)];
     Ok(Instance::build(alloc, 4, 1, capacity, &required, &[street(1, 2, 10, 0)])?)
 }
@@ -205,7 +205,7 @@ fn expect_in_file(
 }
 
 // With one line changed, the certificate gets this answer, whole and in pieces of any size.
-fn expect(
+pub(crate) fn expect(
     rt: &impl Abort,
     alloc: Global,
     inst: &Instance,
@@ -223,7 +223,7 @@ fn expect(
     expect_in_file(rt, alloc, inst, text.as_bytes(), 65_536, expected)
 }
 
-const AS_IT_IS: (usize, &str) = (0, "");
+pub(crate) const AS_IT_IS: (usize, &str) = (0, "");
 
 #[test]
 fn good_certificates_are_accepted(rt: HostRuntime) -> Result<(), Fail> {

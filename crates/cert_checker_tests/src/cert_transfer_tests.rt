@@ -35,6 +35,11 @@ const RING: &str =
 const SPLIT_RING: &str =
     "carp-certificate 1~cost 45~bound 45~tours 2~tour 5 >4 +1 +2 >3 <4~tour 4 >4 -3 >3 <4~shores 2~shore 3 2 3 4~shore 2 3 4~sets 1~prices 1 3 1 1 1~weights 2 1 10 2 1~nodes 3~pair 1 2~price 1~price 1~end~";
 
+// The ring with a weight on the group of all three streets, and no shores. Two vehicles are needed, so the room of the group is 1, and the value is
+// 22 + 22 + 22 - 21 * 1 = 45. A tour of two streets costs 23, and with its bond it pays for 22 + 22.
+const GROUP_RING: &str =
+    "carp-certificate 4~instance 4 4 3 5 6~cost 45~bound 45~tours 2~tour 5 >4 +1 +2 >3 <4~tour 4 >4 -3 >3 <4~shores 0~sets 1~prices 1 3 22 22 22~weights 0~bonds 1 21 3 1 2 3~nodes 1~price 1~end~";
+
 // The certificate of a text, in which `~` stands for a line feed, where it is good for the instance.
 fn good(alloc: Global, inst: &Instance, text: &str) -> Result<Option<Cert>, Fail>
     ensures { IfOk result (λ found. IfSome found (λ cert. IsSpellable (certificate_in cert) × IsGood inst.now (certificate_in cert))) }
@@ -90,5 +95,18 @@ fn a_heavier_street_cuts_its_tour(rt: HostRuntime) -> Result<(), Fail> {
     assert!(rt; carried(alloc, &inst, RING, "demand 1 2\n")?.as_str() == "67 45 3 2 1 1 4");
     assert!(rt; carried(alloc, &inst, SPLIT_RING, "demand 1 2\n")?.as_str() == "67 45 3 2 1 1 4");
     assert!(rt; carried(alloc, &inst, SPLIT_RING, "cost 2 0\n")?.as_str() == "45 45 2 2 1 3 4");
+    Ok(())
+}
+
+// With demands of 5, 4 and 2 three vehicles are needed, so the group has no room any more, and the same set has the value 66. The tours cost
+// 22 + 23 + 22. With demands of 4, 2 and 2 two vehicles are needed as before, and the first tour is cut all the same.
+#[test]
+fn groups_are_carried_over_and_lose_room(rt: HostRuntime) -> Result<(), Fail> {
+    let alloc = rt.alloc();
+    let inst = ring(alloc)?;
+    let heavy = "demand 1 3\ndemand 2 2\n";
+    assert!(rt; carried(alloc, &inst, GROUP_RING, heavy)?.as_str() == "67 66 3 0 1 1 4");
+    assert!(rt; carried(alloc, &inst, GROUP_RING, "demand 1 2\n")?.as_str() == "67 45 3 0 1 1 4");
+    assert!(rt; carried(alloc, &inst, GROUP_RING, "")?.as_str() == "45 45 2 0 1 1 4");
     Ok(())
 }

@@ -1,5 +1,5 @@
 -- What tells which line may follow, by the lines that are held.
-use Rattle.std.proofs.Common.{◌≡◌, ℕ, List, length, Bool, true, false, not, ap, sym, ◌∙◌}
+use Rattle.std.proofs.Common.{ℕ, List, length, ap}
 use Rattle.cert_lines.specs.Order.{LatestFirst}
 use Rattle.branch_rules.specs.Prices.{Prices}
 use Rattle.cert_format.specs.declared.draft.Draft.{Draft}

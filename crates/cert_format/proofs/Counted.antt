@@ -1,5 +1,5 @@
 -- The numbers of an instance in a certificate.
-use Rattle.std.proofs.Common.{◌≡◌, ℕ, suc, ◌≤◌, ◌<◌, length, take, refl, subst, arith, All, sum_by, Some}
+use Rattle.std.proofs.Common.{◌≡◌, suc, ◌≤◌, ◌<◌, length, refl, subst, arith, All}
 use Rattle.std.proofs.lemmas.List.{get_or-take, length-take}
 use Rattle.std.proofs.lemmas.List.Elements.{All-from_get_or}
 use Rattle.std.proofs.lemmas.List.Sums.{sum_by-le}
@@ -40,6 +40,7 @@ counted p c valid fine = record {
   different = fine.different;
   few_sets = fine.few_sets;
   sets_fine = fine.sets_fine;
+  counted = λ some. refl;
   few_nodes = fine.few_nodes;
   nodes_fine = fine.nodes_fine;
   tree = fine.tree;

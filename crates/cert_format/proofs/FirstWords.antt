@@ -1,5 +1,5 @@
 -- The kinds that may stand next, one after another.
-use Rattle.std.proofs.Common.{◌≡◌, ℕ, zero, suc, ◌+◌, ◌<◌, ◌≤◌, List, [], ◌∷◌, length, get_or, take, refl, inl, inr, subst, sym, add-one, arith}
+use Rattle.std.proofs.Common.{◌≡◌, ℕ, zero, suc, ◌+◌, ◌<◌, ◌≤◌, List, [], ◌∷◌, length, get_or, take, refl, inl, inr, subst, add-one, arith}
 use Rattle.std.proofs.lemmas.List.{take_all}
 use Rattle.cert_format.specs.declared.kind.Kind.{Kind}
 use Rattle.cert_format.specs.declared.kind.Kind.TheVariants.{Version}

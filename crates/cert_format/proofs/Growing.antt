@@ -1,17 +1,17 @@
 -- A line of which one word more has come.
-use Rattle.std.proofs.Common.{◌≡◌, ◌≢◌, ℕ, zero, suc, ◌+◌, ◌<◌, ◌≤◌, min, Bool, true, false, cond, ◌&&◌, nat_lt, ltb, List, [], ◌∷◌, ◌++◌, length, map, take, Option, Some, None, refl, sym, ap, subst, ◌∙◌, append_assoc, length-append, inl, inr, arith, if◌then◌else◌}
+use Rattle.std.proofs.Common.{◌≡◌, ◌≢◌, ℕ, ◌+◌, ◌<◌, ◌≤◌, min, Bool, true, false, ◌&&◌, nat_lt, List, [], ◌∷◌, ◌++◌, length, map, take, None, refl, sym, ap, subst, ◌∙◌, append_assoc, length-append, inl, inr, arith, if◌then◌else◌}
 use Rattle.std.specs.List.{list_all}
-use Rattle.std.proofs.lemmas.Bool.{and_parts, ltb-true, ltb-false, lt-ltb, le-ltb, cases_Bool, cases_lt}
+use Rattle.std.proofs.lemmas.Bool.{and_parts, lt-ltb, le-ltb, cases_lt}
 use Rattle.std.proofs.lemmas.List.{append-nil, length-map, take_all, take-append-le}
 use Rattle.std.proofs.lemmas.List.Folds.{list_all-append}
 use Rattle.cert_lines.specs.Numerals.{numeral}
-use Rattle.cert_lines.specs.Numbers.{IsNatural, IsNoNatural, limit}
+use Rattle.cert_lines.specs.Numbers.{IsNatural, IsNoNatural}
 use Rattle.cert_format.specs.declared.items.Items.{Items}
 use Rattle.cert_format.specs.declared.line.Context.{Context}
 use Rattle.cert_format.specs.declared.line.LineState.{LineState}
 use Rattle.cert_format.specs.declared.kind.Kind.{Kind}
 use Rattle.cert_format.specs.Kinds.{field_count, keyword, IsKindOf, IsOfNoKind}
-use Rattle.cert_format.specs.declared.kind.Kind.TheVariants.{Version, Counts, Cost, Bound, Tours, Tour, Shores, Shore, Sets, Prices, Weights, Nodes, Pair, Cut, Price, Void, Fixed, End}
+use Rattle.cert_format.specs.declared.kind.Kind.TheVariants.{Version, Counts, Cost, Bound, Tours, Tour, Shores, Shore, Sets, Prices, Weights, Bonds, Nodes, Pair, Cut, Price, Void, Fixed, End}
 use Rattle.cert_format.specs.Lists.{HoldsList, fields_ok}
 use Rattle.cert_format.specs.LineStates.{IsShaped, HoldsItems, HoldsLine, FormHolds, lesser}
 use Rattle.cert_format.specs.declared.line.Form.{Form}
@@ -180,6 +180,7 @@ first_items Shore context line none = absurd (omega (arith, none))
 first_items Sets context line none = tt
 first_items Prices context line none = absurd (omega (arith, none))
 first_items Weights context line none = absurd (omega (arith, none))
+first_items Bonds context line none = absurd (omega (arith, none))
 first_items Nodes context line none = tt
 first_items Pair context line none = tt
 first_items Cut context line none = tt
@@ -200,6 +201,7 @@ first_ok Shore context f none = absurd (omega (arith, none))
 first_ok Sets context f none = absurd (omega (arith, none))
 first_ok Prices context f none = absurd (omega (arith, none))
 first_ok Weights context f none = absurd (omega (arith, none))
+first_ok Bonds context f none = absurd (omega (arith, none))
 first_ok Nodes context f none = absurd (omega (arith, none))
 first_ok Pair context f none = absurd (omega (arith, none))
 first_ok Cut context f none = absurd (omega (arith, none))

@@ -1,18 +1,16 @@
 -- Words with which no line begins that may stand there.
-use Rattle.std.proofs.Common.{◌≡◌, ℕ, zero, suc, ◌+◌, ◌<◌, ◌≤◌, true, List, [], ◌∷◌, ◌++◌, length, map, Option, Some, None, refl, sym, ap, subst, ◌∙◌, append_assoc, arith}
+use Rattle.std.proofs.Common.{◌≡◌, ℕ, ◌<◌, List, [], ◌∷◌, ◌++◌, length, map, None, refl, sym, ap, ◌∙◌, append_assoc, arith}
 use Rattle.std.specs.List.{flat_map}
 use Rattle.std.proofs.lemmas.List.{append-nil}
-use Rattle.plan_model.specs.declared.step.Step.{Step}
 use Rattle.branch_rules.specs.declared.weight.Weight.{Weight}
 use Rattle.cert_lines.specs.declared.next.Next.{Next}
 use Rattle.cert_lines.specs.Numerals.{numeral, signed_numeral}
-use Rattle.cert_lines.specs.Lines.{Line, step_word, weight_words, words_of}
-use Rattle.cert_lines.specs.Order.{follows}
-use Rattle.cert_lines.specs.Numbers.{IsNoNatural, IsNoWhole, IsNoStep}
+use Rattle.cert_lines.specs.Lines.{Line, weight_words, words_of}
+use Rattle.cert_lines.specs.Numbers.{IsNoNatural, IsNoWhole}
 use Rattle.cert_format.specs.declared.kind.Kind.{Kind}
-use Rattle.cert_format.specs.declared.kind.Kind.TheVariants.{Version, Counts, Cost, Bound, Tours, Tour, Shores, Shore, Sets, Prices, Weights, Nodes, Pair, Cut, Price, Void, Fixed, End}
-use Rattle.cert_format.specs.Kinds.{expected, field_count, keyword, IsOneOf, IsNoneOf, IsOfNoKind}
-use Rattle.cert_format.specs.Parts.{LineItems, no_items, item_words, waiting_words, part_words, IsHopeless}
+use Rattle.cert_format.specs.declared.kind.Kind.TheVariants.{Version, Counts, Cost, Bound, Tours, Tour, Shores, Shore, Sets, Prices, Weights, Bonds, Nodes, Pair, Cut, Price, Void, Fixed, End}
+use Rattle.cert_format.specs.Kinds.{expected, field_count, keyword, IsOfNoKind}
+use Rattle.cert_format.specs.Parts.{LineItems, no_items, item_words, part_words, IsHopeless}
 use Rattle.cert_format.proofs.LineParts.{kind_in, numbers_in, items_in, none_waits, words_are, count_is, follows_kind, same_kind, none_of}
 
 pub still_hopeless : {next : Next} {words : List (List ℕ)} (text : List ℕ) → IsHopeless next words → IsHopeless next (words ++ text ∷ [])
@@ -75,6 +73,7 @@ no_items_words Shore = refl
 no_items_words Sets = refl
 no_items_words Prices = refl
 no_items_words Weights = refl
+no_items_words Bonds = refl
 no_items_words Nodes = refl
 no_items_words Pair = refl
 no_items_words Cut = refl

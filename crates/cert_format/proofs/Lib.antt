@@ -8,12 +8,16 @@ pub mod Told
 pub mod Splitting
 pub mod Lines
 pub mod Ranges
+pub mod GroupFails
+pub mod GroupSteps
 pub mod Pools
 pub mod Standing
 pub mod Ready
 pub mod Verdicts
 pub mod Contexts
 pub mod ShoreVerdicts
+pub mod SetsHeld
+pub mod SetVerdicts
 pub mod MoreBytes
 pub mod Standings
 pub mod NodesGiven

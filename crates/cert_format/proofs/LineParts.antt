@@ -1,5 +1,5 @@
 -- Each line has a kind, numbers and items, by which it is spelled.
-use Rattle.std.proofs.Common.{◌≡◌, ℕ, zero, suc, ◌+◌, ◌*◌, ◌<◌, ◌≤◌, eqb, Bool, true, false, List, [], ◌∷◌, ◌++◌, length, map, Option, Some, None, refl, sym, ap, ◌∙◌, inl, inr, ◌⊎◌, arith, if◌then◌else◌}
+use Rattle.std.proofs.Common.{◌≡◌, ℕ, ◌+◌, ◌*◌, eqb, true, false, List, [], ◌∷◌, length, None, refl, sym, ap, ◌∙◌, inl, inr, if◌then◌else◌}
 use Rattle.std.specs.List.{flat_map}
 use Rattle.std.proofs.lemmas.List.{append-nil}
 use Rattle.branch_rules.specs.declared.node.Node.TheVariants as nodes_are
@@ -10,9 +10,9 @@ use Rattle.cert_lines.specs.Lines.{Line, weight_words, words_of}
 use Rattle.cert_lines.specs.Lines as lines
 use Rattle.cert_lines.specs.Order.{follows}
 use Rattle.cert_format.specs.declared.kind.Kind.{Kind}
-use Rattle.cert_format.specs.declared.kind.Kind.TheVariants.{Version, Counts, Cost, Bound, Tours, Tour, Shores, Shore, Sets, Prices, Weights, Nodes, Pair, Cut, Price, Void, Fixed, End}
+use Rattle.cert_format.specs.declared.kind.Kind.TheVariants.{Version, Counts, Cost, Bound, Tours, Tour, Shores, Shore, Sets, Prices, Weights, Bonds, Nodes, Pair, Cut, Price, Void, Fixed, End}
 use Rattle.cert_format.specs.Kinds.{expected, field_count, keyword, IsOneOf, IsNoneOf}
-use Rattle.cert_format.specs.Parts.{LineItems, no_items, item_words, part_words, line_with}
+use Rattle.cert_format.specs.Parts.{LineItems, no_items, part_words}
 
 abbrev pub kind_in : Line → Kind
 kind_in (lines.version n) = Version
@@ -26,6 +26,7 @@ kind_in (lines.shore n vertices) = Shore
 kind_in (lines.sets n) = Sets
 kind_in (lines.prices unit n services) = Prices
 kind_in (lines.weights n items) = Weights
+kind_in (lines.bonds n groups rest) = Bonds
 kind_in (lines.nodes n) = Nodes
 kind_in (lines.node (nodes_are.Pair a b)) = Pair
 kind_in (lines.node (nodes_are.Cut border k)) = Cut
@@ -46,6 +47,7 @@ numbers_in (lines.shore n vertices) = n ∷ []
 numbers_in (lines.sets n) = n ∷ []
 numbers_in (lines.prices unit n services) = unit ∷ n ∷ []
 numbers_in (lines.weights n items) = n ∷ []
+numbers_in (lines.bonds n groups rest) = n ∷ []
 numbers_in (lines.nodes n) = n ∷ []
 numbers_in (lines.node (nodes_are.Pair a b)) = a ∷ b ∷ []
 numbers_in (lines.node (nodes_are.Cut border k)) = border ∷ k ∷ []
@@ -55,10 +57,11 @@ numbers_in (lines.node nodes_are.Fixed) = []
 numbers_in lines.end = []
 
 abbrev pub items_in : Line → LineItems
-items_in (lines.tour n steps) = record { steps = steps; vertices = []; services = []; weights = []; waiting = None }
-items_in (lines.shore n vertices) = record { steps = []; vertices = vertices; services = []; weights = []; waiting = None }
-items_in (lines.prices unit n services) = record { steps = []; vertices = []; services = services; weights = []; waiting = None }
-items_in (lines.weights n items) = record { steps = []; vertices = []; services = []; weights = items; waiting = None }
+items_in (lines.tour n steps) = record no_items { steps = steps }
+items_in (lines.shore n vertices) = record no_items { vertices = vertices }
+items_in (lines.prices unit n services) = record no_items { services = services }
+items_in (lines.weights n items) = record no_items { weights = items }
+items_in (lines.bonds n groups rest) = record no_items { groups = groups; rest = rest }
 items_in _ = no_items
 
 pub none_waits : (line : Line) → (items_in line).waiting ≡ None
@@ -73,6 +76,7 @@ none_waits (lines.shore n vertices) = refl
 none_waits (lines.sets n) = refl
 none_waits (lines.prices unit n services) = refl
 none_waits (lines.weights n items) = refl
+none_waits (lines.bonds n groups rest) = refl
 none_waits (lines.nodes n) = refl
 none_waits (lines.node (nodes_are.Pair a b)) = refl
 none_waits (lines.node (nodes_are.Cut border k)) = refl
@@ -93,6 +97,7 @@ words_are (lines.shore n vertices) = refl
 words_are (lines.sets n) = refl
 words_are (lines.prices unit n services) = refl
 words_are (lines.weights n items) = ap (λ (x : List (List ℕ)). keyword Weights ∷ numeral n ∷ x) (sym (append-nil (flat_map weight_words items)))
+words_are (lines.bonds n groups rest) = refl
 words_are (lines.nodes n) = refl
 words_are (lines.node (nodes_are.Pair a b)) = refl
 words_are (lines.node (nodes_are.Cut border k)) = refl
@@ -113,6 +118,7 @@ count_is (lines.shore n vertices) = refl
 count_is (lines.sets n) = refl
 count_is (lines.prices unit n services) = refl
 count_is (lines.weights n items) = refl
+count_is (lines.bonds n groups rest) = refl
 count_is (lines.nodes n) = refl
 count_is (lines.node (nodes_are.Pair a b)) = refl
 count_is (lines.node (nodes_are.Cut border k)) = refl
@@ -134,6 +140,7 @@ follows_kind (stands.Shore left) (lines.shore n vertices) is = inl refl
 follows_kind stands.Sets (lines.sets n) is = inl refl
 follows_kind (stands.Prices left) (lines.prices unit n services) is = inl refl
 follows_kind (stands.Weights left) (lines.weights n items) is = inl refl
+follows_kind (stands.Bonds left) (lines.bonds n groups rest) is = inl refl
 follows_kind stands.Nodes (lines.nodes n) is = inl refl
 follows_kind (stands.Node left subtrees) (lines.node (nodes_are.Pair a b)) is = inl refl
 follows_kind (stands.Node left subtrees) (lines.node (nodes_are.Cut border k)) is = inr (inl refl)
@@ -149,10 +156,11 @@ follows_kind _ _ is = absurd (let both : false ≡ true = is in cc)
 abbrev code_of : List ℕ → ℕ
 code_of [] = 0
 code_of (a ∷ []) = 0
-code_of (a ∷ b ∷ more) = length more * 1000000 + a * 1000 + b
+code_of (a ∷ b ∷ []) = 0
+code_of (a ∷ b ∷ c ∷ more) = length more * 1000000000 + a * 1000000 + b * 1000 + c
 
 abbrev kind_at : ℕ → Kind
-kind_at n = if eqb n 14099097 then Version else (if eqb n 6105110 then Counts else (if eqb n 2099111 then Cost else (if eqb n 3098111 then Bound else (if eqb n 3116111 then Tours else (if eqb n 2116111 then Tour else (if eqb n 4115104 then Shores else (if eqb n 3115104 then Shore else (if eqb n 2115101 then Sets else (if eqb n 4112114 then Prices else (if eqb n 5119101 then Weights else (if eqb n 3110111 then Nodes else (if eqb n 2112097 then Pair else (if eqb n 1099117 then Cut else (if eqb n 3112114 then Price else (if eqb n 2118111 then Void else (if eqb n 3102105 then Fixed else (End)))))))))))))))))
+kind_at n = if eqb n 13099097114 then Version else (if eqb n 5105110115 then Counts else (if eqb n 1099111115 then Cost else (if eqb n 2098111117 then Bound else (if eqb n 2116111117 then Tours else (if eqb n 1116111117 then Tour else (if eqb n 3115104111 then Shores else (if eqb n 2115104111 then Shore else (if eqb n 1115101116 then Sets else (if eqb n 3112114105 then Prices else (if eqb n 4119101105 then Weights else (if eqb n 2098111110 then Bonds else (if eqb n 2110111100 then Nodes else (if eqb n 1112097105 then Pair else (if eqb n 99117116 then Cut else (if eqb n 2112114105 then Price else (if eqb n 1118111105 then Void else (if eqb n 2102105120 then Fixed else (End))))))))))))))))))
 
 kind_again : (k : Kind) → kind_at (code_of (keyword k)) ≡ k
 kind_again Version = refl
@@ -166,6 +174,7 @@ kind_again Shore = refl
 kind_again Sets = refl
 kind_again Prices = refl
 kind_again Weights = refl
+kind_again Bonds = refl
 kind_again Nodes = refl
 kind_again Pair = refl
 kind_again Cut = refl

@@ -1,13 +1,12 @@
 -- Lines of bytes, and more bytes behind them.
-use Rattle.std.proofs.Common.{◌≡◌, ◌≢◌, ℕ, zero, suc, ◌+◌, ◌<◌, ◌≤◌, Bool, true, false, eqb, List, [], ◌∷◌, ◌++◌, length, refl, sym, ap, subst, ◌∙◌, append_assoc, inl, inr, ◌⊎◌, arith}
-use Rattle.std.specs.List.{All, slice_split}
+use Rattle.std.proofs.Common.{◌≡◌, ℕ, ◌+◌, false, eqb, List, [], ◌∷◌, ◌++◌, length, refl, sym, ap, subst, ◌∙◌, inl, inr, arith}
+use Rattle.std.specs.List.{All}
 use Rattle.std.proofs.lemmas.List.{append-nil}
-use Rattle.std.proofs.lemmas.List.Splits.{slice_split_none, slice_split-cons_yes}
+use Rattle.std.proofs.lemmas.List.Splits.{slice_split_none}
 use Rattle.cert_lines.specs.declared.fault.CertFault.{CertFault}
 use Rattle.cert_lines.specs.Lines.{Line}
 use Rattle.cert_lines.specs.Order.{LatestFirst}
 use Rattle.cert_lines.specs.Texts.{Says, IsBad, parts_of, AreRead, HasBadLine, ReadsAs, BreaksAt}
-use Rattle.cert_lines.specs.declared.fault.CertFault.TheVariants.{Syntax, Limit, Truncated}
 use Rattle.cert_format.proofs.Splitting.{join, IsSome, split_some, split_append, join_some, some_join}
 
 read_step : (before : LatestFirst) (p : List ℕ) (parts : List (List ℕ)) (said : LatestFirst) (rest : List ℕ) (line : Line) → IsSome parts → Says before p line → AreRead (line ∷ before) parts said rest → AreRead before (p ∷ parts) said rest

@@ -1,25 +1,23 @@
 -- Readers that take more bytes.
-use Rattle.std.proofs.Common.{◌≡◌, ◌≢◌, ℕ, zero, suc, ◌+◌, ◌<◌, ◌≤◌, Bool, true, false, not, eqb, ◌&&◌, List, [], ◌∷◌, ◌++◌, length, get_or, take, drop, refl, sym, ap, subst, ◌∙◌, append_assoc, inl, inr, ◌⊎◌, arith}
-use Rattle.std.specs.List.{All, list_all, slice_split, onto_first, flat_map}
+use Rattle.std.proofs.Common.{◌≡◌, ◌≢◌, ℕ, zero, suc, ◌+◌, ◌<◌, ◌≤◌, true, false, not, eqb, List, [], ◌∷◌, ◌++◌, length, get_or, take, drop, refl, sym, ap, subst, ◌∙◌, inl, inr, arith}
+use Rattle.std.specs.List.{All, list_all, onto_first}
 use Rattle.std.proofs.lemmas.Bool.{and_parts, not-true, cases_Bool, eqb-true}
 use Rattle.std.proofs.lemmas.List.{append-nil}
 use Rattle.std.proofs.lemmas.List.Splits.{slice_split-cons_yes, slice_split-cons_no}
 use Rattle.cert_lines.specs.Words.{HoldsWord}
 use Rattle.cert_lines.specs.Laws.{LineIsCut}
-use Rattle.cert_lines.specs.declared.fault.CertFault.{CertFault}
-use Rattle.cert_lines.specs.declared.fault.CertFault.TheVariants.{Syntax, Limit, Truncated}
+use Rattle.cert_lines.specs.declared.fault.CertFault.TheVariants.{Syntax, Limit}
 use Rattle.cert_lines.specs.declared.item.Item.{Item}
 use Rattle.cert_lines.specs.declared.item.Item.TheVariants.{Quiet, Head, Node, Whole}
-use Rattle.cert_lines.specs.declared.next.Next.TheVariants.{Nothing}
-use Rattle.cert_lines.specs.Lines.{Line, line_text, words_of, spaced, after_blank}
-use Rattle.cert_lines.specs.Order.{LatestFirst, next_of}
-use Rattle.cert_lines.specs.Texts.{Says, HasShape, IsBad, ReadsAs, BreaksAt, IsUnfinished, items_of}
+use Rattle.cert_lines.specs.Lines.{Line, spaced}
+use Rattle.cert_lines.specs.Order.{LatestFirst}
+use Rattle.cert_lines.specs.Texts.{Says, HasShape, ReadsAs, items_of}
 use Rattle.cert_format.specs.declared.draft.Draft.{Draft}
 use Rattle.cert_format.specs.declared.judging.Verdict.TheVariants as verdicts
 use Rattle.cert_format.specs.declared.line.LineState.{LineState}
 use Rattle.cert_format.specs.declared.cert_reader.CertReader.{CertReader}
 use Rattle.cert_format.specs.Drafts.{HoldsDraft}
-use Rattle.cert_format.specs.Judging.{context_of, IsLine, IsGood, IsOdd, IsPast, Judged, item_list, Steady}
+use Rattle.cert_format.specs.Judging.{context_of, IsLine, Judged, item_list, Steady}
 use Rattle.cert_format.specs.LineStates.{HoldsLine}
 use Rattle.cert_format.specs.Held.{words_in, is_plain, IsGoing, IsBroken, Advances, EndsFor, FillsUp}
 use Rattle.cert_format.specs.Readers.{Gives, GivesItem}

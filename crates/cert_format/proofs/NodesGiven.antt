@@ -1,5 +1,5 @@
 -- Nodes that are given, and the nodes of the lines.
-use Rattle.std.proofs.Common.{◌≡◌, ℕ, zero, suc, ◌+◌, ◌<◌, ◌≤◌, List, [], ◌∷◌, ◌++◌, length, refl, sym, ap, subst, ◌∙◌, arith, length-append}
+use Rattle.std.proofs.Common.{◌≡◌, ℕ, ◌≤◌, List, [], ◌∷◌, ◌++◌, length, refl, sym, ap, ◌∙◌, arith}
 use Rattle.std.proofs.lemmas.List.{append-nil}
 use Rattle.branch_rules.specs.declared.node.Node.{Node as NodeValue}
 use Rattle.cert_lines.specs.declared.item.Item.{Item}
@@ -10,7 +10,6 @@ use Rattle.cert_lines.specs.Lines as lines
 use Rattle.cert_lines.specs.Order.{LatestFirst}
 use Rattle.cert_lines.specs.Certificates.{nodes_of}
 use Rattle.cert_lines.specs.Texts.{items_of}
-use Rattle.cert_format.specs.Certs.{stated_nodes}
 use Rattle.cert_format.specs.Drafts.{CountsNodes}
 use Rattle.cert_format.specs.Judging.{item_list}
 
@@ -43,6 +42,7 @@ nodes_are (lines.shore n vertices ∷ said) = nodes_are said
 nodes_are (lines.sets n ∷ said) = nodes_are said
 nodes_are (lines.prices unit n services ∷ said) = nodes_are said
 nodes_are (lines.weights n items ∷ said) = nodes_are said
+nodes_are (lines.bonds n groups rest ∷ said) = nodes_are said
 nodes_are (lines.nodes n ∷ said) = nodes_in-append (items_of said) (Head ∷ []) ∙ append-nil (nodes_in (items_of said)) ∙ nodes_are said
 nodes_are (lines.node x ∷ said) = nodes_in-append (items_of said) (Node x ∷ []) ∙ ap (λ (r : List NodeValue). r ++ x ∷ []) (nodes_are said)
 nodes_are (lines.end ∷ said) = nodes_in-append (items_of said) (Whole ∷ []) ∙ append-nil (nodes_in (items_of said)) ∙ nodes_are said
@@ -71,6 +71,7 @@ nodes_within (stands.Shore left) nodes stated counts some = absurd (omega (arith
 nodes_within stands.Sets nodes stated counts some = absurd (omega (arith, counts, some))
 nodes_within (stands.Prices left) nodes stated counts some = absurd (omega (arith, counts, some))
 nodes_within (stands.Weights left) nodes stated counts some = absurd (omega (arith, counts, some))
+nodes_within (stands.Bonds left) nodes stated counts some = absurd (omega (arith, counts, some))
 nodes_within stands.Nodes nodes stated counts some = absurd (omega (arith, counts, some))
 nodes_within (stands.Node left subtrees) nodes stated counts some = omega (arith, counts)
 nodes_within stands.End nodes stated counts some = omega (arith, counts)

@@ -1,5 +1,5 @@
 -- The tests of numbers, and the ranges of lines.
-use Rattle.std.proofs.Common.{◌≡◌, ℕ, zero, suc, ◌+◌, ◌-◌, ◌^◌, ◌<◌, ◌≤◌, min, Bool, true, false, not, eqb, ◌&&◌, nat_le, nat_lt, ℤ, pos, neg_ℤ, ◌≤ℤ◌, int_le, List, [], ◌∷◌, length, map, get_or, refl, sym, ap, subst, ◌∙◌, arith}
+use Rattle.std.proofs.Common.{◌≡◌, ℕ, zero, suc, ◌-◌, ◌<◌, ◌≤◌, Bool, true, false, not, eqb, ◌&&◌, nat_le, nat_lt, ℤ, pos, neg_ℤ, ◌≤ℤ◌, int_le, List, [], ◌∷◌, length, map, get_or, refl, sym, ap, subst, arith}
 use Rattle.std.specs.List.{All, list_all}
 use Rattle.std.proofs.lemmas.Bool.{eqb-false, not-true, ne_eqb, and_parts, and_from, leb-true, le-leb, ltb-true, lt-ltb}
 use Rattle.std.specs.Ordering.{int_eq}
@@ -10,10 +10,13 @@ use Rattle.branch_rules.specs.declared.weight.Weight.{Weight}
 use Rattle.cert_lines.specs.Numbers.{limit}
 use Rattle.cert_lines.specs.Order.{LatestFirst}
 use Rattle.cert_lines.specs.Certificates.{steps_of, shores_of, sets_of}
-use Rattle.cert_lines.specs.Ranges.{IsWithin, IsInRange, IsWeightInRange}
+use Rattle.branch_rules.specs.Bonds.{GroupWeight}
+use Rattle.cert_lines.specs.Lines.{Remainder, nothing, weight_alone, short_of, stated_size}
+use Rattle.cert_lines.specs.Ranges.{IsWithin, IsInRange, IsWeightInRange, IsGroupInRange, IsRemainderInRange, AreGroupsInRange}
+use Rattle.cert_format.specs.Groups.{edge_ok, group_ok, rest_ok, groups_ok, sizes}
 use Rattle.cert_format.specs.declared.line.Context.{Context}
 use Rattle.cert_format.specs.declared.kind.Kind.{Kind}
-use Rattle.cert_format.specs.declared.kind.Kind.TheVariants.{Version, Counts, Cost, Bound, Tours, Tour, Shores, Shore, Sets, Prices, Weights, Nodes, Pair, Cut, Price, Void, Fixed, End}
+use Rattle.cert_format.specs.declared.kind.Kind.TheVariants.{Version, Counts, Cost, Bound, Tours, Tour, Shores, Shore, Sets, Prices, Weights, Bonds, Nodes, Pair, Cut, Price, Void, Fixed, End}
 use Rattle.cert_format.specs.Kinds.{field_count}
 use Rattle.cert_format.specs.Lists.{is_within, step_ok, vertex_ok, price_ok, weight_ok, weight_fine, fields_ok, items_ok}
 use Rattle.cert_format.specs.LineStates.{lesser}
@@ -64,12 +67,12 @@ within_holds first last n room holds =
 within_needs : (first last n : ℕ) → first ≤ limit → IsWithin first last n → is_within first last (lesser n) ≡ true
 within_needs first last n room is = and_from (nat_le first (lesser n)) (nat_le (lesser n) last) (le-leb first (lesser n) (omega (arith, is.from_first, room))) (most_needs last n is.to_last)
 
-plain_holds : (first last n : ℕ) → is_within first last n ≡ true → IsWithin first last n
+pub plain_holds : (first last n : ℕ) → is_within first last n ≡ true → IsWithin first last n
 plain_holds first last n holds =
     let parts = and_parts (nat_le first n) (nat_le n last) holds in
     record { from_first = leb-true first n parts.0; to_last = leb-true n last parts.1 }
 
-plain_needs : (first last n : ℕ) → IsWithin first last n → is_within first last n ≡ true
+pub plain_needs : (first last n : ℕ) → IsWithin first last n → is_within first last n ≡ true
 plain_needs first last n is = and_from (nat_le first n) (nat_le n last) (le-leb first n is.from_first) (le-leb n last is.to_last)
 
 pub price_holds : (z : ℤ) → price_ok z ≡ true → IsPriceNumber z
@@ -121,6 +124,46 @@ step_holds s holds = plain_holds 1 4000 s.edge holds
 step_needs : (s : Step) → IsWithin 1 4000 s.edge → step_ok s ≡ true
 step_needs s is = plain_needs 1 4000 s.edge is
 
+group_holds : (w : GroupWeight) → group_ok w ≡ true → IsGroupInRange w
+group_holds w holds =
+    let a = and_parts (price_ok w.weight && is_within 2 600 (length w.edges)) (list_all edge_ok w.edges) holds in
+    let b = and_parts (price_ok w.weight) (is_within 2 600 (length w.edges)) a.0 in
+    record { weight = price_holds w.weight b.0; size = plain_holds 2 600 (length w.edges) b.1; edges = all_hold edge_ok (IsWithin 1 600) (plain_holds 1 600) w.edges a.1 }
+
+group_needs : (w : GroupWeight) → IsGroupInRange w → group_ok w ≡ true
+group_needs w is =
+    and_from (price_ok w.weight && is_within 2 600 (length w.edges)) (list_all edge_ok w.edges)
+    (and_from (price_ok w.weight) (is_within 2 600 (length w.edges)) (price_needs w.weight is.weight) (plain_needs 2 600 (length w.edges) is.size))
+    (all_need edge_ok (IsWithin 1 600) (plain_needs 1 600) w.edges is.edges)
+
+rest_holds : (rest : Remainder) → rest_ok rest ≡ true → IsRemainderInRange rest
+rest_holds nothing holds = tt
+rest_holds (weight_alone z) holds = price_holds z holds
+rest_holds (short_of missing z edges) holds =
+    let a = and_parts (price_ok z && is_within 2 600 (stated_size missing edges)) (list_all edge_ok edges) holds in
+    let b = and_parts (price_ok z) (is_within 2 600 (stated_size missing edges)) a.0 in
+    (price_holds z b.0, plain_holds 2 600 (stated_size missing edges) b.1, all_hold edge_ok (IsWithin 1 600) (plain_holds 1 600) edges a.1)
+
+rest_needs : (rest : Remainder) → IsRemainderInRange rest → rest_ok rest ≡ true
+rest_needs nothing is = refl
+rest_needs (weight_alone z) is = price_needs z is
+rest_needs (short_of missing z edges) is =
+    and_from (price_ok z && is_within 2 600 (stated_size missing edges)) (list_all edge_ok edges)
+    (and_from (price_ok z) (is_within 2 600 (stated_size missing edges)) (price_needs z is.0) (plain_needs 2 600 (stated_size missing edges) is.1))
+    (all_need edge_ok (IsWithin 1 600) (plain_needs 1 600) edges is.2)
+
+pub groups_hold : (n : ℕ) (groups : List GroupWeight) (rest : Remainder) → n ≤ 2000 → groups_ok groups rest ≡ true → AreGroupsInRange n groups rest
+groups_hold n groups rest few holds =
+    let a = and_parts (list_all group_ok groups && rest_ok rest) (nat_le (sizes groups rest) 60000) holds in
+    let b = and_parts (list_all group_ok groups) (rest_ok rest) a.0 in
+    record { few = few; each = all_hold group_ok IsGroupInRange group_holds groups b.0; behind = rest_holds rest b.1; few_edges = leb-true (sizes groups rest) 60000 a.1 }
+
+pub groups_need : (n : ℕ) (groups : List GroupWeight) (rest : Remainder) → AreGroupsInRange n groups rest → groups_ok groups rest ≡ true
+groups_need n groups rest is =
+    and_from (list_all group_ok groups && rest_ok rest) (nat_le (sizes groups rest) 60000)
+    (and_from (list_all group_ok groups) (rest_ok rest) (all_need group_ok IsGroupInRange group_needs groups is.each) (rest_needs rest is.behind))
+    (le-leb (sizes groups rest) 60000 is.few_edges)
+
 -- what passes the tests is in range
 pub ranges_hold : (kind : Kind) (said : LatestFirst) (c : Context) (numbers : List ℕ) (x : LineItems) → IsContext c said → length numbers ≡ field_count kind → fields_ok kind c (map lesser numbers) ≡ true → items_ok kind c x ≡ true → IsInRange said (line_with kind numbers x)
 ranges_hold Version said c [] x is count ok fits = absurd (omega (arith, count))
@@ -154,6 +197,8 @@ ranges_hold Prices said c (n ∷ []) x is count ok fits = absurd (omega (arith, 
 ranges_hold Prices said c (n ∷ m ∷ ns) x is count ok fits = (let a = and_parts (is_within 1 1000000 (lesser n)) (nat_le (lesser m) 600) ok in (within_holds 1 1000000 n (omega arith) a.0, most_holds 600 m (omega arith) a.1, all_hold price_ok IsPriceNumber price_holds x.services fits))
 ranges_hold Weights said c [] x is count ok fits = absurd (omega (arith, count))
 ranges_hold Weights said c (n ∷ ns) x is count ok fits = ((let most = most_holds c.shores n (omega (arith, is.few_shores)) ok in omega (arith, most, is.shores)), subst (λ (k : ℕ). All (IsWeightInRange k) x.weights) is.shores (all_hold (weight_ok c.shores) (IsWeightInRange c.shores) (weight_holds c.shores) x.weights fits))
+ranges_hold Bonds said c [] x is count ok fits = absurd (omega (arith, count))
+ranges_hold Bonds said c (n ∷ ns) x is count ok fits = groups_hold n x.groups x.rest (most_holds 2000 n (omega arith) ok) fits
 ranges_hold Nodes said c [] x is count ok fits = absurd (omega (arith, count))
 ranges_hold Nodes said c (n ∷ ns) x is count ok fits = within_holds 1 2097153 n (omega arith) ok
 ranges_hold Pair said c [] x is count ok fits = absurd (omega (arith, count))
@@ -197,6 +242,8 @@ ranges_need Prices said c (n ∷ []) x is count h = absurd (omega (arith, count)
 ranges_need Prices said c (n ∷ m ∷ ns) x is count h = (and_from _ _ (within_needs 1 1000000 n (omega arith) h.0) (most_needs 600 m h.1), all_need price_ok IsPriceNumber price_needs x.services h.2)
 ranges_need Weights said c [] x is count h = absurd (omega (arith, count))
 ranges_need Weights said c (n ∷ ns) x is count h = (most_needs c.shores n (omega (arith, h.0, is.shores)), all_need (weight_ok c.shores) (IsWeightInRange c.shores) (weight_needs c.shores) x.weights (subst (λ (k : ℕ). All (IsWeightInRange k) x.weights) (sym is.shores) h.1))
+ranges_need Bonds said c [] x is count h = absurd (omega (arith, count))
+ranges_need Bonds said c (n ∷ ns) x is count h = (most_needs 2000 n h.few, groups_need n x.groups x.rest h)
 ranges_need Nodes said c [] x is count h = absurd (omega (arith, count))
 ranges_need Nodes said c (n ∷ ns) x is count h = (within_needs 1 2097153 n (omega arith) h, refl)
 ranges_need Pair said c [] x is count h = absurd (omega (arith, count))

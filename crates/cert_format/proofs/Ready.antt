@@ -1,26 +1,29 @@
 -- Lines of which all words have come.
-use Rattle.std.proofs.Common.{◌≡◌, ◌≢◌, ℕ, zero, suc, ◌+◌, ◌-◌, ◌^◌, ◌<◌, ◌≤◌, min, Bool, true, false, not, eqb, ◌&&◌, ◌||◌, nat_lt, List, [], ◌∷◌, ◌++◌, length, map, take, slice_index, Option, Some, None, refl, sym, ap, subst, ◌∙◌, inl, inr, arith, is_none, ◌⊎◌}
+use Rattle.std.proofs.Common.{◌≡◌, ℕ, ◌≤◌, Bool, true, false, not, eqb, ◌&&◌, ◌||◌, List, [], ◌∷◌, ◌++◌, length, map, slice_index, Option, Some, None, refl, sym, ap, subst, ◌∙◌, inl, inr, arith, is_none}
 use Rattle.std.specs.List.{flat_map, list_all}
 use Rattle.std.specs.Option.{option_map}
 use Rattle.std.proofs.lemmas.Bool.{and_parts, and_from, or_cases, eqb-true, eq-eqb, ltb-false, le-ltb, not-true, cases_Bool}
 use Rattle.std.proofs.lemmas.List.{append-nil, take_all, length-map}
-use Rattle.cert_lines.specs.Numbers.{limit}
 use Rattle.cert_lines.specs.declared.next.Next.{Next}
-use Rattle.cert_lines.specs.Lines.{Line, words_of, weight_words}
+use Rattle.branch_rules.specs.Bonds.{GroupWeight}
+use Rattle.cert_lines.specs.Lines.{Remainder, nothing, weight_alone, short_of, words_of, weight_words}
 use Rattle.cert_lines.specs.Numerals.{numeral}
 use Rattle.cert_lines.specs.Order.{LatestFirst, next_of, follows}
 use Rattle.cert_lines.specs.Ranges.{IsInRange}
-use Rattle.cert_lines.specs.Agreement.{Agrees}
+use Rattle.cert_lines.specs.Agreement.{Agrees, AreGroups}
 use Rattle.cert_format.specs.declared.items.Items.{Items}
 use Rattle.cert_format.specs.declared.line.Context.{Context}
 use Rattle.cert_format.specs.declared.line.LineState.{LineState}
 use Rattle.cert_format.specs.declared.kind.Kind.{Kind}
-use Rattle.cert_format.specs.declared.kind.Kind.TheVariants.{Version, Counts, Cost, Bound, Tours, Tour, Shores, Shore, Sets, Prices, Weights, Nodes, Pair, Cut, Price, Void, Fixed, End}
+use Rattle.cert_format.specs.declared.kind.Kind.TheVariants.{Version, Counts, Cost, Bound, Tours, Tour, Shores, Shore, Sets, Prices, Weights, Bonds, Nodes, Pair, Cut, Price, Void, Fixed, End}
 use Rattle.cert_format.specs.Kinds.{expected, field_count, keyword, IsOneOf, next_for}
 use Rattle.cert_format.specs.Lists.{HoldsList, fields_ok, items_ok}
 use Rattle.cert_format.specs.LineStates.{IsShaped, HoldsItems, lesser}
 use Rattle.cert_format.specs.Parts.{LineItems, part_words, waiting_words, line_with}
-use Rattle.cert_format.specs.Judging.{ends_well, list_in_range, has_stated, are_stated, IsLine}
+use Rattle.cert_format.specs.Groups.{Awaits, KnowsGroups, groups_ok}
+use Rattle.cert_format.specs.declared.groups.Awaited.{Awaited}
+use Rattle.cert_format.specs.declared.groups.Awaited.TheVariants as awaited
+use Rattle.cert_format.specs.Judging.{ends_well, list_in_range, has_stated, awaits_weight, are_stated, IsLine}
 use Rattle.cert_format.specs.Readiness.{AreKept, IsReady}
 use Rattle.cert_format.proofs.Ranges.{IsContext, ranges_hold, ranges_need}
 use Rattle.cert_format.proofs.Standing.{next_is}
@@ -33,7 +36,7 @@ numbers_two a b n m p q = cc
 numbers_five : (a b c d e n m p q r : ℕ) → a ≡ n → b ≡ m → c ≡ p → d ≡ q → e ≡ r → a ∷ b ∷ c ∷ d ∷ e ∷ [] ≡ n ∷ m ∷ p ∷ q ∷ r ∷ []
 numbers_five a b c d e n m p q r f g h i j = cc
 
-exact : (kind : Kind) (said : LatestFirst) (c : Context) (x : LineItems) (numbers : List ℕ) → IsContext c said → length numbers ≡ field_count kind → IsInRange said (line_with kind numbers x) → (kind ≡ Version → slice_index numbers 0 ≤ 2) → map lesser numbers ≡ numbers
+exact : (kind : Kind) (said : LatestFirst) (c : Context) (x : LineItems) (numbers : List ℕ) → IsContext c said → length numbers ≡ field_count kind → IsInRange said (line_with kind numbers x) → (kind ≡ Version → slice_index numbers 0 ≤ 4) → map lesser numbers ≡ numbers
 exact Version said c x [] is count h version = absurd (omega (arith, count))
 exact Version said c x (n ∷ []) is count h version = ap (λ (k : ℕ). k ∷ []) (let e : lesser n ≡ n = omega (arith, version refl) in e)
 exact Version said c x (n ∷ z ∷ zs) is count h version = absurd (omega (arith, count))
@@ -72,6 +75,9 @@ exact Prices said c x (n ∷ m ∷ z ∷ zs) is count h version = absurd (omega 
 exact Weights said c x [] is count h version = absurd (omega (arith, count))
 exact Weights said c x (n ∷ []) is count h version = ap (λ (k : ℕ). k ∷ []) (let e : lesser n ≡ n = omega (arith, h.0, is.shores, is.few_shores) in e)
 exact Weights said c x (n ∷ z ∷ zs) is count h version = absurd (omega (arith, count))
+exact Bonds said c x [] is count h version = absurd (omega (arith, count))
+exact Bonds said c x (n ∷ []) is count h version = ap (λ (k : ℕ). k ∷ []) (let e : lesser n ≡ n = omega (arith, h.few) in e)
+exact Bonds said c x (n ∷ z ∷ zs) is count h version = absurd (omega (arith, count))
 exact Nodes said c x [] is count h version = absurd (omega (arith, count))
 exact Nodes said c x (n ∷ []) is count h version = ap (λ (k : ℕ). k ∷ []) (let e : lesser n ≡ n = omega (arith, h.to_last) in e)
 exact Nodes said c x (n ∷ z ∷ zs) is count h version = absurd (omega (arith, count))
@@ -95,7 +101,7 @@ exact End said c x (z ∷ zs) is count h version = absurd (omega (arith, count))
 
 -- A line of its parts.
 
-may_follow : (kind : Kind) (next : Next) (numbers : List ℕ) (x : LineItems) → (kind ≡ Version → (eqb (slice_index numbers 0) 1 || eqb (slice_index numbers 0) 2) ≡ true) → follows (next_for kind next) (line_with kind numbers x) ≡ true
+may_follow : (kind : Kind) (next : Next) (numbers : List ℕ) (x : LineItems) → (kind ≡ Version → (eqb (slice_index numbers 0) 1 || eqb (slice_index numbers 0) 2 || eqb (slice_index numbers 0) 4) ≡ true) → follows (next_for kind next) (line_with kind numbers x) ≡ true
 may_follow Version next numbers x version = version refl
 may_follow Counts next numbers x version = refl
 may_follow Cost next numbers x version = refl
@@ -107,6 +113,7 @@ may_follow Shore next numbers x version = refl
 may_follow Sets next numbers x version = refl
 may_follow Prices next numbers x version = refl
 may_follow Weights next numbers x version = refl
+may_follow Bonds next numbers x version = refl
 may_follow Nodes next numbers x version = refl
 may_follow Pair next numbers x version = refl
 may_follow Cut next numbers x version = refl
@@ -115,7 +122,7 @@ may_follow Void next numbers x version = refl
 may_follow Fixed next numbers x version = refl
 may_follow End next numbers x version = refl
 
-pub follows_with : (kind : Kind) (next : Next) (numbers : List ℕ) (x : LineItems) → IsOneOf (expected next) kind → (kind ≡ Version → (eqb (slice_index numbers 0) 1 || eqb (slice_index numbers 0) 2) ≡ true) → follows next (line_with kind numbers x) ≡ true
+pub follows_with : (kind : Kind) (next : Next) (numbers : List ℕ) (x : LineItems) → IsOneOf (expected next) kind → (kind ≡ Version → (eqb (slice_index numbers 0) 1 || eqb (slice_index numbers 0) 2 || eqb (slice_index numbers 0) 4) ≡ true) → follows next (line_with kind numbers x) ≡ true
 follows_with kind next numbers x one version = subst (λ (k : Next). follows k (line_with kind numbers x) ≡ true) (sym (next_is next kind one)) (may_follow kind next numbers x version)
 
 pub words_with : (kind : Kind) (x : LineItems) (numbers : List ℕ) → length numbers ≡ field_count kind → (kind ≡ Weights → x.waiting ≡ None) → words_of (line_with kind numbers x) ≡ part_words kind numbers x
@@ -157,6 +164,9 @@ words_with Prices x (n ∷ m ∷ z ∷ zs) count waits = absurd (omega (arith, c
 words_with Weights x [] count waits = absurd (omega (arith, count))
 words_with Weights x (n ∷ []) count waits = ap (λ (w : List (List ℕ)). keyword Weights ∷ numeral n ∷ w) (sym (append-nil (flat_map weight_words x.weights)) ∙ ap (λ (w : Option ℕ). flat_map weight_words x.weights ++ waiting_words w) (sym (waits refl)))
 words_with Weights x (n ∷ z ∷ zs) count waits = absurd (omega (arith, count))
+words_with Bonds x [] count waits = absurd (omega (arith, count))
+words_with Bonds x (n ∷ []) count waits = refl
+words_with Bonds x (n ∷ z ∷ zs) count waits = absurd (omega (arith, count))
 words_with Nodes x [] count waits = absurd (omega (arith, count))
 words_with Nodes x (n ∷ []) count waits = refl
 words_with Nodes x (n ∷ z ∷ zs) count waits = absurd (omega (arith, count))
@@ -212,6 +222,7 @@ items_fit Shore c line x h fits = list_fits h fits
 items_fit Sets c line x h fits = refl
 items_fit Prices c line x h fits = list_fits h fits
 items_fit Weights c line x h fits = list_fits h.0 fits
+items_fit Bonds c line x h fits = (and_parts line.in_range (groups_ok x.groups x.rest) (sym h.in_range ∙ fits)).1
 items_fit Nodes c line x h fits = refl
 items_fit Pair c line x h fits = refl
 items_fit Cut c line x h fits = refl
@@ -232,6 +243,7 @@ items_are_in Shore c line x h first fits = list_is_in h first fits
 items_are_in Sets c line x h first fits = refl
 items_are_in Prices c line x h first fits = list_is_in h first fits
 items_are_in Weights c line x h first fits = list_is_in h.0 first fits
+items_are_in Bonds c line x h first fits = h.in_range ∙ and_from line.in_range (groups_ok x.groups x.rest) first fits
 items_are_in Nodes c line x h first fits = refl
 items_are_in Pair c line x h first fits = refl
 items_are_in Cut c line x h first fits = refl
@@ -239,6 +251,30 @@ items_are_in Price c line x h first fits = refl
 items_are_in Void c line x h first fits = refl
 items_are_in Fixed c line x h first fits = refl
 items_are_in End c line x h first fits = refl
+
+-- the last group is complete just where a weight is awaited
+none_behind : (held : Awaited) (rest : Remainder) → Awaits held rest → awaits_weight held ≡ true → rest ≡ nothing
+none_behind awaited.Weight nothing awaits is = refl
+none_behind awaited.Weight (weight_alone z) awaits is = absurd awaits
+none_behind awaited.Weight (short_of missing z edges) awaits is = absurd awaits
+none_behind (awaited.Size weight) rest awaits is = absurd (let both : false ≡ true = is in cc)
+none_behind (awaited.Edge weight left exact) rest awaits is = absurd (let both : false ≡ true = is in cc)
+
+weight_behind : (held : Awaited) → Awaits held nothing → awaits_weight held ≡ true
+weight_behind awaited.Weight awaits = refl
+weight_behind (awaited.Size weight) awaits = absurd awaits
+weight_behind (awaited.Edge weight left exact) awaits = absurd awaits
+
+-- groups that agree are held as such
+bonds_stated : (line : LineState) (n : ℕ) (groups : List GroupWeight) (rest : Remainder) → KnowsGroups line.groups groups rest → Awaits line.groups.awaited rest → AreGroups n groups rest →
+    slice_index line.fields.items 0 ≡ n → has_stated Bonds line ≡ true
+bonds_stated line n groups rest k awaits agrees same =
+    let in_order : line.groups.in_order ≡ true = elim (cases_Bool line.groups.in_order) [ inl kind ↦ kind | inr odd ↦ absurd (k.odd odd agrees.in_order) ] in
+    let kept = k.kept in_order in
+    let weight = weight_behind line.groups.awaited (subst (λ (r : Remainder). Awaits line.groups.awaited r) agrees.complete awaits) in
+    and_from (line.groups.in_order && awaits_weight line.groups.awaited) (eqb (length line.groups.kept.items) (slice_index line.fields.items 0))
+    (and_from line.groups.in_order (awaits_weight line.groups.awaited) in_order weight)
+    (eq-eqb (length line.groups.kept.items) (slice_index line.fields.items 0) (ap length kept.0 ∙ agrees.stated ∙ sym same))
 
 kept_are : (kind : Kind) (c : Context) (line : LineState) (numbers : List ℕ) (x : LineItems) → line.fields.items ≡ numbers → HoldsItems kind c line x → list_in_range kind line ≡ true → has_stated kind line ≡ true → AreKept kind line numbers x
 kept_are Version c line numbers x same h fits enough = tt
@@ -256,6 +292,18 @@ kept_are Shore c line numbers x same h fits enough = (let s = list_stated h fits
 kept_are Sets c line numbers x same h fits enough = tt
 kept_are Prices c line numbers x same h fits enough = (let s = list_stated h fits enough in (s.0, s.1 ∙ ap (λ (f : List ℕ). slice_index f 1) same))
 kept_are Weights c line numbers x same h fits enough = (let s = list_stated h.0 fits enough in (s.0, s.1 ∙ ap (λ (f : List ℕ). slice_index f 0) same))
+kept_are Bonds c line numbers x same h fits enough =
+    let k = h.known fits in
+    let a = and_parts (line.groups.in_order && awaits_weight line.groups.awaited) (eqb (length line.groups.kept.items) (slice_index line.fields.items 0)) enough in
+    let b = and_parts line.groups.in_order (awaits_weight line.groups.awaited) a.0 in
+    let kept = k.kept b.0 in (
+      kept.0,
+      record {
+        stated = ap length (sym kept.0) ∙ eqb-true (length line.groups.kept.items) (slice_index line.fields.items 0) a.1 ∙ ap (λ (f : List ℕ). slice_index f 0) same;
+        complete = none_behind line.groups.awaited x.rest h.awaits b.1;
+        in_order = kept.1;
+      },
+    )
 kept_are Nodes c line numbers x same h fits enough = tt
 kept_are Pair c line numbers x same h fits enough = tt
 kept_are Cut c line numbers x same h fits enough = tt
@@ -282,6 +330,10 @@ not_stated Shore said c line numbers x same h fits other agrees = list_unstated 
 not_stated Sets said c line numbers x same h fits other agrees = (let both : true ≡ false = other in cc)
 not_stated Prices said c line numbers x same h fits other agrees = list_unstated h other (agrees ∙ ap (λ (f : List ℕ). slice_index f 1) (sym same))
 not_stated Weights said c line numbers x same h fits other agrees = list_unstated h.0 other (agrees.stated ∙ ap (λ (f : List ℕ). slice_index f 0) (sym same))
+not_stated Bonds said c line numbers x same h fits other agrees =
+    let yes = bonds_stated line (slice_index numbers 0) x.groups x.rest (h.known fits) h.awaits agrees.0 (ap (λ (f : List ℕ). slice_index f 0) same) in
+    let both : true ≡ false = sym yes ∙ other in
+    absurd (let e : true ≡ false = both in cc)
 not_stated Nodes said c line numbers x same h fits other agrees = (let both : true ≡ false = other in cc)
 not_stated Pair said c line numbers x same h fits other agrees = (let both : true ≡ false = other in cc)
 not_stated Cut said c line numbers x same h fits other agrees = (let both : true ≡ false = other in cc)
@@ -290,25 +342,28 @@ not_stated Void said c line numbers x same h fits other agrees = (let both : tru
 not_stated Fixed said c line numbers x same h fits other agrees = (let both : true ≡ false = other in cc)
 not_stated End said c line numbers x same h fits other agrees = (let both : true ≡ false = other in cc)
 
-version_small : (n : ℕ) → (eqb (lesser n) 1 || eqb (lesser n) 2) ≡ true → n ≤ 2
-version_small n holds = elim (or_cases (eqb (lesser n) 1) (eqb (lesser n) 2) holds) [
-  | inl one ↦ (let e = eqb-true (lesser n) 1 one in omega (arith, e))
-  | inr two ↦ (let e = eqb-true (lesser n) 2 two in omega (arith, e))
+version_small : (n : ℕ) → (eqb (lesser n) 1 || eqb (lesser n) 2 || eqb (lesser n) 4) ≡ true → n ≤ 4
+version_small n holds = elim (or_cases (eqb (lesser n) 1 || eqb (lesser n) 2) (eqb (lesser n) 4) holds) [
+  | inl two ↦ elim (or_cases (eqb (lesser n) 1) (eqb (lesser n) 2) two) [
+    | inl one ↦ (let e = eqb-true (lesser n) 1 one in omega (arith, e))
+    | inr two ↦ (let e = eqb-true (lesser n) 2 two in omega (arith, e))
+  ]
+  | inr four ↦ (let e = eqb-true (lesser n) 4 four in omega (arith, e))
 ]
 
-version_same : (n : ℕ) → n ≤ 2 → (eqb (lesser n) 1 || eqb (lesser n) 2) ≡ true → (eqb n 1 || eqb n 2) ≡ true
-version_same n small holds = subst (λ (k : ℕ). (eqb k 1 || eqb k 2) ≡ true) (let e : lesser n ≡ n = omega (arith, small) in e) holds
+version_same : (n : ℕ) → n ≤ 4 → (eqb (lesser n) 1 || eqb (lesser n) 2 || eqb (lesser n) 4) ≡ true → (eqb n 1 || eqb n 2 || eqb n 4) ≡ true
+version_same n small holds = subst (λ (k : ℕ). (eqb k 1 || eqb k 2 || eqb k 4) ≡ true) (let e : lesser n ≡ n = omega (arith, small) in e) holds
 
 first_number : (numbers : List ℕ) → length numbers ≡ 1 → slice_index (map lesser numbers) 0 ≡ lesser (slice_index numbers 0)
 first_number [] one = absurd (omega (arith, one))
 first_number (n ∷ ns) one = refl
 
 version_first : (kind : Kind) (line : LineState) (numbers : List ℕ) → line.fields.items ≡ map lesser numbers → length numbers ≡ field_count kind → ends_well kind line ≡ true → kind ≡ Version →
-    (eqb (lesser (slice_index numbers 0)) 1 || eqb (lesser (slice_index numbers 0)) 2) ≡ true
+    (eqb (lesser (slice_index numbers 0)) 1 || eqb (lesser (slice_index numbers 0)) 2 || eqb (lesser (slice_index numbers 0)) 4) ≡ true
 version_first kind line numbers fields count well is =
     let test : ends_well Version line ≡ true = subst (λ (k : Kind). ends_well k line ≡ true) is well in
     let one : length numbers ≡ 1 = count ∙ ap field_count is in
-    subst (λ (k : ℕ). (eqb k 1 || eqb k 2) ≡ true) (ap (λ (f : List ℕ). slice_index f 0) fields ∙ first_number numbers one) test
+    subst (λ (k : ℕ). (eqb k 1 || eqb k 2 || eqb k 4) ≡ true) (ap (λ (f : List ℕ). slice_index f 0) fields ∙ first_number numbers one) test
 
 none_told : (x : Option ℕ) (held : Option ℕ) → held ≡ option_map lesser x → is_none held ≡ true → x ≡ None
 none_told None held same none = refl

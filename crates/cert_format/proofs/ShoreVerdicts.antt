@@ -1,14 +1,13 @@
 -- What is made of a shore.
-use Rattle.std.proofs.Common.{◌≡◌, ◌≢◌, ℕ, zero, suc, ◌+◌, ◌<◌, ◌≤◌, List, [], ◌∷◌, ◌++◌, length, get_or, slice_index, true, refl, sym, ap, subst, ◌∙◌, inl, inr, arith}
+use Rattle.std.proofs.Common.{◌≡◌, ◌≢◌, ℕ, zero, suc, ◌<◌, ◌≤◌, List, [], ◌∷◌, ◌++◌, length, get_or, slice_index, true, refl, sym, ap, subst, ◌∙◌, inr, arith}
 use Rattle.std.specs.List.{All}
 use Rattle.std.proofs.lemmas.List.{append-nil}
-use Rattle.cut_pool.specs.Pools.{Holds, IsHeldAs, IsShoreNumber, shore_at}
+use Rattle.cut_pool.specs.Pools.{Holds, IsHeldAs}
 use Rattle.cut_pool.specs.Shores.{IsShore}
 use Rattle.cert_lines.specs.declared.item.Item.{Item}
 use Rattle.cert_lines.specs.Lines.{Line, shore}
 use Rattle.cert_lines.specs.Order.{LatestFirst}
 use Rattle.cert_lines.specs.Certificates.{shores_of}
-use Rattle.cert_lines.specs.Agreement.{Agrees, IsNewShore}
 use Rattle.cert_lines.specs.Texts.{items_of}
 use Rattle.cert_format.specs.declared.draft.Draft.{Draft}
 use Rattle.cert_format.specs.declared.judging.Verdict.{Verdict}
@@ -17,7 +16,7 @@ use Rattle.cert_format.specs.declared.line.LineState.{LineState}
 use Rattle.cert_format.specs.declared.kind.Kind.TheVariants.{Shore}
 use Rattle.cert_format.specs.Drafts.{HoldsDraft}
 use Rattle.cert_format.specs.Judging.{ShoreJudged, Judged, has_stated, item_list, Steady}
-use Rattle.cert_format.specs.Readiness.{IsReady, AreKept}
+use Rattle.cert_format.specs.Readiness.{IsReady}
 
 any_default : (pool : List (List ℕ)) (k : ℕ) (d : List ℕ) → k < length pool → get_or pool k d ≡ get_or pool k []
 any_default [] k d below = absurd (omega (arith, below))

@@ -1,9 +1,8 @@
 -- What stands next, by the kind of line that may.
-use Rattle.std.proofs.Common.{◌≡◌, List, [], ◌∷◌, refl, sym, ap, inl, inr}
+use Rattle.std.proofs.Common.{◌≡◌, sym, ap, inl, inr}
 use Rattle.cert_lines.specs.declared.next.Next.{Next}
 use Rattle.cert_lines.specs.declared.next.Next.TheVariants as stands
 use Rattle.cert_format.specs.declared.kind.Kind.{Kind}
-use Rattle.cert_format.specs.declared.kind.Kind.TheVariants.{Version, Counts, Cost, Bound, Tours, Tour, Shores, Shore, Sets, Prices, Weights, Nodes, Pair, Cut, Price, Void, Fixed, End}
 use Rattle.cert_format.specs.Kinds.{expected, IsOneOf, next_for}
 
 pub next_is : (next : Next) (kind : Kind) → IsOneOf (expected next) kind → next ≡ next_for kind next
@@ -18,6 +17,7 @@ next_is (stands.Shore left) kind one = elim one [ inl e ↦ ap (λ (k : Kind). n
 next_is stands.Sets kind one = elim one [ inl e ↦ ap (λ (k : Kind). next_for k stands.Sets) (sym e) | inr none ↦ absurd none ]
 next_is (stands.Prices left) kind one = elim one [ inl e ↦ ap (λ (k : Kind). next_for k (stands.Prices left)) (sym e) | inr none ↦ absurd none ]
 next_is (stands.Weights left) kind one = elim one [ inl e ↦ ap (λ (k : Kind). next_for k (stands.Weights left)) (sym e) | inr none ↦ absurd none ]
+next_is (stands.Bonds left) kind one = elim one [ inl e ↦ ap (λ (k : Kind). next_for k (stands.Bonds left)) (sym e) | inr none ↦ absurd none ]
 next_is stands.Nodes kind one = elim one [ inl e ↦ ap (λ (k : Kind). next_for k stands.Nodes) (sym e) | inr none ↦ absurd none ]
 next_is stands.End kind one = elim one [ inl e ↦ ap (λ (k : Kind). next_for k stands.End) (sym e) | inr none ↦ absurd none ]
 next_is (stands.Node left subtrees) kind one = elim one [

@@ -1,17 +1,16 @@
 -- What is told of the bytes at the end, and of the head.
-use Rattle.std.proofs.Common.{◌≡◌, ◌≢◌, ℕ, zero, suc, ◌+◌, ◌<◌, ◌≤◌, Bool, true, false, not, eqb, ◌&&◌, List, [], ◌∷◌, ◌++◌, length, get_or, take, drop, refl, sym, ap, subst, ◌∙◌, append_assoc, inl, inr, ◌⊎◌, arith, Option, Some, None, MatchOption, Result, Ok, Err, OnOk, IfOk, Bor, ◌-◌}
+use Rattle.std.proofs.Common.{◌≡◌, ◌≢◌, ℕ, zero, suc, ◌+◌, ◌<◌, ◌≤◌, true, false, not, eqb, List, [], ◌∷◌, ◌++◌, length, get_or, take, drop, refl, sym, ap, subst, ◌∙◌, append_assoc, inl, inr, arith, Option, Some, None, MatchOption, Result, Ok, Err, OnOk, IfOk, Bor, ◌-◌}
 use Rattle.std.proofs.lemmas.Bool.{and_from, cases_eq, ne_eqb}
-use Rattle.std.proofs.lemmas.List.{append-nil, take_all, take-append-drop}
+use Rattle.std.proofs.lemmas.List.{take_all, take-append-drop}
 use Rattle.std.proofs.Common.{length-drop}
 use Rattle.cert_lines.specs.declared.item.Item.{Item}
 use Rattle.cert_lines.specs.declared.item.Item.TheVariants.{Quiet, Head, Node, Whole}
 use Rattle.cert_lines.specs.Laws.{ReadingIsUnique, ReadIsNotBad, BadLineIsUnique}
 use Rattle.cert_lines.specs.declared.fault.CertFault.{CertFault}
-use Rattle.cert_lines.specs.declared.fault.CertFault.TheVariants.{Syntax, Limit, Truncated}
-use Rattle.cert_lines.specs.declared.next.Next.{Next}
+use Rattle.cert_lines.specs.declared.fault.CertFault.TheVariants.{Syntax, Truncated}
 use Rattle.cert_lines.specs.declared.next.Next.TheVariants.{Nothing}
 use Rattle.cert_lines.specs.Order.{LatestFirst, next_of}
-use Rattle.cert_lines.specs.Texts.{ReadsAs, BreaksAt, IsUnfinished}
+use Rattle.cert_lines.specs.Texts.{IsUnfinished}
 use Rattle.cert_format.specs.declared.cert.CertHead.{CertHead}
 use Rattle.cert_format.specs.declared.reader.Standing.{Standing}
 use Rattle.cert_format.specs.declared.reader.Standing.TheVariants.{Going, Bad, OutOfMemory}

@@ -1,5 +1,5 @@
 -- What is told of an item, and the item: equal, where its numbers are in range.
-use Rattle.std.proofs.Common.{◌≡◌, ℕ, zero, suc, ◌+◌, ◌-◌, ◌<◌, ◌≤◌, min, Bool, true, false, ◌&&◌, nat_le, ℤ, pos, negsuc, neg_ℤ, int_le, to_z, of_z, w64, List, [], ◌∷◌, ◌++◌, length, map, Option, Some, None, refl, sym, ap, subst, ◌∙◌, append_assoc, inl, inr, arith}
+use Rattle.std.proofs.Common.{◌≡◌, ℕ, ◌-◌, ◌<◌, ◌≤◌, min, Bool, true, false, ◌&&◌, nat_le, ℤ, pos, negsuc, to_z, of_z, w64, List, [], ◌∷◌, ◌++◌, Option, Some, None, refl, sym, ap, ◌∙◌, append_assoc, inl, inr, arith}
 use Rattle.std.specs.List.{flat_map}
 use Rattle.std.specs.Option.{option_map}
 use Rattle.std.proofs.lemmas.Bool.{and_parts, leb-true, lt-leb, cases_lt}
@@ -9,12 +9,12 @@ use Rattle.plan_model.specs.declared.step.Step.{Step}
 use Rattle.branch_rules.specs.declared.weight.Weight.{Weight}
 use Rattle.cert_lines.specs.Numerals.{numeral, signed_numeral}
 use Rattle.cert_lines.specs.Lines.{weight_words}
-use Rattle.cert_lines.specs.Numbers.{IsStep, IsNatural, IsNoNatural, IsNoWhole, clamped, limit}
+use Rattle.cert_lines.specs.Numbers.{IsStep, IsNoNatural, IsNoWhole, clamped, limit}
 use Rattle.cert_format.specs.Lists.{is_within, step_ok, vertex_ok, price_ok, weight_ok}
 use Rattle.cert_format.specs.LineStates.{lesser}
 use Rattle.cert_format.specs.Parts.{LineItems, item_words, waiting_words}
 use Rattle.cert_format.specs.declared.kind.Kind.{Kind}
-use Rattle.cert_format.specs.declared.kind.Kind.TheVariants.{Version, Counts, Cost, Bound, Tours, Tour, Shores, Shore, Sets, Prices, Weights, Nodes, Pair, Cut, Price, Void, Fixed, End}
+use Rattle.cert_format.specs.declared.kind.Kind.TheVariants.{Version, Counts, Cost, Bound, Tours, Tour, Shores, Shore, Sets, Prices, Weights, Bonds, Nodes, Pair, Cut, Price, Void, Fixed, End}
 use Rattle.cert_format.proofs.Hopeless.{next_shore, next_weight}
 
 and_false : (b : Bool) → (b && false) ≡ false
@@ -129,25 +129,26 @@ weight_fails ys ws later waiting n text more p q e none =
     ∙ ap (λ (x : Option ℕ). (flat_map weight_words ws ++ waiting_words x) ++ text ∷ more) q ∙ append_assoc (flat_map weight_words ws) (numeral n ∷ []) (text ∷ more)) none
 
 -- a line of another kind has no items
-pub plain_fails : (kind : Kind) (x y : LineItems) (text : List ℕ) (more : List (List ℕ)) → (kind ≡ Tour → ⊥) → (kind ≡ Shore → ⊥) → (kind ≡ Prices → ⊥) → (kind ≡ Weights → ⊥) → item_words kind y ≡ item_words kind x ++ text ∷ more → ⊥
-plain_fails Version x y text more a b d f e = (let both : [] ≡ text ∷ more = e in cc)
-plain_fails Counts x y text more a b d f e = (let both : [] ≡ text ∷ more = e in cc)
-plain_fails Cost x y text more a b d f e = (let both : [] ≡ text ∷ more = e in cc)
-plain_fails Bound x y text more a b d f e = (let both : [] ≡ text ∷ more = e in cc)
-plain_fails Tours x y text more a b d f e = (let both : [] ≡ text ∷ more = e in cc)
-plain_fails Tour x y text more a b d f e = a refl
-plain_fails Shores x y text more a b d f e = (let both : [] ≡ text ∷ more = e in cc)
-plain_fails Shore x y text more a b d f e = b refl
-plain_fails Sets x y text more a b d f e = (let both : [] ≡ text ∷ more = e in cc)
-plain_fails Prices x y text more a b d f e = d refl
-plain_fails Weights x y text more a b d f e = f refl
-plain_fails Nodes x y text more a b d f e = (let both : [] ≡ text ∷ more = e in cc)
-plain_fails Pair x y text more a b d f e = (let both : [] ≡ text ∷ more = e in cc)
-plain_fails Cut x y text more a b d f e = (let both : [] ≡ text ∷ more = e in cc)
-plain_fails Price x y text more a b d f e = (let both : [] ≡ text ∷ more = e in cc)
-plain_fails Void x y text more a b d f e = (let both : [] ≡ text ∷ more = e in cc)
-plain_fails Fixed x y text more a b d f e = (let both : [] ≡ text ∷ more = e in cc)
-plain_fails End x y text more a b d f e = (let both : [] ≡ text ∷ more = e in cc)
+pub plain_fails : (kind : Kind) (x y : LineItems) (text : List ℕ) (more : List (List ℕ)) → (kind ≡ Tour → ⊥) → (kind ≡ Shore → ⊥) → (kind ≡ Prices → ⊥) → (kind ≡ Weights → ⊥) → (kind ≡ Bonds → ⊥) → item_words kind y ≡ item_words kind x ++ text ∷ more → ⊥
+plain_fails Version x y text more a b d f g e = (let both : [] ≡ text ∷ more = e in cc)
+plain_fails Counts x y text more a b d f g e = (let both : [] ≡ text ∷ more = e in cc)
+plain_fails Cost x y text more a b d f g e = (let both : [] ≡ text ∷ more = e in cc)
+plain_fails Bound x y text more a b d f g e = (let both : [] ≡ text ∷ more = e in cc)
+plain_fails Tours x y text more a b d f g e = (let both : [] ≡ text ∷ more = e in cc)
+plain_fails Tour x y text more a b d f g e = a refl
+plain_fails Shores x y text more a b d f g e = (let both : [] ≡ text ∷ more = e in cc)
+plain_fails Shore x y text more a b d f g e = b refl
+plain_fails Sets x y text more a b d f g e = (let both : [] ≡ text ∷ more = e in cc)
+plain_fails Prices x y text more a b d f g e = d refl
+plain_fails Weights x y text more a b d f g e = f refl
+plain_fails Bonds x y text more a b d f g e = g refl
+plain_fails Nodes x y text more a b d f g e = (let both : [] ≡ text ∷ more = e in cc)
+plain_fails Pair x y text more a b d f g e = (let both : [] ≡ text ∷ more = e in cc)
+plain_fails Cut x y text more a b d f g e = (let both : [] ≡ text ∷ more = e in cc)
+plain_fails Price x y text more a b d f g e = (let both : [] ≡ text ∷ more = e in cc)
+plain_fails Void x y text more a b d f g e = (let both : [] ≡ text ∷ more = e in cc)
+plain_fails Fixed x y text more a b d f g e = (let both : [] ≡ text ∷ more = e in cc)
+plain_fails End x y text more a b d f g e = (let both : [] ≡ text ∷ more = e in cc)
 
 -- what is told of a whole number keeps its value in 64 bits
 bits_of_pos : (n : ℕ) → n ≤ limit → to_z w64 (of_z w64 (pos n)) ≡ pos n

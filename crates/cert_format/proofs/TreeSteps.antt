@@ -1,11 +1,11 @@
 -- A tree that grows with the text.
-use Rattle.std.proofs.Common.{◌≡◌, ℕ, ◌+◌, ◌<◌, ◌≤◌, List, [], ◌∷◌, ◌++◌, length, refl, sym, ap, subst, ◌∙◌, arith, length-append}
+use Rattle.std.proofs.Common.{◌≡◌, ℕ, ◌+◌, ◌<◌, List, [], ◌∷◌, ◌++◌, length, refl, sym, ap, subst, ◌∙◌, arith, length-append}
 use Rattle.branch_rules.specs.Trees.{NodeList}
 use Rattle.branch_rules.specs.declared.node.Node.{Node as NodeValue}
 use Rattle.cert_lines.specs.declared.item.Item.{Item}
 use Rattle.cert_lines.specs.declared.item.Item.TheVariants.{Quiet, Head, Node, Whole}
 use Rattle.cert_lines.specs.Order.{LatestFirst, next_of}
-use Rattle.cert_lines.specs.Certificates.{certificate_of, counts_of, cost_of, bound_of, plan_of, shores_of, sets_of, nodes_of}
+use Rattle.cert_lines.specs.Certificates.{certificate_of, counts_of, cost_of, bound_of, plan_of, shores_of, nodes_of}
 use Rattle.cert_format.specs.declared.cert_reader.CertReader.{CertReader}
 use Rattle.cert_format.specs.Certs.{cert_with, certificate_in, IsHeadOf, stated_nodes}
 use Rattle.std.proofs.Common.{Option}
@@ -17,7 +17,7 @@ use Rattle.cert_lines.specs.Laws.{ReadingIsUnique}
 use Rattle.cert_lines.specs.Texts.{ReadsAs, IsTextOf}
 use Rattle.cert_format.specs.declared.cert.CertHead.{CertHead}
 use Rattle.cert_format.specs.declared.reader.Standing.TheVariants.{Going}
-use Rattle.cert_format.specs.Held.{IsGoing, Advances, StandingHolds}
+use Rattle.cert_format.specs.Held.{Advances, StandingHolds}
 use Rattle.cert_format.specs.Reads.{ItemFits, KeepsItem, ReadsTree}
 use Rattle.cert_format.proofs.NodesGiven.{node_given, none_given, nodes_within}
 

@@ -1,8 +1,8 @@
 -- Words that are no line, and what is made of whole lines.
-use Rattle.std.proofs.Common.{◌≡◌, ◌≢◌, ℕ, zero, suc, ◌+◌, ◌<◌, ◌≤◌, Bool, true, false, eqb, ◌||◌, List, [], ◌∷◌, ◌++◌, length, map, slice_index, Option, Some, None, refl, sym, ap, subst, ◌∙◌, append_assoc, inl, inr, ◌⊎◌, arith, is_none}
+use Rattle.std.proofs.Common.{◌≡◌, ℕ, ◌<◌, ◌≤◌, true, false, eqb, ◌||◌, List, [], ◌∷◌, ◌++◌, length, map, slice_index, Option, Some, None, refl, sym, ap, subst, ◌∙◌, inl, inr, arith, is_none}
 use Rattle.std.specs.List.{flat_map}
 use Rattle.std.specs.Option.{option_map}
-use Rattle.std.proofs.lemmas.Bool.{eqb-true, eq-eqb, or_cases, cases_eq}
+use Rattle.std.proofs.lemmas.Bool.{eqb-true, or_cases}
 use Rattle.std.proofs.lemmas.List.{append-nil, length-map}
 use Rattle.branch_rules.specs.declared.weight.Weight.{Weight}
 use Rattle.cert_lines.specs.Laws.{NumeralIsUnique}
@@ -12,19 +12,18 @@ use Rattle.cert_lines.specs.Lines as lines
 use Rattle.cert_lines.specs.Lines.{Line, words_of, weight_words}
 use Rattle.cert_lines.specs.Numerals.{numeral, signed_numeral}
 use Rattle.cert_lines.specs.Order.{LatestFirst, next_of, follows}
-use Rattle.cert_lines.specs.Numbers.{limit}
 use Rattle.cert_format.specs.declared.line.Context.{Context}
 use Rattle.cert_format.specs.declared.line.Form.{Form}
 use Rattle.cert_format.specs.declared.line.Form.TheVariants.{Start, Shapeless, Shaped}
 use Rattle.cert_format.specs.declared.line.LineState.{LineState}
 use Rattle.cert_format.specs.declared.kind.Kind.{Kind}
-use Rattle.cert_format.specs.declared.kind.Kind.TheVariants.{Version, Counts, Cost, Bound, Tours, Tour, Shores, Shore, Sets, Prices, Weights, Nodes, Pair, Cut, Price, Void, Fixed, End}
-use Rattle.cert_format.specs.Kinds.{expected, field_count, keyword, IsOneOf, next_for}
-use Rattle.cert_format.specs.LineStates.{IsShaped, HoldsItems, HoldsLine, FormHolds, lesser}
+use Rattle.cert_format.specs.declared.kind.Kind.TheVariants.{Version, Counts, Cost, Bound, Tours, Tour, Shores, Shore, Sets, Prices, Weights, Bonds, Nodes, Pair, Cut, Price, Void, Fixed, End}
+use Rattle.cert_format.specs.Kinds.{field_count, keyword}
+use Rattle.cert_format.specs.LineStates.{IsShaped, HoldsLine, FormHolds, lesser}
 use Rattle.cert_format.specs.Parts.{LineItems, no_items, item_words, waiting_words, part_words, IsHopeless}
 use Rattle.cert_format.specs.Judging.{ends_well, IsLine}
-use Rattle.cert_format.proofs.LineParts.{kind_in, numbers_in, items_in, words_are, same_kind}
-use Rattle.cert_format.proofs.Hopeless.{IsRest, rest_of, behind_fields, no_items_words}
+use Rattle.cert_format.proofs.LineParts.{kind_in, numbers_in, items_in, words_are}
+use Rattle.cert_format.proofs.Hopeless.{rest_of, behind_fields, no_items_words}
 use Rattle.cert_format.proofs.Standing.{next_is}
 
 some_words : (line : Line) → words_of line ≡ [] → ⊥
@@ -43,8 +42,8 @@ form_none (Shaped kind) c held words said other h same line is = absurd (other k
 pub no_line : (c : Context) (held : LineState) (words : List (List ℕ)) (said : LatestFirst) → ((kind : Kind) → held.form ≡ Shaped kind → ⊥) → HoldsLine c held words → c.next ≡ next_of said → (line : Line) → IsLine said words line → ⊥
 no_line c held words said other h same line is = form_none held.form c held words said other h same line is
 
-version_at : (line : Line) (n : ℕ) → NumeralIsUnique → follows stands.Version line ≡ true → words_of line ≡ keyword Version ∷ numeral n ∷ [] → (eqb n 1 || eqb n 2) ≡ true
-version_at (lines.version m) n unique may spells = subst (λ (k : ℕ). (eqb k 1 || eqb k 2) ≡ true) (unique m n (let both : keyword Version ∷ numeral m ∷ [] ≡ keyword Version ∷ numeral n ∷ [] = spells in let e : numeral m ≡ numeral n = cc in e)) may
+version_at : (line : Line) (n : ℕ) → NumeralIsUnique → follows stands.Version line ≡ true → words_of line ≡ keyword Version ∷ numeral n ∷ [] → (eqb n 1 || eqb n 2 || eqb n 4) ≡ true
+version_at (lines.version m) n unique may spells = subst (λ (k : ℕ). (eqb k 1 || eqb k 2 || eqb k 4) ≡ true) (unique m n (let both : keyword Version ∷ numeral m ∷ [] ≡ keyword Version ∷ numeral n ∷ [] = spells in let e : numeral m ≡ numeral n = cc in e)) may
 version_at _ n unique may spells = absurd (let both : false ≡ true = may in cc)
 
 short_of : (a b : ℕ) → a ≤ b → (a ≡ b → ⊥) → a < b
@@ -66,7 +65,7 @@ short_line {c} {held} {words} {kind} said s other line is =
     (rest.words ∙ ap (λ (x : LineItems). map numeral s.numbers ++ item_words kind x) none ∙ ap (λ (x : List (List ℕ)). map numeral s.numbers ++ x) (no_items_words kind) ∙ append-nil (map numeral s.numbers)) in
     omega (arith, less, few, rest.count)
 
-version_of : (line : Line) (next : Next) (n : ℕ) → NumeralIsUnique → next ≡ stands.Version → follows next line ≡ true → words_of line ≡ keyword Version ∷ numeral n ∷ [] → (eqb n 1 || eqb n 2) ≡ true
+version_of : (line : Line) (next : Next) (n : ℕ) → NumeralIsUnique → next ≡ stands.Version → follows next line ≡ true → words_of line ≡ keyword Version ∷ numeral n ∷ [] → (eqb n 1 || eqb n 2 || eqb n 4) ≡ true
 version_of line next n unique at may spells = version_at line n unique (subst (λ (k : Next). follows k line ≡ true) at may) spells
 
 no_pair : (ys xs : List Weight) (n : ℕ) → flat_map weight_words ys ≡ flat_map weight_words xs ++ numeral n ∷ [] → ⊥
@@ -96,19 +95,22 @@ one_number [] one = absurd (omega (arith, one))
 one_number (n ∷ []) one = refl
 one_number (n ∷ m ∷ ns) one = absurd (omega (arith, one))
 
-version_told : (n : ℕ) → (eqb n 1 || eqb n 2) ≡ true → (eqb (lesser n) 1 || eqb (lesser n) 2) ≡ true
+version_told : (n : ℕ) → (eqb n 1 || eqb n 2 || eqb n 4) ≡ true → (eqb (lesser n) 1 || eqb (lesser n) 2 || eqb (lesser n) 4) ≡ true
 version_told n holds =
-    let small : n ≤ 2 = elim (or_cases (eqb n 1) (eqb n 2) holds) [ inl one ↦ (let e = eqb-true n 1 one in omega (arith, e)) | inr two ↦ (let e = eqb-true n 2 two in omega (arith, e)) ] in
-    subst (λ (k : ℕ). (eqb k 1 || eqb k 2) ≡ true) (let e : n ≡ lesser n = omega (arith, small) in e) holds
+    let small : n ≤ 4 = elim (or_cases (eqb n 1 || eqb n 2) (eqb n 4) holds) [
+      | inl two ↦ elim (or_cases (eqb n 1) (eqb n 2) two) [ inl one ↦ (let e = eqb-true n 1 one in omega (arith, e)) | inr two ↦ (let e = eqb-true n 2 two in omega (arith, e)) ]
+      | inr four ↦ (let e = eqb-true n 4 four in omega (arith, e))
+    ] in
+    subst (λ (k : ℕ). (eqb k 1 || eqb k 2 || eqb k 4) ≡ true) (let e : n ≡ lesser n = omega (arith, small) in e) holds
 
-version_odd : {c : Context} {held : LineState} {words : List (List ℕ)} (said : LatestFirst) → NumeralIsUnique → (s : IsShaped c held words Version) → c.next ≡ next_of said → length s.numbers ≡ 1 → (eqb (slice_index held.fields.items 0) 1 || eqb (slice_index held.fields.items 0) 2) ≡ false → (line : Line) → IsLine said words line → ⊥
+version_odd : {c : Context} {held : LineState} {words : List (List ℕ)} (said : LatestFirst) → NumeralIsUnique → (s : IsShaped c held words Version) → c.next ≡ next_of said → length s.numbers ≡ 1 → (eqb (slice_index held.fields.items 0) 1 || eqb (slice_index held.fields.items 0) 2 || eqb (slice_index held.fields.items 0) 4) ≡ false → (line : Line) → IsLine said words line → ⊥
 version_odd {c} {held} {words} said unique s same count other line is =
     let n : ℕ = slice_index s.numbers 0 in
     let single : s.numbers ≡ n ∷ [] = one_number s.numbers count in
     let spells : words_of line ≡ keyword Version ∷ numeral n ∷ [] = is.spells ∙ s.spelled ∙ ap (λ (x : List ℕ). keyword Version ∷ (map numeral x ++ [])) single in
     let holds = version_told n (version_of line (next_of said) n unique (sym same ∙ next_is c.next Version s.expected) is.follows spells) in
     let first : slice_index held.fields.items 0 ≡ lesser n = ap (λ (f : List ℕ). slice_index f 0) (s.fields ∙ ap (map lesser) single) in
-    let both : false ≡ true = sym other ∙ ap (λ (k : ℕ). eqb k 1 || eqb k 2) first ∙ holds in
+    let both : false ≡ true = sym other ∙ ap (λ (k : ℕ). eqb k 1 || eqb k 2 || eqb k 4) first ∙ holds in
     absurd (let e : false ≡ true = both in cc)
 
 -- the line ends with a weight to come, or there is no such version
@@ -124,6 +126,7 @@ odd_line {c} {held} {words} Shore said unique s same all other line is = (let bo
 odd_line {c} {held} {words} Sets said unique s same all other line is = (let both : true ≡ false = other in cc)
 odd_line {c} {held} {words} Prices said unique s same all other line is = (let both : true ≡ false = other in cc)
 odd_line {c} {held} {words} Weights said unique s same all other line is = weights_odd said s (sym (length-map s.numbers lesser) ∙ ap length (sym s.fields) ∙ all) other line is
+odd_line {c} {held} {words} Bonds said unique s same all other line is = (let both : true ≡ false = other in cc)
 odd_line {c} {held} {words} Nodes said unique s same all other line is = (let both : true ≡ false = other in cc)
 odd_line {c} {held} {words} Pair said unique s same all other line is = (let both : true ≡ false = other in cc)
 odd_line {c} {held} {words} Cut said unique s same all other line is = (let both : true ≡ false = other in cc)

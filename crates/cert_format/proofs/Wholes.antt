@@ -1,20 +1,21 @@
 -- The pieces are the text of the certificate.
-use Rattle.std.proofs.Common.{◌≡◌, ℕ, ℤ, List, [], ◌∷◌, ◌++◌, map, length, codes, Option, Some, None, refl, sym, ap, ◌∙◌, append_assoc}
+use Rattle.std.proofs.Common.{◌≡◌, ℕ, Bool, true, false, List, [], ◌∷◌, ◌++◌, map, length, codes, Option, Some, None, refl, sym, ap, ◌∙◌, append_assoc}
 use Rattle.std.specs.List.{flat_map}
 use Rattle.std.proofs.lemmas.Grind.{flat_map-append}
 use Rattle.std.proofs.lemmas.List.{append-nil}
 use Rattle.std.proofs.lemmas.List.Folds.{flat_map-map}
 use Rattle.plan_model.specs.declared.step.Step.{Step}
+use Rattle.branch_rules.specs.Bonds.{GroupWeight}
 use Rattle.branch_rules.specs.Prices.{Prices}
 use Rattle.branch_rules.specs.declared.weight.Weight.{Weight}
 use Rattle.branch_rules.specs.declared.node.Node.{Node}
 use Rattle.branch_rules.specs.declared.node.Node.TheVariants.{Pair, Cut, Price, Void, Fixed}
 use Rattle.cert_lines.specs.declared.counts.Counts.{Counts}
 use Rattle.cert_lines.specs.Numerals.{numeral, signed_numeral}
-use Rattle.cert_lines.specs.Lines.{Line, version, counts, cost, bound, tours, shores, sets, prices, weights, nodes, node, end, after_blank, step_word, weight_words}
-use Rattle.cert_lines.specs.Certificates.{Certificate}
-use Rattle.cert_lines.specs.Spelling.{whole_line, version_lines, tour_line, shore_line, set_lines, lines_of, text_of}
-use Rattle.cert_format.specs.Pieces.{number_piece, step_piece, price_piece, weight_piece, number_line, pair_line, sizes_piece, loads_piece, counts_line, tour_text, shore_text, prices_head, prices_text, weights_text, set_text, node_text, second_text, version_text, plan_text, pool_text, sets_text, nodes_text, values_text}
+use Rattle.cert_lines.specs.Lines.{version, counts, cost, bound, tours, shores, sets, prices, weights, bonds, nodes, node, nothing, after_blank, step_word, weight_words, group_words}
+use Rattle.cert_lines.specs.Certificates.{Certificate, has_groups}
+use Rattle.cert_lines.specs.Spelling.{whole_line, version_lines, tour_line, shore_line, group_lines, set_lines, text_of}
+use Rattle.cert_format.specs.Pieces.{number_piece, price_piece, weight_piece, group_piece, number_line, pair_line, sizes_piece, loads_piece, counts_line, tour_text, shore_text, prices_head, prices_text, weights_text, bonds_text, groups_text, set_text, node_text, second_text, version_text, plan_text, pool_text, sets_text, nodes_text, values_text}
 
 -- a word, a number and items, each after a blank, and the LF
 line_of_items : (word one items : List ℕ) → (word ++ (one ++ items)) ++ 10 ∷ [] ≡ word ++ (one ++ (items ++ 10 ∷ []))
@@ -66,9 +67,30 @@ weights_is set =
     ap (λ (items : List ℕ). codes "weights" ++ (number_piece (length set.weights) ++ (items ++ 10 ∷ []))) (weight_items set.weights)
     ∙ sym (line_of_items (codes "weights") (number_piece (length set.weights)) (flat_map after_blank (flat_map weight_words set.weights)))
 
-set_is : (set : Prices) → set_text set ≡ flat_map whole_line (set_lines set)
+group_items : (groups : List GroupWeight) → flat_map group_piece groups ≡ flat_map after_blank (flat_map group_words groups)
+unfolding group_piece
+group_items [] = refl
+group_items (w ∷ groups) =
+    let edges = flat_map number_piece w.edges in
+    let rest = flat_map group_piece groups in
+    append_assoc (price_piece w.weight) (number_piece (length w.edges) ++ edges) rest
+    ∙ ap (λ (bytes : List ℕ). price_piece w.weight ++ bytes) (append_assoc (number_piece (length w.edges)) edges rest)
+    ∙ (λ i. price_piece w.weight ++ (number_piece (length w.edges) ++ (sym (flat_map-map after_blank numeral w.edges) i ++ group_items groups i)))
+    ∙ ap (λ (bytes : List ℕ). price_piece w.weight ++ (number_piece (length w.edges) ++ bytes)) (sym (flat_map-append after_blank (map numeral w.edges) (flat_map group_words groups)))
+
+bonds_is : (set : Prices) → bonds_text set ≡ whole_line (bonds (length set.groups) set.groups nothing)
+unfolding bonds_text
+bonds_is set =
+    ap (λ (items : List ℕ). codes "bonds" ++ (number_piece (length set.groups) ++ (items ++ 10 ∷ []))) (group_items set.groups ∙ ap (flat_map after_blank) (sym (append-nil (flat_map group_words set.groups))))
+    ∙ sym (line_of_items (codes "bonds") (number_piece (length set.groups)) (flat_map after_blank (flat_map group_words set.groups ++ [])))
+
+groups_are : (grouped : Bool) (set : Prices) → groups_text grouped set ≡ flat_map whole_line (group_lines grouped set)
+groups_are false set = refl
+groups_are true set = bonds_is set ∙ sym (append-nil (whole_line (bonds (length set.groups) set.groups nothing)))
+
+set_is : (grouped : Bool) (set : Prices) → set_text grouped set ≡ flat_map whole_line (set_lines grouped set)
 unfolding set_text
-set_is set = λ i. prices_is set i ++ (weights_is set ∙ sym (append-nil (whole_line (weights (length set.weights) set.weights)))) i
+set_is grouped set = λ i. prices_is set i ++ (weights_is set i ++ groups_are grouped set i)
 
 node_is : (x : Node) → node_text x ≡ whole_line (node x)
 unfolding node_text
@@ -82,10 +104,15 @@ counts_is : (c : Counts) → counts_line c ≡ whole_line (counts c)
 unfolding counts_line sizes_piece loads_piece
 counts_is c = simp append_assoc
 
-version_is : (size : Option Counts) → version_text size ≡ flat_map whole_line (version_lines size)
-unfolding version_text second_text
-version_is None = number_is (codes "carp-certificate") 1 ∙ sym (append-nil (whole_line (version 1)))
-version_is (Some c) = λ i. number_is (codes "carp-certificate") 2 i ++ (counts_is c ∙ sym (append-nil (whole_line (counts c)))) i
+second_is : (n : ℕ) (c : Counts) → second_text n c ≡ flat_map whole_line (version n ∷ counts c ∷ [])
+unfolding second_text
+second_is n c = λ i. number_is (codes "carp-certificate") n i ++ (counts_is c ∙ sym (append-nil (whole_line (counts c)))) i
+
+version_is : (size : Option Counts) (grouped : Bool) → version_text size grouped ≡ flat_map whole_line (version_lines size grouped)
+unfolding version_text
+version_is None grouped = number_is (codes "carp-certificate") 1 ∙ sym (append-nil (whole_line (version 1)))
+version_is (Some c) false = second_is 2 c
+version_is (Some c) true = second_is 4 c
 
 -- Groups.
 
@@ -97,9 +124,10 @@ shores_is : (pool : List (List ℕ)) → flat_map shore_text pool ≡ flat_map w
 shores_is [] = refl
 shores_is (vertices ∷ pool) = λ i. shore_is vertices i ++ shores_is pool i
 
-sets_is : (all : List Prices) → flat_map set_text all ≡ flat_map whole_line (flat_map set_lines all)
-sets_is [] = refl
-sets_is (set ∷ all) = (λ i. set_is set i ++ sets_is all i) ∙ sym (flat_map-append whole_line (set_lines set) (flat_map set_lines all))
+sets_is : (grouped : Bool) (all : List Prices) → flat_map (set_text grouped) all ≡ flat_map whole_line (flat_map (set_lines grouped) all)
+sets_is grouped [] = refl
+sets_is grouped (set ∷ all) =
+    (λ i. set_is grouped set i ++ sets_is grouped all i) ∙ sym (flat_map-append whole_line (set_lines grouped set) (flat_map (set_lines grouped) all))
 
 nodes_is : (all : List Node) → flat_map node_text all ≡ flat_map whole_line (map node all)
 nodes_is [] = refl
@@ -113,9 +141,9 @@ pool_is : (pool : List (List ℕ)) → pool_text pool ≡ flat_map whole_line (s
 unfolding pool_text
 pool_is pool = λ i. number_is (codes "shores") (length pool) i ++ shores_is pool i
 
-all_sets_is : (all : List Prices) → sets_text all ≡ flat_map whole_line (sets (length all) ∷ flat_map set_lines all)
+all_sets_is : (grouped : Bool) (all : List Prices) → sets_text grouped all ≡ flat_map whole_line (sets (length all) ∷ flat_map (set_lines grouped) all)
 unfolding sets_text
-all_sets_is all = λ i. number_is (codes "sets") (length all) i ++ sets_is all i
+all_sets_is grouped all = λ i. number_is (codes "sets") (length all) i ++ sets_is grouped all i
 
 all_nodes_is : (all : List Node) → nodes_text all ≡ flat_map whole_line (nodes (length all) ∷ map node all) ++ codes "end\n"
 unfolding nodes_text
@@ -130,10 +158,10 @@ values_is price low = λ i. number_is (codes "cost") price i ++ number_is (codes
 -- the pieces one after another
 lines_cut : (c : Certificate) →
     text_of c
-    ≡ flat_map whole_line (version_lines c.counts)
+    ≡ flat_map whole_line (version_lines c.counts (has_groups c.sets))
     ++ (whole_line (cost c.cost) ++ (whole_line (bound c.bound) ++ flat_map whole_line (tours (length c.plan) ∷ map tour_line c.plan)))
     ++ flat_map whole_line (shores (length c.shores) ∷ map shore_line c.shores)
-    ++ flat_map whole_line (sets (length c.sets) ∷ flat_map set_lines c.sets)
+    ++ flat_map whole_line (sets (length c.sets) ∷ flat_map (set_lines (has_groups c.sets)) c.sets)
     ++ flat_map whole_line (nodes (length c.nodes) ∷ map node c.nodes)
     ++ codes "end\n"
 lines_cut c = rw (flat_map-append, flat_map-append, flat_map-append, flat_map-append, flat_map-append) refl
@@ -146,10 +174,10 @@ regrouped head price low plan pool costs tree last =
     (append_assoc head (price ++ low) plan ∙ ap (λ (bytes : List ℕ). head ++ bytes) (append_assoc price low plan))
 
 pub text_is : (c : Certificate) →
-    version_text c.counts ++ values_text c.cost c.bound ++ plan_text c.plan ++ pool_text c.shores ++ sets_text c.sets ++ nodes_text c.nodes ≡ text_of c
+    version_text c.counts (has_groups c.sets) ++ values_text c.cost c.bound ++ plan_text c.plan ++ pool_text c.shores ++ sets_text (has_groups c.sets) c.sets ++ nodes_text c.nodes ≡ text_of c
 text_is c =
-    (λ i. version_is c.counts i ++ values_is c.cost c.bound i ++ plan_is c.plan i ++ pool_is c.shores i ++ all_sets_is c.sets i ++ all_nodes_is c.nodes i)
-    ∙ regrouped (flat_map whole_line (version_lines c.counts)) (whole_line (cost c.cost)) (whole_line (bound c.bound))
+    (λ i. version_is c.counts (has_groups c.sets) i ++ values_is c.cost c.bound i ++ plan_is c.plan i ++ pool_is c.shores i ++ all_sets_is (has_groups c.sets) c.sets i ++ all_nodes_is c.nodes i)
+    ∙ regrouped (flat_map whole_line (version_lines c.counts (has_groups c.sets))) (whole_line (cost c.cost)) (whole_line (bound c.bound))
     (flat_map whole_line (tours (length c.plan) ∷ map tour_line c.plan)) (flat_map whole_line (shores (length c.shores) ∷ map shore_line c.shores))
-    (flat_map whole_line (sets (length c.sets) ∷ flat_map set_lines c.sets)) (flat_map whole_line (nodes (length c.nodes) ∷ map node c.nodes)) (codes "end\n")
+    (flat_map whole_line (sets (length c.sets) ∷ flat_map (set_lines (has_groups c.sets)) c.sets)) (flat_map whole_line (nodes (length c.nodes) ∷ map node c.nodes)) (codes "end\n")
     ∙ sym (lines_cut c)

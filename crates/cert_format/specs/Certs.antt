@@ -1,5 +1,5 @@
 -- A certificate and its head as plain data.
-use Rattle.std.specs.Prelude.{◌≡◌, ℕ, List, [], ◌∷◌}
+use Rattle.std.specs.Prelude.{◌≡◌, ℕ, [], ◌∷◌}
 use Rattle.branch_rules.specs.Trees.{NodeList}
 use Rattle.cert_lines.specs.Lines.{nodes}
 use Rattle.cert_lines.specs.Order.{LatestFirst}

@@ -1,6 +1,6 @@
 -- When a certificate is good for an instance: then its plan is lawful and costs what is stated, and no lawful plan costs less than
 -- its bound.
-use Rattle.std.specs.Prelude.{◌≡◌, ℕ, List, [], length, Some, IfSome}
+use Rattle.std.specs.Prelude.{◌≡◌, List, [], length, Some, IfSome}
 use Rattle.std.specs.List.{All}
 use Rattle.carp_base.specs.Problem.{Problem, IsValid, total_demand}
 use Rattle.plan_model.specs.Plans.{IsLawful, plan_cost}

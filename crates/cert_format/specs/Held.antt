@@ -1,5 +1,5 @@
 -- What a reader holds after the bytes that it has taken.
-use Rattle.std.specs.Prelude.{◌≡◌, ℕ, ◌==◌, ◌≤◌, ◌&&◌, Bool, not, List, [], ◌∷◌, ◌++◌, length, take}
+use Rattle.std.specs.Prelude.{◌≡◌, ℕ, ◌==◌, ◌&&◌, Bool, not, List, [], ◌∷◌, ◌++◌}
 use Rattle.std.specs.List.{slice_split}
 use Rattle.cert_lines.specs.Words.{HoldsWord}
 use Rattle.cert_lines.specs.declared.fault.CertFault.{CertFault}

@@ -1,18 +1,19 @@
 -- When a line is whole, and what is made of it.
-use Rattle.std.specs.Prelude.{◌≡◌, ◌≢◌, ℕ, ◌≤◌, ◌==◌, ◌&&◌, ◌||◌, Bool, true, false, not, List, [], ◌∷◌, ◌++◌, length, slice_index, is_none, ◌⊎◌, nat_eq}
+use Rattle.std.specs.Prelude.{◌≡◌, ℕ, ◌≤◌, ◌==◌, ◌&&◌, ◌||◌, Bool, true, false, not, List, [], ◌∷◌, ◌++◌, length, slice_index, is_none, ◌⊎◌}
 use Rattle.cert_lines.specs.declared.item.Item.{Item}
 use Rattle.cert_lines.specs.declared.item.Item.TheVariants.{Quiet, Head, Node, Whole}
 use Rattle.branch_rules.specs.declared.node.Node.{Node as NodeValue}
-use Rattle.cert_lines.specs.Lines.{Line, node, shore, weights, words_of}
-use Rattle.cert_lines.specs.Certificates.{nodes_of, shores_of, unit_of, services_of}
+use Rattle.cert_lines.specs.Lines.{Line, node, shore, sets, weights, bonds, nothing, words_of}
+use Rattle.cert_lines.specs.Certificates.{nodes_of, shores_of, unit_of, services_of, sets_of}
 use Rattle.branch_rules.specs.declared.node.Node.TheVariants as nodes_are
 use Rattle.branch_rules.specs.declared.weight.Weight.{Weight}
 use Rattle.branch_rules.specs.Limits.{IsPriceSet}
+use Rattle.branch_rules.specs.Bonds.{GroupWeight}
 use Rattle.cut_pool.specs.Shores.{IsShore}
 use Rattle.cut_pool.specs.Pools.{Holds}
-use Rattle.cert_lines.specs.Order.{LatestFirst, next_of, follows, left_of, open_of}
+use Rattle.cert_lines.specs.Order.{LatestFirst, version_of, next_of, follows}
 use Rattle.cert_lines.specs.Ranges.{IsInRange}
-use Rattle.cert_lines.specs.Agreement.{Agrees, IsPairInOrder, BecomesWhole}
+use Rattle.cert_lines.specs.Agreement.{Agrees, IsPairInOrder, BecomesWhole, SomeSetHasGroups}
 use Rattle.cert_lines.specs.Texts.{items_of}
 use Rattle.cert_format.specs.declared.draft.Draft.{Draft}
 use Rattle.cert_format.specs.declared.judging.Verdict.{Verdict}
@@ -20,15 +21,17 @@ use Rattle.cert_format.specs.declared.judging.Verdict.TheVariants.{Syntax, Limit
 use Rattle.cert_format.specs.declared.line.Context.{Context}
 use Rattle.cert_format.specs.declared.line.LineState.{LineState}
 use Rattle.cert_format.specs.declared.kind.Kind.{Kind}
-use Rattle.cert_format.specs.declared.kind.Kind.TheVariants.{Version, Counts, Cost, Bound, Tours, Tour, Shores, Shore, Sets, Prices, Weights, Nodes, Pair, Cut, Price, Void, Fixed, End}
+use Rattle.cert_format.specs.declared.kind.Kind.TheVariants.{Version, Tour, Shore, Prices, Weights, Bonds, Pair, Cut, Price, Void}
 use Rattle.cert_format.specs.declared.items.Items.{Items}
-use Rattle.cert_format.specs.Kinds.{field_count}
+use Rattle.cert_format.specs.declared.groups.Awaited.{Awaited}
+use Rattle.cert_format.specs.declared.groups.Awaited.TheVariants as awaited
+use Rattle.cert_format.specs.Groups.{AreSetGroups}
 use Rattle.cert_format.specs.Certs.{stated_nodes}
 use Rattle.cert_format.specs.Drafts.{HoldsDraft}
 
 -- the version is one that there is, and no weight is to come
 abbrev pub ends_well : Kind → LineState → Bool
-ends_well Version line = (slice_index line.fields.items 0 == 1) || (slice_index line.fields.items 0 == 2)
+ends_well Version line = (slice_index line.fields.items 0 == 1) || (slice_index line.fields.items 0 == 2) || (slice_index line.fields.items 0 == 4)
 ends_well Weights line = is_none line.waiting
 ends_well _ line = true
 
@@ -38,17 +41,24 @@ list_in_range Tour line = line.steps.in_range
 list_in_range Shore line = line.vertices.in_range
 list_in_range Prices line = line.services.in_range
 list_in_range Weights line = line.weights.in_range
+list_in_range Bonds line = line.groups.in_range
 list_in_range _ line = true
 
 -- as many items came as are stated
 abbrev pub are_stated : {T : Type 0} → Items T → Bool
 are_stated items = not items.more && (items.found == items.stated)
 
+-- the last group is complete
+abbrev pub awaits_weight : Awaited → Bool
+awaits_weight awaited.Weight = true
+awaits_weight _ = false
+
 abbrev pub has_stated : Kind → LineState → Bool
 has_stated Tour line = not line.steps.more && (length line.steps.kept.items == slice_index line.fields.items 0)
 has_stated Shore line = are_stated line.vertices
 has_stated Prices line = are_stated line.services
 has_stated Weights line = are_stated line.weights
+has_stated Bonds line = line.groups.in_order && awaits_weight line.groups.awaited && (length line.groups.kept.items == slice_index line.fields.items 0)
 has_stated _ line = true
 
 abbrev pub context_of : Draft → Context
@@ -129,3 +139,17 @@ abbrev pub WeightsJudged : Verdict → List Weight → LatestFirst → Draft →
 WeightsJudged Syntax ws said new = HoldsDraft new said × (IsPriceSet (record { unit = unit_of said; services = services_of said; weights = ws; groups = [] }) → ⊥)
 WeightsJudged Limit ws said new = ⊥
 WeightsJudged (Good item) ws said new = HoldsDraft new (weights (length ws) ws ∷ said) × IsPriceSet (record { unit = unit_of said; services = services_of said; weights = ws; groups = [] }) × (item ≡ Quiet)
+
+-- what is made of the number of sets
+abbrev pub SetsJudged : Verdict → ℕ → LatestFirst → Draft → Type 0
+SetsJudged Syntax n said new = HoldsDraft new said × (version_of said ≡ 4) × (n ≡ 0)
+SetsJudged Limit n said new = ⊥
+SetsJudged (Good item) n said new = HoldsDraft new (sets n ∷ said) × (version_of said ≡ 4 → 1 ≤ n) × (item ≡ Quiet)
+
+-- what is made of groups; so many sets are to come, this one too
+abbrev pub GroupsJudged : Verdict → List GroupWeight → (left : ℕ) → LatestFirst → Draft → Type 0
+GroupsJudged Syntax groups left said new = HoldsDraft new said × (AreSetGroups groups → SomeSetHasGroups left (sets_of (bonds (length groups) groups nothing ∷ said)) → ⊥)
+GroupsJudged Limit groups left said new = ⊥
+GroupsJudged (Good item) groups left said new =
+    HoldsDraft new (bonds (length groups) groups nothing ∷ said) × AreSetGroups groups
+    × SomeSetHasGroups left (sets_of (bonds (length groups) groups nothing ∷ said)) × (item ≡ Quiet)

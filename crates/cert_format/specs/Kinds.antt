@@ -4,7 +4,7 @@ use Rattle.cert_lines.specs.declared.next.Next.{Next}
 use Rattle.cert_lines.specs.declared.next.Next.TheVariants as stands
 use Rattle.cert_lines.specs.Order.{left_of, open_of}
 use Rattle.cert_format.specs.declared.kind.Kind.{Kind}
-use Rattle.cert_format.specs.declared.kind.Kind.TheVariants.{Version, Counts, Cost, Bound, Tours, Tour, Shores, Shore, Sets, Prices, Weights, Nodes, Pair, Cut, Price, Void, Fixed, End}
+use Rattle.cert_format.specs.declared.kind.Kind.TheVariants.{Version, Counts, Cost, Bound, Tours, Tour, Shores, Shore, Sets, Prices, Weights, Bonds, Nodes, Pair, Cut, Price, Void, Fixed, End}
 
 -- the first word of a line of this kind
 abbrev pub keyword : Kind → List ℕ
@@ -19,6 +19,7 @@ keyword Shore = codes "shore"
 keyword Sets = codes "sets"
 keyword Prices = codes "prices"
 keyword Weights = codes "weights"
+keyword Bonds = codes "bonds"
 keyword Nodes = codes "nodes"
 keyword Pair = codes "pair"
 keyword Cut = codes "cut"
@@ -40,6 +41,7 @@ field_count Shore = 1
 field_count Sets = 1
 field_count Prices = 2
 field_count Weights = 1
+field_count Bonds = 1
 field_count Nodes = 1
 field_count Pair = 2
 field_count Cut = 2
@@ -61,6 +63,7 @@ expected (stands.Shore left) = Shore ∷ []
 expected stands.Sets = Sets ∷ []
 expected (stands.Prices left) = Prices ∷ []
 expected (stands.Weights left) = Weights ∷ []
+expected (stands.Bonds left) = Bonds ∷ []
 expected stands.Nodes = Nodes ∷ []
 expected (stands.Node left subtrees) = Pair ∷ Cut ∷ Price ∷ Void ∷ Fixed ∷ []
 expected stands.End = End ∷ []
@@ -97,6 +100,7 @@ next_for Shore next = stands.Shore (left_of next)
 next_for Sets next = stands.Sets
 next_for Prices next = stands.Prices (left_of next)
 next_for Weights next = stands.Weights (left_of next)
+next_for Bonds next = stands.Bonds (left_of next)
 next_for Nodes next = stands.Nodes
 next_for Pair next = stands.Node (left_of next) (open_of next)
 next_for Cut next = stands.Node (left_of next) (open_of next)

@@ -1,5 +1,7 @@
 pub mod Kinds
 pub mod Parts
+pub mod Numbers
+pub mod Groups
 pub mod Lists
 pub mod LineStates
 pub mod Certs

@@ -1,18 +1,16 @@
 -- What is held of a line, of which some words have come.
-use Rattle.std.specs.Prelude.{◌≡◌, ◌≢◌, ℕ, ◌<◌, ◌≤◌, min, true, ℤ, List, [], length, map, slice_index, Option, None}
+use Rattle.std.specs.Prelude.{◌≡◌, ◌≢◌, ℕ, ◌<◌, ◌≤◌, min, List, [], length, map, slice_index}
 use Rattle.std.specs.Option.{option_map}
-use Rattle.plan_model.specs.declared.step.Step.{Step}
-use Rattle.branch_rules.specs.declared.weight.Weight.{Weight}
 use Rattle.cert_lines.specs.Numbers.{limit}
-use Rattle.cert_format.specs.declared.items.Items.{Items}
 use Rattle.cert_format.specs.declared.line.Context.{Context}
 use Rattle.cert_format.specs.declared.line.Form.{Form}
 use Rattle.cert_format.specs.declared.line.Form.TheVariants.{Start, Shapeless, Shaped}
 use Rattle.cert_format.specs.declared.line.LineState.{LineState}
 use Rattle.cert_format.specs.declared.kind.Kind.{Kind}
-use Rattle.cert_format.specs.declared.kind.Kind.TheVariants.{Version, Counts, Cost, Bound, Tours, Tour, Shores, Shore, Sets, Prices, Weights, Nodes, Pair, Cut, Price, Void, Fixed, End}
+use Rattle.cert_format.specs.declared.kind.Kind.TheVariants.{Tour, Shore, Prices, Weights, Bonds}
 use Rattle.cert_format.specs.Kinds.{expected, field_count, IsOneOf}
 use Rattle.cert_format.specs.Lists.{HoldsList, fields_ok, step_ok, vertex_ok, price_ok, weight_ok}
+use Rattle.cert_format.specs.Groups.{HoldsGroups}
 use Rattle.cert_format.specs.Parts.{LineItems, no_items, part_words, IsHopeless}
 
 -- a number, or the limit where it is past it
@@ -25,6 +23,7 @@ HoldsItems Tour context line x = HoldsList line.steps (slice_index line.fields.i
 HoldsItems Shore context line x = HoldsList line.vertices (slice_index line.fields.items 0) line.in_range vertex_ok x.vertices
 HoldsItems Prices context line x = HoldsList line.services (slice_index line.fields.items 1) line.in_range price_ok x.services
 HoldsItems Weights context line x = HoldsList line.weights (slice_index line.fields.items 0) line.in_range (weight_ok context.shores) x.weights × (line.waiting ≡ option_map lesser x.waiting)
+HoldsItems Bonds context line x = HoldsGroups line.groups line.in_range x.groups x.rest
 HoldsItems _ context line x = Unit {0}
 
 -- the words are those of a line of this kind, of which not all may have come

@@ -1,14 +1,16 @@
 -- Items that are held, and tests of the numbers of a line.
-use Rattle.std.specs.Prelude.{◌≡◌, ℕ, ◌+◌, ◌-◌, ◌^◌, min, Bool, true, ◌&&◌, nat_le, nat_lt, ℤ, pos, neg_ℤ, List, length, slice_index, take, int_le, not, ◌==◌}
+use Rattle.std.specs.Prelude.{◌≡◌, ℕ, ◌-◌, min, Bool, true, ◌&&◌, nat_le, nat_lt, pos, List, length, slice_index, take, not, ◌==◌}
 use Rattle.std.specs.Ordering.{int_eq}
 use Rattle.std.specs.List.{list_all}
 use Rattle.plan_model.specs.declared.step.Step.{Step}
 use Rattle.branch_rules.specs.declared.weight.Weight.{Weight}
 use Rattle.cert_format.specs.Parts.{LineItems}
+pub use Rattle.cert_format.specs.Numbers.{is_within, price_ok}
+use Rattle.cert_format.specs.Groups.{groups_ok}
 use Rattle.cert_format.specs.declared.items.Items.{Items}
 use Rattle.cert_format.specs.declared.line.Context.{Context}
 use Rattle.cert_format.specs.declared.kind.Kind.{Kind}
-use Rattle.cert_format.specs.declared.kind.Kind.TheVariants.{Version, Counts, Cost, Bound, Tours, Tour, Shores, Shore, Sets, Prices, Weights, Nodes, Pair, Cut, Price, Void, Fixed, End}
+use Rattle.cert_format.specs.declared.kind.Kind.TheVariants.{Version, Counts, Cost, Bound, Tours, Tour, Shores, Shore, Sets, Prices, Weights, Bonds, Nodes, Pair, Cut, Price, Void, Fixed, End}
 
 -- of these items so many are stated, and the numbers before them are in range or not: of items that are all in range the first
 -- are kept
@@ -19,18 +21,12 @@ pub record HoldsList {T : Type 0} (items : Items T) (stated : ℕ) (head : Bool)
   pub in_range : items.in_range ≡ (head && list_all ok xs)
   pub kept : items.in_range ≡ true → items.kept.items ≡ take stated xs
 
-abbrev pub is_within : (first last n : ℕ) → Bool
-is_within first last n = nat_le first n && nat_le n last
-
 -- the numbers of an item are in range
 abbrev pub step_ok : Step → Bool
 step_ok s = is_within 1 4000 s.edge
 
 abbrev pub vertex_ok : ℕ → Bool
 vertex_ok v = is_within 1 1000 v
-
-abbrev pub price_ok : ℤ → Bool
-price_ok z = int_le (neg_ℤ (pos 1000000000000000)) z && int_le z (pos 1000000000000000)
 
 abbrev pub weight_ok : ℕ → Weight → Bool
 weight_ok borders w = is_within 1 borders w.shore && price_ok w.weight
@@ -52,6 +48,7 @@ fields_ok Shore c f = is_within 1 999 (slice_index f 0)
 fields_ok Sets c f = nat_le (slice_index f 0) 256
 fields_ok Prices c f = is_within 1 1000000 (slice_index f 0) && nat_le (slice_index f 1) 600
 fields_ok Weights c f = nat_le (slice_index f 0) c.shores
+fields_ok Bonds c f = nat_le (slice_index f 0) 2000
 fields_ok Nodes c f = is_within 1 2097153 (slice_index f 0)
 fields_ok Pair c f = is_within 1 600 (slice_index f 0) && is_within 1 600 (slice_index f 1)
 fields_ok Cut c f = is_within 1 c.shores (slice_index f 0) && nat_le (slice_index f 1) 1000000
@@ -66,4 +63,5 @@ items_ok Tour c x = list_all step_ok x.steps
 items_ok Shore c x = list_all vertex_ok x.vertices
 items_ok Prices c x = list_all price_ok x.services
 items_ok Weights c x = list_all (weight_ok c.shores) x.weights
+items_ok Bonds c x = groups_ok x.groups x.rest
 items_ok _ c x = true

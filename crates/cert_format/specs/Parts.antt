@@ -1,16 +1,17 @@
 -- A line in parts: its kind, the numbers behind its first word, and its items.
-use Rattle.std.specs.Prelude.{◌≡◌, ℕ, zero, suc, ◌+◌, ◌<◌, ◌≤◌, min, Bool, true, ◌&&◌, nat_le, ℤ, pos, neg_ℤ, List, [], ◌∷◌, ◌++◌, length, map, slice_index, take, Option, Some, None}
-use Rattle.std.specs.List.{flat_map, list_all}
+use Rattle.std.specs.Prelude.{◌≡◌, ℕ, true, ℤ, List, [], ◌∷◌, ◌++◌, map, slice_index, Option, Some, None}
+use Rattle.std.specs.List.{flat_map}
 use Rattle.plan_model.specs.declared.step.Step.{Step}
+use Rattle.branch_rules.specs.Bonds.{GroupWeight}
 use Rattle.branch_rules.specs.declared.weight.Weight.{Weight}
 use Rattle.branch_rules.specs.declared.node.Node.TheVariants as nodes_are
 use Rattle.cert_lines.specs.Numerals.{numeral, signed_numeral}
 use Rattle.cert_lines.specs.Lines as lines
-use Rattle.cert_lines.specs.Lines.{Line, step_word, weight_words, words_of}
+use Rattle.cert_lines.specs.Lines.{Line, Remainder, nothing, step_word, weight_words, group_words, remainder_words, words_of}
 use Rattle.cert_lines.specs.Order.{follows}
 use Rattle.cert_lines.specs.declared.next.Next.{Next}
 use Rattle.cert_format.specs.declared.kind.Kind.{Kind}
-use Rattle.cert_format.specs.declared.kind.Kind.TheVariants.{Version, Counts, Cost, Bound, Tours, Tour, Shores, Shore, Sets, Prices, Weights, Nodes, Pair, Cut, Price, Void, Fixed, End}
+use Rattle.cert_format.specs.declared.kind.Kind.TheVariants.{Version, Counts, Cost, Bound, Tours, Tour, Shores, Shore, Sets, Prices, Weights, Bonds, Nodes, Pair, Cut, Price, Void, Fixed, End}
 use Rattle.cert_format.specs.Kinds.{keyword}
 
 -- the items of a line: those of its kind. Of a weight of which only the number of the shore has come, this number waits.
@@ -20,9 +21,11 @@ pub record LineItems : Type 0 where
   pub services : List ℤ
   pub weights : List Weight
   pub waiting : Option ℕ
+  pub groups : List GroupWeight
+  pub rest : Remainder
 
 abbrev pub no_items : LineItems
-no_items = record { steps = []; vertices = []; services = []; weights = []; waiting = None }
+no_items = record { steps = []; vertices = []; services = []; weights = []; waiting = None; groups = []; rest = nothing }
 
 abbrev pub waiting_words : Option ℕ → List (List ℕ)
 waiting_words None = []
@@ -33,6 +36,7 @@ item_words Tour x = map step_word x.steps
 item_words Shore x = map numeral x.vertices
 item_words Prices x = map signed_numeral x.services
 item_words Weights x = flat_map weight_words x.weights ++ waiting_words x.waiting
+item_words Bonds x = flat_map group_words x.groups ++ remainder_words x.rest
 item_words _ x = []
 
 -- the words of a line, by its parts
@@ -52,6 +56,7 @@ line_with Shore n x = lines.shore (slice_index n 0) x.vertices
 line_with Sets n x = lines.sets (slice_index n 0)
 line_with Prices n x = lines.prices (slice_index n 0) (slice_index n 1) x.services
 line_with Weights n x = lines.weights (slice_index n 0) x.weights
+line_with Bonds n x = lines.bonds (slice_index n 0) x.groups x.rest
 line_with Nodes n x = lines.nodes (slice_index n 0)
 line_with Pair n x = lines.node (nodes_are.Pair (slice_index n 0) (slice_index n 1))
 line_with Cut n x = lines.node (nodes_are.Cut (slice_index n 0) (slice_index n 1))

@@ -1,14 +1,15 @@
 -- The text of a certificate, in the pieces in which it is written.
-use Rattle.std.specs.Prelude.{ℕ, ℤ, List, [], ◌∷◌, ◌++◌, length, codes, Option, Some, None}
+use Rattle.std.specs.Prelude.{ℕ, ℤ, Bool, true, false, List, [], ◌∷◌, ◌++◌, length, codes, Option, Some, None}
 use Rattle.std.specs.List.{flat_map}
 use Rattle.plan_model.specs.declared.step.Step.{Step}
+use Rattle.branch_rules.specs.Bonds.{GroupWeight}
 use Rattle.branch_rules.specs.Prices.{Prices}
 use Rattle.branch_rules.specs.declared.weight.Weight.{Weight}
 use Rattle.branch_rules.specs.declared.node.Node.{Node}
 use Rattle.branch_rules.specs.declared.node.Node.TheVariants.{Pair, Cut, Price, Void, Fixed}
 use Rattle.cert_lines.specs.declared.counts.Counts.{Counts}
 use Rattle.cert_lines.specs.Numerals.{numeral, signed_numeral}
-use Rattle.cert_lines.specs.Lines.{mark_of, after_blank, step_word}
+use Rattle.cert_lines.specs.Lines.{after_blank, step_word}
 
 -- items, each with a blank before it
 abbrev pub number_piece : ℕ → List ℕ
@@ -22,6 +23,9 @@ price_piece z = after_blank (signed_numeral z)
 
 unfoldable pub weight_piece : Weight → List ℕ
 weight_piece w = number_piece w.shore ++ price_piece w.weight
+
+unfoldable pub group_piece : GroupWeight → List ℕ
+group_piece w = price_piece w.weight ++ (number_piece (length w.edges) ++ flat_map number_piece w.edges)
 
 -- a line of a word and one number, and one of two numbers
 unfoldable pub number_line : List ℕ → ℕ → List ℕ
@@ -57,8 +61,16 @@ prices_text set = prices_head set ++ (flat_map price_piece set.services ++ 10 �
 unfoldable pub weights_text : Prices → List ℕ
 weights_text set = codes "weights" ++ (number_piece (length set.weights) ++ (flat_map weight_piece set.weights ++ 10 ∷ []))
 
-unfoldable pub set_text : Prices → List ℕ
-set_text set = prices_text set ++ weights_text set
+unfoldable pub bonds_text : Prices → List ℕ
+bonds_text set = codes "bonds" ++ (number_piece (length set.groups) ++ (flat_map group_piece set.groups ++ 10 ∷ []))
+
+-- the line of groups, where some set has one
+abbrev pub groups_text : (grouped : Bool) → Prices → List ℕ
+groups_text false set = []
+groups_text true set = bonds_text set
+
+unfoldable pub set_text : (grouped : Bool) → Prices → List ℕ
+set_text grouped set = prices_text set ++ (weights_text set ++ groups_text grouped set)
 
 unfoldable pub node_text : Node → List ℕ
 node_text (Pair a b) = pair_line (codes "pair") a b
@@ -68,12 +80,17 @@ node_text Void = codes "void\n"
 node_text Fixed = codes "fixed\n"
 
 -- the version, with the numbers of the instance where they are known
-unfoldable pub second_text : Counts → List ℕ
-second_text c = number_line (codes "carp-certificate") 2 ++ counts_line c
+unfoldable pub second_text : (version : ℕ) → Counts → List ℕ
+second_text version c = number_line (codes "carp-certificate") version ++ counts_line c
 
-unfoldable pub version_text : Option Counts → List ℕ
-version_text None = number_line (codes "carp-certificate") 1
-version_text (Some c) = second_text c
+-- the version of a certificate with the numbers of the instance
+abbrev pub version_with : (grouped : Bool) → ℕ
+version_with false = 2
+version_with true = 4
+
+unfoldable pub version_text : Option Counts → (grouped : Bool) → List ℕ
+version_text None grouped = number_line (codes "carp-certificate") 1
+version_text (Some c) grouped = second_text (version_with grouped) c
 
 -- the groups of lines
 unfoldable pub plan_text : List (List Step) → List ℕ
@@ -82,8 +99,8 @@ plan_text plan = number_line (codes "tours") (length plan) ++ flat_map tour_text
 unfoldable pub pool_text : List (List ℕ) → List ℕ
 pool_text pool = number_line (codes "shores") (length pool) ++ flat_map shore_text pool
 
-unfoldable pub sets_text : List Prices → List ℕ
-sets_text sets = number_line (codes "sets") (length sets) ++ flat_map set_text sets
+unfoldable pub sets_text : (grouped : Bool) → List Prices → List ℕ
+sets_text grouped sets = number_line (codes "sets") (length sets) ++ flat_map (set_text grouped) sets
 
 unfoldable pub nodes_text : List Node → List ℕ
 nodes_text nodes = number_line (codes "nodes") (length nodes) ++ (flat_map node_text nodes ++ codes "end\n")

@@ -1,14 +1,10 @@
 -- What a reader in pieces answers, by the bytes that it has taken.
-use Rattle.std.specs.Prelude.{◌≡◌, ◌≢◌, ℕ, ◌≤◌, List, [], ◌∷◌, ◌++◌, length, take, ◌⊎◌, Result, Ok, Err}
-use Rattle.carp_base.specs.declared.fail.Fail.{Fail}
-use Rattle.carp_base.specs.declared.fail.Fail.TheVariants.{Memory, Refused}
+use Rattle.std.specs.Prelude.{◌≡◌, ℕ, ◌≤◌, List, [], ◌∷◌, ◌++◌, length, take, ◌⊎◌}
 use Rattle.cert_lines.specs.declared.fault.CertFault.{CertFault}
 use Rattle.cert_lines.specs.declared.item.Item.{Item}
 use Rattle.cert_lines.specs.declared.item.Item.TheVariants.{Quiet, Head, Node, Whole}
-use Rattle.cert_lines.specs.declared.next.Next.TheVariants.{Nothing}
-use Rattle.cert_lines.specs.Order.{LatestFirst, next_of}
-use Rattle.cert_lines.specs.Texts.{ReadsAs, BreaksAt, IsFaultOf, items_of}
-use Rattle.cert_format.specs.declared.cert_reader.CertReader.{CertReader}
+use Rattle.cert_lines.specs.Order.{LatestFirst}
+use Rattle.cert_lines.specs.Texts.{ReadsAs, BreaksAt, items_of}
 
 -- the good lines of the bytes, up to the first bad one, say this
 abbrev pub SaysSoFar : List ℕ → LatestFirst → Type 0

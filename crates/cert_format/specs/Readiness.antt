@@ -2,10 +2,10 @@
 use Rattle.std.specs.Prelude.{◌≡◌, ℕ, true, false, List, length, slice_index}
 use Rattle.cert_lines.specs.Order.{LatestFirst}
 use Rattle.cert_lines.specs.Ranges.{IsInRange}
-use Rattle.cert_lines.specs.Agreement.{Agrees}
+use Rattle.cert_lines.specs.Agreement.{Agrees, AreGroups}
 use Rattle.cert_format.specs.declared.line.LineState.{LineState}
 use Rattle.cert_format.specs.declared.kind.Kind.{Kind}
-use Rattle.cert_format.specs.declared.kind.Kind.TheVariants.{Version, Counts, Cost, Bound, Tours, Tour, Shores, Shore, Sets, Prices, Weights, Nodes, Pair, Cut, Price, Void, Fixed, End}
+use Rattle.cert_format.specs.declared.kind.Kind.TheVariants.{Tour, Shore, Prices, Weights, Bonds}
 use Rattle.cert_format.specs.Kinds.{field_count}
 use Rattle.cert_format.specs.Parts.{LineItems, line_with}
 use Rattle.cert_format.specs.Judging.{has_stated, IsLine}
@@ -16,6 +16,7 @@ AreKept Tour line numbers x = (line.steps.kept.items ≡ x.steps) × (length x.s
 AreKept Shore line numbers x = (line.vertices.kept.items ≡ x.vertices) × (length x.vertices ≡ slice_index numbers 0)
 AreKept Prices line numbers x = (line.services.kept.items ≡ x.services) × (length x.services ≡ slice_index numbers 1)
 AreKept Weights line numbers x = (line.weights.kept.items ≡ x.weights) × (length x.weights ≡ slice_index numbers 0)
+AreKept Bonds line numbers x = (line.groups.kept.items ≡ x.groups) × AreGroups (slice_index numbers 0) x.groups x.rest
 AreKept _ line numbers x = Unit {0}
 
 -- A line of which all words have come, and which ends well.

@@ -9,13 +9,14 @@ ghost use Rattle.cert_lines.specs.Agreement.{BecomesWhole};
 ghost use Rattle.cert_lines.specs.declared.next.Next.TheVariants as stands;
 ghost use Rattle.cert_lines.specs.Order.{children, LatestFirst, nodes_to_come, sets_to_come, shores_to_come, tours_to_come};
 ghost use Rattle.cert_lines.specs.Lines as said_by;
-ghost use Rattle.cert_lines.specs.Certificates.{nodes_of};
+ghost use Rattle.cert_lines.specs.Certificates.{nodes_of, services_of, unit_of};
 ghost use Rattle.cert_format.specs.Lists.{price_ok, weight_fine};
+ghost use Rattle.cert_format.specs.Groups.{AreSetGroups};
 ghost use Rattle.cert_format.specs.Drafts.{AreFinePrices, HoldsDraft, IsBounded};
 
 use crate::CertHead;
 use crate::line::{Context, is_price};
-use branch_rules::{Node, PriceSet, Weight};
+use branch_rules::{Node, PriceSet, Weight, WeightedGroup};
 use carp_base::{Fail, Memory};
 use cert_lines::{Counts, Next};
 use cut_pool::{PoolFull, Shore, ShorePool};
@@ -36,6 +37,12 @@ pub(crate) struct Draft {
     pub(crate) unit: u64,
     /// The latest prices.
     pub(crate) services: Vec<i64>,
+    /// Whether the text is of version 4.
+    pub(crate) fourth: bool,
+    /// Whether some price set has a group.
+    pub(crate) grouped: bool,
+    /// The set whose groups stand next.
+    pub(crate) set: Option<PriceSet>,
     /// What stands before the first node.
     pub(crate) head: CertHead,
 }
@@ -52,6 +59,9 @@ impl Draft {
             steps: 0,
             unit: 0,
             services: Vec::new(alloc),
+            fourth: false,
+            grouped: false,
+            set: None,
             head: CertHead {
                 cost: 0,
                 bound: 0,
@@ -98,6 +108,7 @@ impl Draft {
     {
         self.lines += 1;
         self.next = if n == 1 { Next::Cost } else { Next::Counts };
+        self.fourth = n == 4;
     }
 
     /// Takes over the numbers of the instance.
@@ -251,10 +262,51 @@ impl Draft {
             return Ok(false);
         }
         let set = PriceSet::new(alloc, self.unit, &self.services, weights)?;
+        self.place_set(left, set)?;
+        Ok(true)
+    }
+
+    // Takes over a set without groups: in version 4 they stand on the next line.
+    fn place_set(&mut self, left: u64, set: PriceSet) -> Result<(), Memory>
+        requires bounded { IsBounded self.old }
+        requires next { self.old.next ≡ stands.Weights left }
+        ensures bounded { IsBounded self.new }
+        ensures held { (said : LatestFirst) (n : ℕ) → HoldsDraft self.old said → set ≡ record { unit = unit_of said; services = services_of said; weights = set.weights; groups = [] }
+            → OnOk result (HoldsDraft self.new (said_by.weights n set.weights ∷ said)) }
+    {
+        if self.fourth {
+            self.set = Some(set);
+            self.lines += 1;
+            self.next = Next::Bonds { left };
+            return Ok(());
+        }
         self.head.sets.push(set)?;
         self.lines += 1;
         self.next = sets_to_come(left - 1);
-        Ok(true)
+        Ok(())
+    }
+
+    /// Takes over the groups of the set that is held.
+    pub(crate) fn accept_groups(
+        &mut self,
+        left: u64,
+        groups: Vec<WeightedGroup>,
+    ) -> Result<(), Memory>
+        requires bounded { IsBounded self.old }
+        requires next { self.old.next ≡ stands.Bonds left }
+        requires groups { AreSetGroups groups.items }
+        ensures bounded { IsBounded self.new }
+        ensures held { (said : LatestFirst) → HoldsDraft self.old said → OnOk result (HoldsDraft self.new (said_by.bonds (length groups.items) groups.items said_by.nothing ∷ said)) }
+    {
+        let Some(set) = self.set.take() else {
+            return Err(Memory);
+        };
+        let some = !groups.is_empty();
+        self.grouped = self.grouped || some;
+        self.lines += 1;
+        self.next = sets_to_come(left - 1);
+        self.head.sets.push(set.with_groups(groups))?;
+        Ok(())
     }
 
     /// Takes over the number of nodes.

@@ -1,10 +1,10 @@
 // What is made of a whole line.
-ghost use Rattle.std.specs.Prelude.{◌≡◌, ℕ, ◌&&◌, List, length, true, false, IfOk, IsTrue, ◌↔◌, slice_index, [], ◌∷◌};
+ghost use Rattle.std.specs.Prelude.{◌≡◌, ◌≤◌, ℕ, ◌&&◌, List, length, true, false, IfOk, IsTrue, ◌↔◌, slice_index, [], ◌∷◌};
 ghost use Rattle.cut_pool.specs.Shores.{IsShore};
 ghost use Rattle.cert_lines.specs.Agreement.{IsPairInOrder};
 ghost use Rattle.cert_lines.specs.Order.{LatestFirst, left_of, open_of};
 ghost use Rattle.cert_format.specs.Drafts.{HoldsDraft, IsBounded};
-ghost use Rattle.cert_format.specs.Judging.{AreNodeNumbers, ShoreJudged, WeightsJudged, node_with, are_stated, context_of, ends_well, has_stated, Judged, list_in_range, NodeJudged};
+ghost use Rattle.cert_format.specs.Judging.{AreNodeNumbers, ShoreJudged, WeightsJudged, node_with, GroupsJudged, SetsJudged, are_stated, awaits_weight, context_of, ends_well, has_stated, Judged, list_in_range, NodeJudged};
 ghost use Rattle.cert_format.specs.Kinds.{expected, field_count, IsOneOf, next_for};
 ghost use Rattle.cert_format.specs.declared.kind.Kind.TheVariants.{Cut, Fixed, Pair, Price, Void};
 ghost use Rattle.cert_format.specs.Lists.{fields_ok};
@@ -13,13 +13,15 @@ ghost use Rattle.cert_format.specs.Readiness.{IsReady};
 ghost use Rattle.cert_lines.specs.declared.next.Next.TheVariants as stands;
 
 use crate::draft::Draft;
+use crate::groups::{Awaited, are_set_groups};
 use crate::items::Items;
 use crate::kind::Kind;
 use crate::line::{Form, LineState, fields_in_range};
-use branch_rules::{Node, Weight};
+use branch_rules::{Node, Weight, WeightedGroup};
 use carp_base::Memory;
 use cert_lines::{Counts, Item, Next, numerals_grow};
 use std::alloc::Global;
+use std::mem;
 
 /// What is made of a whole line.
 #[derive(Clone, Copy, Debug, PartialEq, Eq)]
@@ -38,7 +40,7 @@ fn ends_well(kind: Kind, line: &LineState) -> bool
     ensures { result ≡ ends_well kind line.now }
 {
     match kind {
-        Kind::Version => line.fields[0] == 1 || line.fields[0] == 2,
+        Kind::Version => line.fields[0] == 1 || line.fields[0] == 2 || line.fields[0] == 4,
         Kind::Weights => line.waiting.is_none(),
         _ => true,
     }
@@ -53,6 +55,7 @@ fn list_in_range(kind: Kind, line: &LineState) -> bool
         Kind::Shore => line.vertices.in_range,
         Kind::Prices => line.services.in_range,
         Kind::Weights => line.weights.in_range,
+        Kind::Bonds => line.groups.in_range,
         _ => true,
     }
 }
@@ -67,6 +70,11 @@ fn has_stated(kind: Kind, line: &LineState) -> bool
         Kind::Shore => are_stated(&line.vertices),
         Kind::Prices => are_stated(&line.services),
         Kind::Weights => are_stated(&line.weights),
+        Kind::Bonds => {
+            line.groups.in_order
+                && awaits_weight(line.groups.awaited)
+                && line.groups.kept.len() as u64 == line.fields[0]
+        }
         _ => true,
     }
 }
@@ -75,6 +83,13 @@ fn are_stated<T: Drop>(items: &Items<T>) -> bool
     ensures { result ≡ are_stated items.now }
 {
     !items.more && items.found == items.stated
+}
+
+// Whether the last group is complete.
+fn awaits_weight(awaited: Awaited) -> bool
+    ensures { result ≡ awaits_weight awaited }
+{
+    matches!(awaited, Awaited::Weight)
 }
 
 // Whether a line of this kind may stand next.
@@ -93,6 +108,7 @@ fn may_stand(next: Next, kind: Kind) -> bool
         Next::Sets => matches!(kind, Kind::Sets),
         Next::Prices { .. } => matches!(kind, Kind::Prices),
         Next::Weights { .. } => matches!(kind, Kind::Weights),
+        Next::Bonds { .. } => matches!(kind, Kind::Bonds),
         Next::Nodes => matches!(kind, Kind::Nodes),
         Next::Node { .. } => is_node(kind),
         Next::End => matches!(kind, Kind::End),
@@ -133,6 +149,7 @@ fn left_of(next: Next) -> u64
         | Next::Shore { left }
         | Next::Prices { left }
         | Next::Weights { left }
+        | Next::Bonds { left }
         | Next::Node { left, .. } => left,
         _ => 0,
     }
@@ -238,16 +255,18 @@ impl Draft {
                 let verdict = self.judge_shore(alloc, left, line.vertices.kept.as_slice())?;
                 Ok(verdict)
             }
-            Kind::Sets => {
-                self.accept_sets(line.fields[0]);
-                Ok(Verdict::Good(Item::Quiet))
-            }
+            Kind::Sets => { Ok(self.judge_sets(line.fields[0])) }
             Kind::Prices => {
                 self.accept_prices(left, line.fields[0], &mut line.services.kept);
                 Ok(Verdict::Good(Item::Quiet))
             }
             Kind::Weights => {
                 let verdict = self.judge_weights(alloc, left, line.weights.kept.as_slice())?;
+                Ok(verdict)
+            }
+            Kind::Bonds => {
+                let groups = mem::replace(&mut line.groups.kept, Vec::new(alloc));
+                let verdict = self.judge_groups(left, groups)?;
                 Ok(verdict)
             }
             Kind::Nodes => {
@@ -295,6 +314,38 @@ impl Draft {
         if !self.accept_weights(alloc, left, weights)? {
             return Ok(Verdict::Syntax);
         }
+        Ok(Verdict::Good(Item::Quiet))
+    }
+
+    // Takes over the number of sets; in version 4 there is one.
+    fn judge_sets(&mut self, n: u64) -> Verdict
+        requires bounded { IsBounded self.old }
+        requires next { self.old.next ≡ stands.Sets }
+        requires few { n ≤ 256 }
+        ensures bounded { IsBounded self.new }
+        ensures judged { (said : LatestFirst) → HoldsDraft self.old said → SetsJudged result n said self.new }
+    {
+        if self.fourth && n == 0 {
+            return Verdict::Syntax;
+        }
+        self.accept_sets(n);
+        Verdict::Good(Item::Quiet)
+    }
+
+    // Takes over groups, where they are those of a price set, and some set has one if it is the last.
+    fn judge_groups(&mut self, left: u64, groups: Vec<WeightedGroup>) -> Result<Verdict, Memory>
+        requires bounded { IsBounded self.old }
+        requires next { self.old.next ≡ stands.Bonds left }
+        ensures bounded { IsBounded self.new }
+        ensures judged { (said : LatestFirst) → HoldsDraft self.old said → IfOk result (λ verdict. GroupsJudged verdict groups.items left said self.new) }
+    {
+        if !are_set_groups(&groups) {
+            return Ok(Verdict::Syntax);
+        }
+        if left == 1 && !self.grouped && groups.is_empty() {
+            return Ok(Verdict::Syntax);
+        }
+        self.accept_groups(left, groups)?;
         Ok(Verdict::Good(Item::Quiet))
     }
 

@@ -10,6 +10,7 @@ mod cert;
 mod cert_reader;
 mod counting;
 mod draft;
+mod groups;
 mod items;
 mod judging;
 mod kind;

@@ -3,17 +3,18 @@ ghost use Rattle.std.specs.Prelude.{◌≡◌, ℕ, List, [], ◌++◌, ◌∷�
 ghost use Rattle.cert_format.specs.Parts.{no_items};
 ghost use Rattle.cert_format.specs.declared.line.Form.TheVariants.{Shaped};
 ghost use Rattle.cert_lines.specs.Words.{HoldsWord};
-ghost use Rattle.cert_format.specs.declared.kind.Kind.TheVariants.{Tour, Shore, Prices, Weights};
+ghost use Rattle.cert_format.specs.declared.kind.Kind.TheVariants.{Tour, Shore, Prices, Weights, Bonds};
 ghost use Rattle.cert_format.specs.Kinds.{field_count};
 ghost use Rattle.cert_format.specs.Lists.{fields_ok, price_ok, step_ok, vertex_ok, is_within};
 ghost use Rattle.cert_format.specs.LineStates.{HoldsItems, HoldsLine, IsShaped};
 
+use crate::groups::Groups;
 use crate::items::Items;
 use crate::kind::{Kind, kind_of};
 use arrayvec::ArrayVec;
 use branch_rules::Weight;
 use carp_base::Memory;
-use cert_lines::{Next, Word};
+use cert_lines::{Next, Word, numerals_grow};
 use plan_model::Step;
 use std::alloc::Global;
 
@@ -55,6 +56,7 @@ pub(crate) struct LineState {
     pub(crate) services: Items<i64>,
     pub(crate) weights: Items<Weight>,
     pub(crate) waiting: Option<u64>,
+    pub(crate) groups: Groups,
 }
 
 impl LineState {
@@ -71,6 +73,7 @@ impl LineState {
             services: Items::new(alloc),
             weights: Items::new(alloc),
             waiting: None,
+            groups: Groups::new(alloc),
         }
     }
 
@@ -155,6 +158,7 @@ impl LineState {
             Kind::Shore => self.vertices.begin(self.fields[0], self.in_range),
             Kind::Prices => self.services.begin(self.fields[1], self.in_range),
             Kind::Weights => self.weights.begin(self.fields[0], self.in_range),
+            Kind::Bonds => self.groups.begin(self.in_range),
             _ => {}
         }
     }
@@ -170,6 +174,7 @@ impl LineState {
             Kind::Shore => return self.take_vertex(word),
             Kind::Prices => return self.take_service(word),
             Kind::Weights => return self.take_weight(context.shores, word),
+            Kind::Bonds => return self.take_bond(word),
             _ => self.form = Form::Shapeless,
         }
         Ok(())
@@ -257,6 +262,18 @@ impl LineState {
         self.weights.add(Weight { shore, weight }, is_weight(shores, number, weight))?;
         Ok(())
     }
+
+    // Takes a word of a group.
+    fn take_bond(&mut self, word: &Word) -> Result<(), Memory>
+        ensures { (context : Context) (words : List (List ℕ)) (text : List ℕ) → IsShaped context self.old words Bonds → 1 ≤ length self.old.fields.items
+            → HoldsWord word.now text → self.old.form ≡ Shaped Bonds → OnOk result (HoldsLine context self.new (words ++ text ∷ [])) }
+    {
+        numerals_grow();
+        if !self.groups.take(word)? {
+            self.form = Form::Shapeless;
+        }
+        Ok(())
+    }
 }
 
 // A vertex or a shore past this number is read as this one.
@@ -277,7 +294,7 @@ fn is_weight(shores: u64, shore: u64, weight: i64) -> bool
 }
 
 // Whether a number is one of those from the first to the last.
-fn is_in(first: u64, last: u64, n: u64) -> bool
+pub(crate) fn is_in(first: u64, last: u64, n: u64) -> bool
     ensures { result ≡ is_within first last n }
 {
     first <= n && n <= last
@@ -299,6 +316,7 @@ pub(crate) fn fields_in_range(kind: Kind, context: Context, fields: &[u64]) -> b
         Kind::Sets => fields[0] <= 256,
         Kind::Prices => is_in(1, 1_000_000, fields[0]) && fields[1] <= 600,
         Kind::Weights => fields[0] <= context.shores,
+        Kind::Bonds => fields[0] <= 2000,
         Kind::Nodes => is_in(1, 2_097_153, fields[0]),
         Kind::Pair => is_in(1, 600, fields[0]) && is_in(1, 600, fields[1]),
         Kind::Cut => is_in(1, context.shores, fields[0]) && fields[1] <= 1_000_000,

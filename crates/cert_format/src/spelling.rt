@@ -1,10 +1,11 @@
 // Words and numbers of a line in a growing text.
 ghost use Rattle.std.specs.Prelude.{◌≡◌, ◌++◌, ◌∷◌, [], codes, OnOk};
+ghost use Rattle.std.specs.List.{flat_map};
 ghost use Rattle.cert_lines.specs.Numerals.{numeral, signed_numeral};
 ghost use Rattle.cert_lines.specs.Lines.{mark_of};
-ghost use Rattle.cert_format.specs.Pieces.{number_piece, step_piece, price_piece, weight_piece, number_line, pair_line, sizes_piece, loads_piece, counts_line};
+ghost use Rattle.cert_format.specs.Pieces.{number_piece, step_piece, price_piece, weight_piece, group_piece, number_line, pair_line, sizes_piece, loads_piece, counts_line};
 
-use branch_rules::Weight;
+use branch_rules::{Weight, WeightedGroup};
 use carp_base::Memory;
 use cert_lines::{Counts, numerals_are_decimals};
 use itoa::Buffer;
@@ -78,6 +79,26 @@ pub(crate) fn end_line(text: &mut Vec<u8>) -> Result<(), Memory>
 {
     text.push(b'\n')?;
     Ok(())
+}
+
+fn push_edges(text: &mut Vec<u8>, edges: &[u32]) -> Result<(), Memory>
+    ensures { OnOk result (text.new.items ≡ text.old.items ++ flat_map number_piece edges.now) }
+{
+    for edge in edges {
+        push_number(text, u64::from(*edge))?;
+    }
+    Ok(())
+}
+
+// Adds a weight on a group, its size and its edges, each after a blank.
+#[tactic(auto, unfolding(crate::specs::Pieces::group_piece))]
+pub(crate) fn push_group(text: &mut Vec<u8>, group: &WeightedGroup) -> Result<(), Memory>
+    ensures { OnOk result (text.new.items ≡ text.old.items ++ group_piece group.now) }
+{
+    let edges = group.edges();
+    push_price(text, group.weight())?;
+    push_number(text, edges.len() as u64)?;
+    push_edges(text, edges)
 }
 
 // Adds a line of a word and a number.

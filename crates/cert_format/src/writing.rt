@@ -2,6 +2,7 @@
 ghost use Rattle.std.specs.Prelude.{◌≡◌, ◌≤◌, ◌++◌, length, IfOk, OnOk};
 ghost use Rattle.std.specs.List.{flat_map};
 ghost use Rattle.branch_rules.specs.Prices.{price_in};
+ghost use Rattle.cert_lines.specs.Certificates.{has_groups, some_group};
 ghost use Rattle.cert_lines.specs.Spelling.{IsSpellable, text_of};
 ghost use Rattle.cert_lines.specs.Texts.{IsTextOf};
 ghost use Rattle.cert_format.specs.Certs.{certificate_in};
@@ -15,9 +16,13 @@ ghost use Rattle.cert_format.specs.Pieces.{
   prices_head,
   prices_text,
   weights_text,
+  group_piece,
+  bonds_text,
+  groups_text,
   set_text,
   node_text,
   second_text,
+  version_with,
   version_text,
   plan_text,
   pool_text,
@@ -28,10 +33,10 @@ ghost use Rattle.cert_format.specs.Pieces.{
 
 use crate::Cert;
 use crate::spelling::{
-    end_line, push_counts, push_line, push_number, push_pair, push_price, push_step, push_weight,
-    push_words,
+    end_line, push_counts, push_group, push_line, push_number, push_pair, push_price, push_step,
+    push_weight, push_words,
 };
-use branch_rules::{Node, PriceSet, Tree};
+use branch_rules::{Node, PriceSet, Tree, WeightedGroup};
 use carp_base::Memory;
 use cert_lines::{Counts, spelled_is_read};
 use cut_pool::{Shore, ShorePool};
@@ -164,29 +169,72 @@ fn push_weights(text: &mut Vec<u8>, set: &PriceSet) -> Result<(), Memory>
     end_line(text)
 }
 
-#[tactic(auto, unfolding(crate::specs::Pieces::set_text))]
-fn push_set(text: &mut Vec<u8>, set: &PriceSet) -> Result<(), Memory>
-    ensures { OnOk result (text.new.items ≡ text.old.items ++ set_text set.now) }
+fn push_each_group(text: &mut Vec<u8>, groups: &[WeightedGroup]) -> Result<(), Memory>
+    ensures { OnOk result (text.new.items ≡ text.old.items ++ flat_map group_piece groups.now) }
 {
-    push_prices(text, set)?;
-    push_weights(text, set)
+    for group in groups {
+        push_group(text, group)?;
+    }
+    Ok(())
 }
 
-fn push_each_set(text: &mut Vec<u8>, sets: &[PriceSet]) -> Result<(), Memory>
-    ensures { OnOk result (text.new.items ≡ text.old.items ++ flat_map set_text sets.now) }
+#[tactic(auto, unfolding(crate::specs::Pieces::bonds_text))]
+fn push_bonds(text: &mut Vec<u8>, set: &PriceSet) -> Result<(), Memory>
+    ensures { OnOk result (text.new.items ≡ text.old.items ++ bonds_text set.now) }
+{
+    let groups = set.groups();
+    text.extend_from_slice(b"bonds")?;
+    push_number(text, groups.len() as u64)?;
+    push_each_group(text, groups)?;
+    end_line(text)
+}
+
+fn push_groups(text: &mut Vec<u8>, grouped: bool, set: &PriceSet) -> Result<(), Memory>
+    ensures { OnOk result (text.new.items ≡ text.old.items ++ groups_text grouped set.now) }
+{
+    if grouped {
+        return push_bonds(text, set);
+    }
+    Ok(())
+}
+
+#[tactic(auto, unfolding(crate::specs::Pieces::set_text))]
+fn push_set(text: &mut Vec<u8>, grouped: bool, set: &PriceSet) -> Result<(), Memory>
+    ensures { OnOk result (text.new.items ≡ text.old.items ++ set_text grouped set.now) }
+{
+    push_prices(text, set)?;
+    push_weights(text, set)?;
+    push_groups(text, grouped, set)
+}
+
+fn push_each_set(text: &mut Vec<u8>, grouped: bool, sets: &[PriceSet]) -> Result<(), Memory>
+    ensures { OnOk result (text.new.items ≡ text.old.items ++ flat_map (set_text grouped) sets.now) }
 {
     for set in sets {
-        push_set(text, set)?;
+        push_set(text, grouped, set)?;
     }
     Ok(())
 }
 
 #[tactic(auto, unfolding(crate::specs::Pieces::sets_text))]
-fn push_sets(text: &mut Vec<u8>, sets: &[PriceSet]) -> Result<(), Memory>
-    ensures { OnOk result (text.new.items ≡ text.old.items ++ sets_text sets.now) }
+fn push_sets(text: &mut Vec<u8>, grouped: bool, sets: &[PriceSet]) -> Result<(), Memory>
+    ensures { OnOk result (text.new.items ≡ text.old.items ++ sets_text grouped sets.now) }
 {
     push_line(text, b"sets", sets.len() as u64)?;
-    push_each_set(text, sets)
+    push_each_set(text, grouped, sets)
+}
+
+// Whether some price set has a group.
+fn has_groups(sets: &[PriceSet]) -> bool
+    ensures { result ≡ has_groups sets.now }
+{
+    sets.iter().any(|set| has_group(set))
+}
+
+fn has_group(set: &PriceSet) -> bool
+    ensures { result ≡ some_group set.now.groups }
+{
+    !set.groups().is_empty()
 }
 
 #[tactic(auto, unfolding(crate::specs::Pieces::node_text))]
@@ -222,22 +270,29 @@ fn push_nodes(text: &mut Vec<u8>, tree: &Tree) -> Result<(), Memory>
 }
 
 #[tactic(auto, unfolding(crate::specs::Pieces::second_text))]
-fn push_second(text: &mut Vec<u8>, counts: Counts) -> Result<(), Memory>
-    ensures { OnOk result (text.new.items ≡ text.old.items ++ second_text counts) }
+fn push_second(text: &mut Vec<u8>, version: u64, counts: Counts) -> Result<(), Memory>
+    ensures { OnOk result (text.new.items ≡ text.old.items ++ second_text version counts) }
 {
-    push_line(text, b"carp-certificate", 2)?;
+    push_line(text, b"carp-certificate", version)?;
     push_counts(text, counts)?;
     Ok(())
 }
 
 #[tactic(auto, unfolding(crate::specs::Pieces::version_text))]
-fn push_version(text: &mut Vec<u8>, counts: Option<Counts>) -> Result<(), Memory>
-    ensures { OnOk result (text.new.items ≡ text.old.items ++ version_text counts) }
+fn push_version(text: &mut Vec<u8>, counts: Option<Counts>, grouped: bool) -> Result<(), Memory>
+    ensures { OnOk result (text.new.items ≡ text.old.items ++ version_text counts grouped) }
 {
     match counts {
         None => push_line(text, b"carp-certificate", 1),
-        Some(counts) => push_second(text, counts),
+        Some(counts) => push_second(text, version_with(grouped), counts),
     }
+}
+
+// The version of a certificate with the numbers of the instance.
+fn version_with(grouped: bool) -> u64
+    ensures { result ≡ version_with grouped }
+{
+    if grouped { 4 } else { 2 }
 }
 
 #[tactic(auto, unfolding(crate::specs::Pieces::values_text))]
@@ -248,7 +303,8 @@ fn push_values(text: &mut Vec<u8>, cost: u64, bound: u64) -> Result<(), Memory>
     push_line(text, b"bound", bound)
 }
 
-/// The text of a certificate, its one spelling: version 1 where it has no numbers of the instance, and else version 2.
+/// The text of a certificate, its one spelling: version 4 if some price set has a group, else version 2 if it has the numbers of the
+/// instance, and else version 1.
 ///
 /// Its error says only that memory was not to be had. It takes time and memory in proportion to the text.
 pub fn write_cert(alloc: Global, cert: &Cert) -> Result<Vec<u8>, Memory>
@@ -258,11 +314,12 @@ pub fn write_cert(alloc: Global, cert: &Cert) -> Result<Vec<u8>, Memory>
 {
     spelled_is_read();
     let mut text = Vec::new(alloc);
-    push_version(&mut text, cert.counts)?;
+    let grouped = has_groups(&cert.sets);
+    push_version(&mut text, cert.counts, grouped)?;
     push_values(&mut text, cert.cost, cert.bound)?;
     push_plan(&mut text, &cert.plan)?;
     push_pool(&mut text, &cert.shores)?;
-    push_sets(&mut text, &cert.sets)?;
+    push_sets(&mut text, grouped, &cert.sets)?;
     push_nodes(&mut text, &cert.tree)?;
     Ok(text)
 }

@@ -1,21 +1,24 @@
 -- The lines of tours, shores and price sets are good.
-use Rattle.std.proofs.Common.{◌≡◌, ◌≢◌, ℕ, zero, suc, ◌+◌, ◌-◌, ◌<◌, ◌≤◌, List, [], ◌∷◌, ◌++◌, map, length, get_or, IsTrue, refl, sym, ap, subst, ◌∙◌, append_assoc, arith, length-append}
+use Rattle.std.proofs.Common.{◌≡◌, ◌≢◌, ℕ, zero, suc, ◌+◌, ◌-◌, ◌<◌, ◌≤◌, Bool, true, false, cond, eqb, List, [], ◌∷◌, ◌++◌, map, length, get_or, IsTrue, refl, sym, ap, subst, ◌∙◌, append_assoc, arith, length-append}
 use Rattle.std.specs.List.{All, AllByRecursion, flat_map, sum_by}
 use Rattle.std.specs.List.Sorted.{IsStrictlyIncreasing}
+use Rattle.std.proofs.lemmas.Bool.{false≢true}
 use Rattle.std.proofs.lemmas.List.{get_or_append_left, get_or_default, length-map}
 use Rattle.std.proofs.lemmas.List.Elements.{All-map, All-weaker}
 use Rattle.std.proofs.lemmas.List.Sums.{sum_by-cons}
 use Rattle.std.proofs.Math.Seq.{get_or-append_seam}
 use Rattle.plan_model.specs.declared.step.Step.{Step}
 use Rattle.cut_pool.specs.Pools.{IsShoreNumber, AreDifferent, shore_at}
+use Rattle.branch_rules.specs.Limits.{IsPriceSet}
 use Rattle.branch_rules.specs.Prices.{Prices}
 use Rattle.branch_rules.specs.declared.weight.Weight.{Weight}
 use Rattle.cert_lines.specs.declared.next.Next.{Next}
 use Rattle.cert_lines.specs.declared.next.Next.TheVariants as stands
-use Rattle.cert_lines.specs.Lines.{Line, prices, weights}
-use Rattle.cert_lines.specs.Order.{LatestFirst, next_of, follows, left_of, tours_to_come, shores_to_come, sets_to_come}
-use Rattle.cert_lines.specs.Certificates.{steps_of, shores_of}
-use Rattle.cert_lines.specs.Ranges.{IsWithin, IsWeightInRange}
+use Rattle.cert_lines.specs.Lines.{Line, prices, weights, bonds, nothing}
+use Rattle.cert_lines.specs.Order.{LatestFirst, version_of, next_of, follows, left_of, tours_to_come, shores_to_come, sets_to_come}
+use Rattle.cert_lines.specs.Certificates.{steps_of, shores_of, sets_of, has_groups}
+use Rattle.cert_lines.specs.Ranges.{IsWithin, IsWeightInRange, IsGroupInRange, AreGroupsInRange}
+use Rattle.cert_lines.specs.Agreement.{AreGroups}
 use Rattle.cert_lines.specs.Spelling.{AreGood, tour_line, shore_line, set_lines, IsFineShore, IsFineSet}
 use Rattle.cert_lines.proofs.Listed.{listed}
 
@@ -95,20 +98,94 @@ weights_in pool set fine k d below = record {
   weight = (fine.prices.weights k d below).within;
 }
 
-pub sets_good : (all : List Prices) (pool : List (List ℕ)) (said : LatestFirst) (lines : List Line) → next_of said ≡ sets_to_come (length all) → shores_of said ≡ pool →
-    AllByRecursion (IsFineSet pool) all →
-    (next_of (listed (flat_map set_lines all) said) ≡ stands.Nodes → AreGood (listed (flat_map set_lines all) said) lines) → AreGood said (flat_map set_lines all ++ lines)
-sets_good [] pool said lines at has fine later = later at
-sets_good (set ∷ all) pool said lines at has fine later =
+-- The groups of a set.
+
+groups_in : (set : Prices) → IsPriceSet set → All (λ w. All (IsWithin 1 600) w.edges) set.groups → All IsGroupInRange set.groups
+groups_in set fine edges k d below =
+    let one = fine.groups k d below in
+    record { weight = one.within; size = record { from_first = one.two; to_last = one.few }; edges = edges k d below }
+
+groups_range : (pool : List (List ℕ)) (set : Prices) → IsFineSet pool set → AreGroupsInRange (length set.groups) set.groups nothing
+groups_range pool set fine = record {
+  few = fine.prices.few_groups;
+  each = groups_in set fine.prices fine.group_edges;
+  behind = tt;
+  few_edges = omega (arith, fine.prices.few_edges);
+}
+
+groups_agree : (pool : List (List ℕ)) (set : Prices) → IsFineSet pool set → AreGroups (length set.groups) set.groups nothing
+groups_agree pool set fine = record {
+  stated = refl;
+  complete = refl;
+  in_order = λ k d below. (let one = fine.prices.groups k d below in record { rising = one.rising; some = one.some; pair = one.pair });
+}
+
+-- The lines of a set.
+
+abbrev prices_line : Prices → Line
+prices_line set = prices set.unit (length set.services) set.services
+
+abbrev weights_line : Prices → Line
+weights_line set = weights (length set.weights) set.weights
+
+halves_good : (n : ℕ) (pool : List (List ℕ)) (set : Prices) (said : LatestFirst) (lines : List Line) → next_of said ≡ sets_to_come (suc n) → shores_of said ≡ pool →
+    IsFineSet pool set → AreGood (weights_line set ∷ (prices_line set ∷ said)) lines → AreGood said (prices_line set ∷ (weights_line set ∷ lines))
+halves_good n pool set said lines at has fine later =
     let borders : length pool ≡ length (shores_of said) = ap length (sym has) in (
-      subst (λ (y : Next). IsTrue (follows y (prices set.unit (length set.services) set.services))) (sym at) refl,
-      (record { from_first = fine.0.prices.some_unit; to_last = fine.0.prices.unit_in }, fine.0.prices.few_services, fine.0.prices.services),
+      subst (λ (y : Next). IsTrue (follows y (prices_line set))) (sym at) refl,
+      (record { from_first = fine.prices.some_unit; to_last = fine.prices.unit_in }, fine.prices.few_services, fine.prices.services),
       refl,
       (
         refl,
-        (omega (arith, few_weights pool set fine.0), subst (λ (n : ℕ). All (IsWeightInRange n) set.weights) borders (weights_in pool set fine.0)),
-        record { stated = refl; rising = fine.0.prices.rising; some = λ k d below. (fine.0.prices.weights k d below).some },
-        sets_good all pool (weights (length set.weights) set.weights ∷ (prices set.unit (length set.services) set.services ∷ said)) lines
-            (ap (λ (y : Next). sets_to_come (left_of y - 1)) at ∙ ap sets_to_come (less (length all))) has fine.1 later,
+        (omega (arith, few_weights pool set fine), subst (λ (k : ℕ). All (IsWeightInRange k) set.weights) borders (weights_in pool set fine)),
+        record { stated = refl; rising = fine.prices.rising; some = λ k d below. (fine.prices.weights k d below).some },
+        later,
       ),
+    )
+
+no_length : {X : Type 0} (xs : List X) → length xs ≡ 0 → xs ≡ []
+no_length {X} [] none = refl
+no_length {X} (x ∷ xs) none = absurd (omega (arith, none))
+
+-- with the last set some set has a group
+some_has : (set : Prices) (all : List Prices) (said : LatestFirst) (left : ℕ) → eqb (version_of said) 4 ≡ true → left ≡ suc (length all) →
+    IsTrue (has_groups (sets_of said ++ set ∷ all)) → left ≡ 1 →
+    IsTrue (has_groups (sets_of (bonds (length set.groups) set.groups nothing ∷ (weights_line set ∷ (prices_line set ∷ said)))))
+some_has set all said left in_version is some last =
+    let none : all ≡ [] = no_length all (omega (arith, is, last)) in
+    let before : sets_of said ≡ cond (eqb (version_of said) 4) (sets_of said) (sets_of said ++ record set { groups = [] } ∷ []) =
+    λ i. cond (sym in_version i) (sets_of said) (sets_of said ++ record set { groups = [] } ∷ []) in
+    subst (λ (sets : List Prices). IsTrue (has_groups sets)) (λ i. before i ++ set ∷ none i) some
+
+abbrev HasSome : Bool → List Prices → Type 0
+HasSome grouped all = grouped ≡ true → IsTrue (has_groups all)
+
+pub sets_good : (grouped : Bool) (all : List Prices) (pool : List (List ℕ)) (said : LatestFirst) (lines : List Line) → next_of said ≡ sets_to_come (length all) →
+    shores_of said ≡ pool → eqb (version_of said) 4 ≡ grouped → HasSome grouped (sets_of said ++ all) → AllByRecursion (IsFineSet pool) all →
+    (next_of (listed (flat_map (set_lines grouped) all) said) ≡ stands.Nodes → AreGood (listed (flat_map (set_lines grouped) all) said) lines) →
+    AreGood said (flat_map (set_lines grouped) all ++ lines)
+sets_good grouped [] pool said lines at has in_version some fine later = later at
+sets_good false (set ∷ all) pool said lines at has in_version some fine later =
+    halves_good (length all) pool set said (flat_map (set_lines false) all ++ lines) at has fine.0
+    (sets_good false all pool (weights_line set ∷ (prices_line set ∷ said)) lines
+    (ap (λ (b : Bool). cond b (stands.Bonds (left_of (next_of said))) (sets_to_come (left_of (next_of said) - 1))) in_version
+    ∙ ap (λ (y : Next). sets_to_come (left_of y - 1)) at ∙ ap sets_to_come (less (length all)))
+    has in_version (λ none. absurd (false≢true none)) fine.1 later)
+sets_good true (set ∷ all) pool said lines at has in_version some fine later =
+    let half : LatestFirst = weights_line set ∷ (prices_line set ∷ said) in
+    let bonds_at : next_of half ≡ stands.Bonds (suc (length all)) =
+    ap (λ (b : Bool). cond b (stands.Bonds (left_of (next_of said))) (sets_to_come (left_of (next_of said) - 1))) in_version
+    ∙ ap (λ (y : Next). stands.Bonds (left_of y)) at in
+    let line : Line = bonds (length set.groups) set.groups nothing in
+    let whole : sets_of (line ∷ half) ≡ sets_of said ++ set ∷ [] =
+    λ i. cond (in_version i) (sets_of said) (sets_of said ++ record set { groups = [] } ∷ []) ++ set ∷ [] in
+    halves_good (length all) pool set said (line ∷ (flat_map (set_lines true) all ++ lines)) at has fine.0 (
+      subst (λ (y : Next). IsTrue (follows y line)) (sym bonds_at) refl,
+      groups_range pool set fine.0,
+      (groups_agree pool set fine.0, some_has set all said (left_of (next_of half)) in_version (ap left_of bonds_at) (some refl)),
+      sets_good true all pool (line ∷ half) lines
+          (ap (λ (y : Next). sets_to_come (left_of y - 1)) bonds_at ∙ ap sets_to_come (less (length all)))
+          has in_version
+          (λ is. subst (λ (sets : List Prices). IsTrue (has_groups sets))
+          (sym (append_assoc (sets_of said) (set ∷ []) all) ∙ (λ i. sym whole i ++ all)) (some is)) fine.1 later,
     )

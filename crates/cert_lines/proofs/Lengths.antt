@@ -1,5 +1,5 @@
 -- The text of a certificate is short: for each kind of line, what it takes by the digits of its numbers.
-use Rattle.std.proofs.Common.{◌≡◌, ℕ, ◌+◌, ◌*◌, ◌^◌, ◌<◌, ◌≤◌, ℤ, pos, negsuc, List, [], ◌∷◌, ◌++◌, map, length, codes, Option, Some, None, IfSome, refl, ap, length-append, arith, lit<, lit≤, suc}
+use Rattle.std.proofs.Common.{◌≡◌, ℕ, ◌+◌, ◌*◌, ◌^◌, ◌<◌, ◌≤◌, ℤ, pos, negsuc, Bool, true, false, List, [], ◌∷◌, ◌++◌, map, length, codes, Option, Some, None, IfSome, refl, ap, append_assoc, length-append, arith, lit<, lit≤, suc}
 use Rattle.std.specs.List.{All, AllByRecursion, flat_map, sum_by}
 use Rattle.std.proofs.lemmas.Fmt.{length-decimal-le}
 use Rattle.std.proofs.lemmas.Int.{ints}
@@ -7,20 +7,21 @@ use Rattle.std.proofs.lemmas.List.Elements.{recursion_from_All}
 use Rattle.std.proofs.lemmas.List.Sums.{sum_by-cons}
 use Rattle.plan_model.specs.declared.step.Step.{Step}
 use Rattle.cut_pool.specs.Pools.{IsShoreNumber}
+use Rattle.branch_rules.specs.Bonds.{GroupWeight}
 use Rattle.branch_rules.specs.Prices.{Prices}
-use Rattle.branch_rules.specs.Limits.{IsPriceNumber, IsFineWeight}
+use Rattle.branch_rules.specs.Limits.{IsPriceNumber, IsFineWeight, IsFineGroup}
 use Rattle.branch_rules.specs.declared.weight.Weight.{Weight}
 use Rattle.branch_rules.specs.declared.node.Node.{Node}
 use Rattle.branch_rules.specs.declared.node.Node.TheVariants.{Pair, Cut, Price, Void, Fixed}
 use Rattle.cert_lines.specs.declared.counts.Counts.{Counts}
 use Rattle.cert_lines.specs.Numerals.{numeral, signed_numeral}
-use Rattle.cert_lines.specs.Lines.{Line, cost, bound, tours, shores, sets, prices, weights, nodes, node, end, step_word, weight_words, words_of, spaced, after_blank, line_text}
-use Rattle.cert_lines.specs.Certificates.{Certificate}
+use Rattle.cert_lines.specs.Lines.{Line, cost, bound, node, end, nothing, step_word, weight_words, group_words, remainder_words, count_words, words_of, spaced, after_blank, line_text}
+use Rattle.cert_lines.specs.Certificates.{Certificate, has_groups}
 use Rattle.cert_lines.specs.Ranges.{IsWithin, AreCountsInRange}
-use Rattle.cert_lines.specs.Spelling.{version_lines, tour_line, shore_line, set_lines, lines_of, whole_line, text_of, IsSpellable, IsFine, IsFineShore, IsFineSet, IsFineNode}
+use Rattle.cert_lines.specs.Spelling.{version_lines, tour_line, shore_line, group_lines, set_lines, lines_of, whole_line, text_of, IsSpellable, IsFine, IsFineShore, IsFineSet, IsFineNode}
 use Rattle.cert_lines.specs.Texts.{IsTextOf}
 use Rattle.cert_lines.proofs.Digits.{numeral_is_decimal}
-use Rattle.cert_lines.proofs.InOrder.{grouped, read_spellable, read_spelled, node_lines, price_lines, pool_lines, plan_lines}
+use Rattle.cert_lines.proofs.InOrder.{grouped_lines, read_spellable, read_spelled, node_lines, price_lines, pool_lines, plan_lines}
 use Rattle.cert_lines.proofs.Spellable.{spellable_fine}
 
 -- Numbers.
@@ -59,18 +60,21 @@ text_within (line ∷ lines) =
 
 -- Each kind of lines, before any others.
 
-version_within : (size : Option Counts) (rest : List Line) → IfSome size AreCountsInRange → lines_room (version_lines size ++ rest) ≤ 100 + lines_room rest
-version_within None rest is = omega (arith, numeral_within 1 1 (lit< tt) (lit< tt) (lit< tt))
-version_within (Some c) rest is =
+counts_within : (c : Counts) → AreCountsInRange c → room (count_words c) ≤ 29
+counts_within c is =
     omega (
       arith,
-      numeral_within 1 2 (lit< tt) (lit< tt) (lit< tt),
       numeral_within 4 c.vertices (lit< tt) (omega (arith, is.vertices.to_last)) (omega (arith, is.vertices.to_last)),
       numeral_within 4 c.edges (lit< tt) (omega (arith, is.edges)) (omega (arith, is.edges)),
       numeral_within 3 c.required (lit< tt) (omega (arith, is.required)) (omega (arith, is.required)),
       numeral_within 5 c.capacity (lit< tt) (omega (arith, is.capacity.to_last)) (omega (arith, is.capacity.to_last)),
       numeral_within 8 c.demand (lit< tt) (omega (arith, is.demand)) (omega (arith, is.demand)),
     )
+
+version_within : (size : Option Counts) (grouped : Bool) (rest : List Line) → IfSome size AreCountsInRange → lines_room (version_lines size grouped ++ rest) ≤ 100 + lines_room rest
+version_within None grouped rest is = omega (arith, numeral_within 1 1 (lit< tt) (lit< tt) (lit< tt))
+version_within (Some c) false rest is = omega (arith, numeral_within 1 2 (lit< tt) (lit< tt) (lit< tt), counts_within c is)
+version_within (Some c) true rest is = omega (arith, numeral_within 1 4 (lit< tt) (lit< tt) (lit< tt), counts_within c is)
 
 -- how many steps there are in all
 abbrev steps_in : List (List Step) → ℕ
@@ -128,10 +132,58 @@ weights_within (w ∷ items) pool few fine on =
       weights_within items pool few fine.1 on.1,
     )
 
-sets_within : (all : List Prices) (pool : List (List ℕ)) (rest : List Line) → length pool ≤ 2000 → AllByRecursion (IsFineSet pool) all →
-    lines_room (flat_map set_lines all ++ rest) ≤ 57000 * length all + lines_room rest
-sets_within [] pool rest few fine = omega arith
-sets_within (set ∷ all) pool rest few fine =
+-- how many edges there are in all groups
+abbrev edges_in : List GroupWeight → ℕ
+edges_in [] = 0
+edges_in (w ∷ groups) = length w.edges + edges_in groups
+
+edges_are : (groups : List GroupWeight) → sum_by (λ (w : GroupWeight). length w.edges) groups ≡ edges_in groups
+edges_are [] = refl
+edges_are (w ∷ groups) = omega (arith, sum_by-cons (λ (w : GroupWeight). length w.edges) w groups, edges_are groups)
+
+room_append : (words more : List (List ℕ)) → room (words ++ more) ≡ room words + room more
+room_append [] more = omega arith
+room_append (word ∷ words) more = omega (arith, room_append words more)
+
+numbers_within : (edges : List ℕ) → AllByRecursion (IsWithin 1 600) edges → room (map numeral edges) ≤ 4 * length edges
+numbers_within [] all = omega arith
+numbers_within (e ∷ edges) all =
+    omega (arith, numeral_within 3 e (lit< tt) (omega (arith, all.0.to_last)) (omega (arith, all.0.to_last)), numbers_within edges all.1)
+
+groups_within : (groups : List GroupWeight) → AllByRecursion IsFineGroup groups → AllByRecursion (λ w. All (IsWithin 1 600) w.edges) groups →
+    room (flat_map group_words groups ++ remainder_words nothing) ≤ 22 * length groups + 4 * edges_in groups
+groups_within [] fine edges = omega arith
+groups_within (w ∷ groups) fine edges =
+    omega (
+      arith,
+      fine.0.few,
+      price_within w.weight fine.0.within,
+      numeral_within 3 (length w.edges) (lit< tt) (omega (arith, fine.0.few)) (omega (arith, fine.0.few)),
+      numbers_within w.edges (recursion_from_All (IsWithin 1 600) w.edges edges.0),
+      room_append (map numeral w.edges ++ flat_map group_words groups) (remainder_words nothing),
+      room_append (map numeral w.edges) (flat_map group_words groups),
+      room_append (flat_map group_words groups) (remainder_words nothing),
+      groups_within groups fine.1 edges.1,
+    )
+
+bonds_within : (grouped : Bool) (pool : List (List ℕ)) (set : Prices) (rest : List Line) → IsFineSet pool set →
+    lines_room (group_lines grouped set ++ rest) ≤ 285000 + lines_room rest
+bonds_within false pool set rest fine = omega arith
+bonds_within true pool set rest fine =
+    omega (
+      arith,
+      fine.prices.few_groups,
+      fine.prices.few_edges,
+      edges_are set.groups,
+      numeral_within 4 (length set.groups) (lit< tt) (omega (arith, fine.prices.few_groups)) (omega (arith, fine.prices.few_groups)),
+      groups_within set.groups (recursion_from_All IsFineGroup set.groups fine.prices.groups)
+          (recursion_from_All (λ (w : GroupWeight). All (IsWithin 1 600) w.edges) set.groups fine.group_edges),
+    )
+
+sets_within : (grouped : Bool) (all : List Prices) (pool : List (List ℕ)) (rest : List Line) → length pool ≤ 2000 → AllByRecursion (IsFineSet pool) all →
+    lines_room (flat_map (set_lines grouped) all ++ rest) ≤ 342000 * length all + lines_room rest
+sets_within grouped [] pool rest few fine = omega arith
+sets_within grouped (set ∷ all) pool rest few fine =
     let is = fine.0.prices in
     omega (
       arith,
@@ -143,7 +195,9 @@ sets_within (set ∷ all) pool rest few fine =
       numeral_within 4 (length set.weights) (lit< tt) (omega (arith, is.few_weights)) (omega (arith, is.few_weights)),
       weights_within set.weights pool few (recursion_from_All IsFineWeight set.weights is.weights)
           (recursion_from_All (λ (w : Weight). IsShoreNumber pool w.shore) set.weights fine.0.shores),
-      sets_within all pool rest few fine.1,
+      ap lines_room (append_assoc (group_lines grouped set) (flat_map (set_lines grouped) all) rest),
+      bonds_within grouped pool set (flat_map (set_lines grouped) all ++ rest) fine.0,
+      sets_within grouped all pool rest few fine.1,
     )
 
 node_within : (borders units : ℕ) (x : Node) → borders ≤ 2000 → units ≤ 256 → IsFineNode borders units x → room (words_of (node x)) ≤ 17
@@ -184,27 +238,27 @@ nodes_end c fine =
           (recursion_from_All (IsFineNode (length c.shores) (length c.sets)) c.nodes fine.nodes_fine),
     )
 
-prices_end : (c : Certificate) → IsFine c → lines_room (price_lines c.sets c.nodes) ≤ 52500000
+prices_end : (c : Certificate) → IsFine c → lines_room (price_lines (has_groups c.sets) c.sets c.nodes) ≤ 125400000
 prices_end c fine =
     omega (
       arith,
       fine.few_sets,
       number_within 3 (length c.sets) (lit< tt) (omega (arith, fine.few_sets)) (omega (arith, fine.few_sets)) (codes "sets") (lit≤ tt),
-      sets_within c.sets c.shores (node_lines c.nodes) fine.few_shores (recursion_from_All (IsFineSet c.shores) c.sets fine.sets_fine),
+      sets_within (has_groups c.sets) c.sets c.shores (node_lines c.nodes) fine.few_shores (recursion_from_All (IsFineSet c.shores) c.sets fine.sets_fine),
       nodes_end c fine,
     )
 
-pool_end : (c : Certificate) → IsFine c → lines_room (pool_lines c.shores c.sets c.nodes) ≤ 62600000
+pool_end : (c : Certificate) → IsFine c → lines_room (pool_lines (has_groups c.sets) c.shores c.sets c.nodes) ≤ 135500000
 pool_end c fine =
     omega (
       arith,
       fine.few_shores,
       number_within 4 (length c.shores) (lit< tt) (omega (arith, fine.few_shores)) (omega (arith, fine.few_shores)) (codes "shores") (lit≤ tt),
-      shores_within c.shores (price_lines c.sets c.nodes) (recursion_from_All IsFineShore c.shores fine.shores_fine),
+      shores_within c.shores (price_lines (has_groups c.sets) c.sets c.nodes) (recursion_from_All IsFineShore c.shores fine.shores_fine),
       prices_end c fine,
     )
 
-plan_end : (c : Certificate) → IsFine c → lines_room (plan_lines c.plan c.shores c.sets c.nodes) ≤ 76100000
+plan_end : (c : Certificate) → IsFine c → lines_room (plan_lines (has_groups c.sets) c.plan c.shores c.sets c.nodes) ≤ 149000000
 plan_end c fine =
     let few : steps_in c.plan ≤ 2000000 = omega (arith, fine.few_steps, sum_is c.plan) in
     omega (
@@ -212,18 +266,18 @@ plan_end c fine =
       few,
       fine.few_tours,
       number_within 6 (length c.plan) (lit< tt) (omega (arith, fine.few_tours)) (omega (arith, fine.few_tours)) (codes "tours") (lit≤ tt),
-      tours_within c.plan (pool_lines c.shores c.sets c.nodes) few (recursion_from_All (All (λ (s : Step). IsWithin 1 4000 s.edge)) c.plan fine.edges_in),
+      tours_within c.plan (pool_lines (has_groups c.sets) c.shores c.sets c.nodes) few (recursion_from_All (All (λ (s : Step). IsWithin 1 4000 s.edge)) c.plan fine.edges_in),
       pool_end c fine,
     )
 
-fine_within : (c : Certificate) → IsFine c → lines_room (lines_of c) ≤ 76101000
+fine_within : (c : Certificate) → IsFine c → lines_room (lines_of c) ≤ 149001000
 fine_within c fine =
     omega (
       arith,
-      ap lines_room (grouped c),
+      ap lines_room (grouped_lines c),
       number_within 18 c.cost (lit< tt) fine.cost_in (omega (arith, fine.cost_in)) (codes "cost") (lit≤ tt),
       number_within 18 c.bound (lit< tt) fine.bound_in (omega (arith, fine.bound_in)) (codes "bound") (lit≤ tt),
-      version_within c.counts (cost c.cost ∷ (bound c.bound ∷ plan_lines c.plan c.shores c.sets c.nodes)) fine.counts_in,
+      version_within c.counts (has_groups c.sets) (cost c.cost ∷ (bound c.bound ∷ plan_lines (has_groups c.sets) c.plan c.shores c.sets c.nodes)) fine.counts_in,
       plan_end c fine,
     )
 

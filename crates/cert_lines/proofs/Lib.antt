@@ -2,6 +2,8 @@ pub mod Numerals
 pub mod Cuts
 pub mod Digits
 pub mod Words
+pub mod NumberWords
+pub mod GroupWords
 pub mod LineWords
 pub mod Readings
 pub mod Listed

@@ -1,26 +1,20 @@
 -- What a line says is read from its words, so no two lines are spelled alike.
-use Rattle.std.proofs.Common.{◌≡◌, ◌≢◌, ℕ, suc, ◌-◌, ◌≤◌, Bool, true, false, cond, ◌||◌, eqb, List, [], ◌∷◌, map, get_or, drop, ℤ, pos, negsuc, refl, sym, ap, ◌∙◌, arith, codes, lit≤}
+use Rattle.std.proofs.Common.{◌≡◌, ◌≢◌, ℕ, Bool, true, false, cond, ◌||◌, eqb, List, [], ◌∷◌, map, get_or, drop, ℤ, refl, sym, ap, ◌∙◌, codes, lit≤}
 use Rattle.std.specs.List.{AllByRecursion, flat_map, slice_split}
 use Rattle.std.specs.Str.{bytes_eq}
 use Rattle.std.specs.Str.Parse.{digits_value}
-use Rattle.std.proofs.lemmas.Bool.{ne_eqb}
 use Rattle.plan_model.specs.declared.step.Step.{Step}
 use Rattle.branch_rules.specs.declared.weight.Weight.{Weight}
 use Rattle.branch_rules.specs.declared.node.Node.TheVariants.{Pair, Cut, Price, Void, Fixed}
 use Rattle.cert_lines.specs.declared.counts.Counts.{Counts}
 use Rattle.cert_lines.specs.Numerals.{numeral, signed_numeral}
-use Rattle.cert_lines.specs.Lines.{Line, version, counts, cost, bound, tours, tour, shores, shore, sets, prices, weights, nodes, node, end, step_word, weight_words, words_of, spaced, line_text}
-use Rattle.cert_lines.proofs.Digits.{value_of_numeral, digits_of_numeral, numeral_of_digits}
-use Rattle.cert_lines.proofs.Words.{IsWord, IsLineText, word_of_digits, word_after, words_are_cut, spaced_is_line}
+use Rattle.cert_lines.specs.Lines.{Line, version, counts, cost, bound, tours, tour, shores, shore, sets, prices, weights, bonds, nodes, node, end, nothing, step_word, weight_words, words_of, spaced, line_text}
+use Rattle.cert_lines.proofs.Digits.{value_of_numeral}
+use Rattle.cert_lines.proofs.Words.{IsWord, IsLineText, word_after, words_are_cut, spaced_is_line}
+use Rattle.cert_lines.proofs.NumberWords.{numeral_word, signed_word, signed_value, signed_read}
+use Rattle.cert_lines.proofs.GroupWords.{groups_words, groups_in, groups_and, groups_read}
 
 -- The words are words.
-
-numeral_word : (n : ℕ) → IsWord (numeral n)
-numeral_word n = word_of_digits (numeral n) (digits_of_numeral n)
-
-signed_word : (z : ℤ) → IsWord (signed_numeral z)
-signed_word (pos n) = numeral_word n
-signed_word (negsuc n) = word_after 45 (numeral (suc n)) (lit≤ tt) (lit≤ tt) (numeral_word (suc n))
 
 mark_word : (edge : ℕ) (forward served : Bool) → IsWord (step_word (record { edge = edge; forward = forward; served = served }))
 mark_word edge true true = word_after 43 (numeral edge) (lit≤ tt) (lit≤ tt) (numeral_word edge)
@@ -57,6 +51,7 @@ line_words (shore n vertices) = (record { passes = refl }, (numeral_word n, vert
 line_words (sets n) = (record { passes = refl }, (numeral_word n, tt))
 line_words (prices unit n services) = (record { passes = refl }, (numeral_word unit, (numeral_word n, services_words services)))
 line_words (weights n items) = (record { passes = refl }, (numeral_word n, weights_words items))
+line_words (bonds n groups rest) = (record { passes = refl }, (numeral_word n, groups_words groups rest))
 line_words (nodes n) = (record { passes = refl }, (numeral_word n, tt))
 line_words (node (Pair a b)) = (record { passes = refl }, (numeral_word a, (numeral_word b, tt)))
 line_words (node (Cut border k)) = (record { passes = refl }, (numeral_word border, (numeral_word k, tt)))
@@ -68,23 +63,7 @@ line_words end = (record { passes = refl }, tt)
 pub line_is_text : (line : Line) → IsLineText (line_text line)
 line_is_text line = spaced_is_line (words_of line) (line_words line)
 
--- Numbers, steps and weights from words.
-
-unfoldable pub signed_value : List ℕ → ℤ
-signed_value [] = pos 0
-signed_value (b ∷ ds) = cond (eqb b 45) (negsuc (digits_value 10 ds - 1)) (pos (digits_value 10 (b ∷ ds)))
-
-digits_signed : (ds : List ℕ) → AllByRecursion (λ b. (48 ≤ b) × (b ≤ 57)) ds → signed_value ds ≡ pos (digits_value 10 ds)
-unfolding signed_value
-digits_signed [] digits = refl
-digits_signed (b ∷ ds) digits =
-    let other : eqb b 45 ≡ false = ne_eqb b 45 (λ same. omega (arith, digits.0)) in
-    ap (λ (t : Bool). cond t (negsuc (digits_value 10 ds - 1)) (pos (digits_value 10 (b ∷ ds)))) other
-
-signed_read : (z : ℤ) → signed_value (signed_numeral z) ≡ z
-unfolding signed_value
-signed_read (pos n) = digits_signed (numeral n) (numeral_of_digits n) ∙ ap pos (value_of_numeral n)
-signed_read (negsuc n) = ap (λ (k : ℕ). negsuc (k - 1)) (value_of_numeral (suc n)) ∙ ap negsuc (omega arith)
+-- Steps and weights from words.
 
 unfoldable pub step_of : List ℕ → Step
 step_of [] = record { edge = 0; forward = false; served = false }
@@ -135,13 +114,17 @@ node_in word words =
     (cond (bytes_eq word (codes "void")) (node Void)
     (cond (bytes_eq word (codes "fixed")) (node Fixed) end))))
 
+unfoldable pub bonds_in : List (List ℕ) → Line
+bonds_in words = bonds (number_in words 0) (groups_in (groups_and [] nothing) (drop 1 words)).groups (groups_in (groups_and [] nothing) (drop 1 words)).rest
+
 unfoldable pub list_in : List ℕ → List (List ℕ) → Line
 list_in word words =
     cond (bytes_eq word (codes "tour")) (tour (number_in words 0) (map step_of (drop 1 words)))
     (cond (bytes_eq word (codes "shore")) (shore (number_in words 0) (map (digits_value 10) (drop 1 words)))
     (cond (bytes_eq word (codes "prices")) (prices (number_in words 0) (number_in words 1) (map signed_value (drop 2 words)))
     (cond (bytes_eq word (codes "weights")) (weights (number_in words 0) (weights_of (drop 1 words)))
-    (node_in word words))))
+    (cond (bytes_eq word (codes "bonds")) (bonds_in words)
+    (node_in word words)))))
 
 unfoldable pub line_in : List ℕ → List (List ℕ) → Line
 line_in word words =
@@ -160,7 +143,7 @@ line_of [] = end
 line_of (word ∷ words) = line_in word words
 
 line_read : (line : Line) → line_of (words_of line) ≡ line
-unfolding line_of line_in list_in node_in counts_in number_in
+unfolding line_of line_in list_in node_in counts_in bonds_in number_in
 line_read (version n) = ap version (value_of_numeral n)
 line_read (counts c) = λ i. counts (record {
   vertices = value_of_numeral c.vertices i;
@@ -178,6 +161,7 @@ line_read (shore n vertices) = λ i. shore (value_of_numeral n i) (vertices_read
 line_read (sets n) = ap sets (value_of_numeral n)
 line_read (prices unit n services) = λ i. prices (value_of_numeral unit i) (value_of_numeral n i) (services_read services i)
 line_read (weights n items) = λ i. weights (value_of_numeral n i) (weights_read items i)
+line_read (bonds n groups rest) = λ i. bonds (value_of_numeral n i) (groups_read groups rest i).groups (groups_read groups rest i).rest
 line_read (nodes n) = ap nodes (value_of_numeral n)
 line_read (node (Pair a b)) = λ i. node (Pair (value_of_numeral a i) (value_of_numeral b i))
 line_read (node (Cut border k)) = λ i. node (Cut (value_of_numeral border i) (value_of_numeral k i))
@@ -199,6 +183,7 @@ some_words (shore n vertices) = λ none. cc
 some_words (sets n) = λ none. cc
 some_words (prices unit n services) = λ none. cc
 some_words (weights n items) = λ none. cc
+some_words (bonds n groups rest) = λ none. cc
 some_words (nodes n) = λ none. cc
 some_words (node (Pair a b)) = λ none. cc
 some_words (node (Cut border k)) = λ none. cc

@@ -1,14 +1,16 @@
 -- Bytes that are no line, and faults of short texts.
-use Rattle.std.proofs.Common.{◌≡◌, ℕ, true, false, eqb, List, [], ◌∷◌, inl, inr, codes, refl, sym, ap, ◌∙◌, arith}
+use Rattle.std.proofs.Common.{◌≡◌, ℕ, true, false, eqb, List, [], ◌∷◌, IsTrue, inl, inr, codes, refl, sym, ap, subst, ◌∙◌, arith}
 use Rattle.std.specs.List.{slice_split}
 use Rattle.std.specs.Str.{bytes_eq}
-use Rattle.std.proofs.lemmas.Bool.{and_from, eq-eqb, true≢false}
+use Rattle.std.proofs.lemmas.Bool.{and_from, eq-eqb, true≢false, false≢true}
 use Rattle.cert_lines.specs.declared.fault.CertFault.TheVariants.{Syntax, Limit, Truncated}
 use Rattle.cert_lines.specs.Numerals.{numeral}
-use Rattle.cert_lines.specs.Lines.{version, counts, line_text}
-use Rattle.cert_lines.specs.Order.{LatestFirst}
+use Rattle.cert_lines.specs.declared.next.Next.TheVariants.{Version}
+use Rattle.cert_lines.specs.Lines.{Line, version, counts, line_text}
+use Rattle.cert_lines.specs.Order.{LatestFirst, follows}
 use Rattle.cert_lines.specs.Texts.{IsShapeless, Says, IsFaultOf}
-use Rattle.cert_lines.proofs.LineWords.{line_of, line_in, list_in, number_in, signed_value, text_read}
+use Rattle.cert_lines.proofs.NumberWords.{signed_value}
+use Rattle.cert_lines.proofs.LineWords.{line_of, line_in, list_in, number_in, text_read}
 
 equal_bytes : (bytes : List ℕ) → bytes_eq bytes bytes ≡ true
 equal_bytes [] = refl
@@ -48,7 +50,17 @@ pub minus_zero : (said : LatestFirst) → IsShapeless said (codes "prices 1 1 -0
 unfolding line_of line_in list_in number_in signed_value numeral
 minus_zero said = not_spelled said (codes "prices 1 1 -0") refl
 
+-- there is no third version
+third_version : IsShapeless [] (codes "carp-certificate 3")
+unfolding line_of line_in number_in numeral
+third_version line shape =
+    let read : version 3 ≡ line = ap (λ (b : List ℕ). line_of (slice_split (λ b. eqb b 32) b)) shape.spelled ∙ text_read line in
+    false≢true (subst (λ (l : Line). IsTrue (follows Version l)) (sym read) shape.follows)
+
 -- Faults.
+
+pub first_is_bad : IsFaultOf (codes "carp-certificate 3\n") (Syntax 1)
+first_is_bad = inl ([], inl (refl, (refl, inl third_version)))
 
 first_version : Says [] (codes "carp-certificate 1") (version 1)
 unfolding numeral

@@ -1,5 +1,5 @@
 -- What good lines of tours, shores and price sets say of them.
-use Rattle.std.proofs.Common.{◌≡◌, ◌≢◌, ℕ, zero, suc, ◌+◌, ◌<◌, ◌≤◌, ◌⊎◌, inl, inr, List, [], ◌∷◌, ◌++◌, map, length, get_or, refl, sym, ap, subst, ◌∙◌, append_assoc, arith, length-append}
+use Rattle.std.proofs.Common.{◌≡◌, ◌≢◌, ℕ, zero, suc, ◌+◌, ◌<◌, ◌≤◌, ◌⊎◌, inl, inr, Bool, true, false, List, [], ◌∷◌, ◌++◌, map, length, get_or, refl, sym, ap, subst, ◌∙◌, append_assoc, arith, length-append}
 use Rattle.std.specs.List.{All, AllByRecursion, flat_map, sum_by}
 use Rattle.std.proofs.lemmas.Bool.{cases_lt}
 use Rattle.std.proofs.lemmas.List.{append-nil, get_or_append_left}
@@ -10,12 +10,14 @@ use Rattle.cut_pool.specs.Pools.{AreDifferent, shore_at}
 use Rattle.branch_rules.specs.Bonds.{GroupWeight}
 use Rattle.branch_rules.specs.Limits.{IsFineGroup}
 use Rattle.branch_rules.specs.Prices.{Prices}
-use Rattle.cert_lines.specs.Lines.{Line, prices, weights}
+use Rattle.cert_lines.specs.Lines.{Line, prices, weights, bonds, nothing}
 use Rattle.cert_lines.specs.Order.{LatestFirst}
 use Rattle.cert_lines.specs.Certificates.{steps_of, shores_of}
-use Rattle.cert_lines.specs.Ranges.{IsWithin}
-use Rattle.cert_lines.specs.Spelling.{AreGood, tour_line, shore_line, set_lines, IsFineShore, IsFineSet, HasNoGroups}
+use Rattle.cert_lines.specs.Ranges.{IsWithin, IsInRange, AreGroupsInRange}
+use Rattle.cert_lines.specs.Agreement.{AreWeights, AreGroups}
+use Rattle.cert_lines.specs.Spelling.{AreGood, tour_line, shore_line, set_lines, IsFineShore, IsFineSet}
 use Rattle.cert_lines.proofs.Listed.{listed}
+use Rattle.cert_lines.proofs.Spelled.{IsSaidIn}
 
 -- Tours.
 
@@ -74,34 +76,71 @@ shores_say (vertices ∷ pool) said lines different good =
 
 -- Price sets.
 
-pub record SaysSets (pool : List (List ℕ)) (all : List Prices) (said : LatestFirst) (lines : List Line) : Type 0 where
+pub record SaysSets (grouped : Bool) (pool : List (List ℕ)) (all : List Prices) (said : LatestFirst) (lines : List Line) : Type 0 where
   pub fine : AllByRecursion (IsFineSet pool) all
-  pub later : AreGood (listed (flat_map set_lines all) said) lines
+  pub later : AreGood (listed (flat_map (set_lines grouped) all) said) lines
 
-no_group_is_fine : (groups : List GroupWeight) → groups ≡ [] → All IsFineGroup groups
-no_group_is_fine groups none k d below = absurd (omega (arith, below, ap length none))
+-- groups that a price set may have
+record AreFineGroups (groups : List GroupWeight) : Type 0 where
+  few : length groups ≤ 2000
+  few_edges : sum_by (λ (w : GroupWeight). length w.edges) groups ≤ 60000
+  fine : All IsFineGroup groups
+  edges : All (λ w. All (IsWithin 1 600) w.edges) groups
 
-pub sets_say : (pool : List (List ℕ)) (all : List Prices) (said : LatestFirst) (lines : List Line) → shores_of said ≡ pool → length pool ≤ 2000 →
-    AllByRecursion HasNoGroups all → AreGood said (flat_map set_lines all ++ lines) → SaysSets pool all said lines
-sets_say pool [] said lines has few none good = record { fine = tt; later = good }
-sets_say pool (set ∷ all) said lines has few none good =
-    let rest = sets_say pool all (weights (length set.weights) set.weights ∷ (prices set.unit (length set.services) set.services ∷ said)) lines has few none.1 good.3.3 in
+no_group_is_fine : (groups : List GroupWeight) → groups ≡ [] → AreFineGroups groups
+no_group_is_fine groups none = record {
+  few = omega (arith, ap length none);
+  few_edges = omega (arith, ap (λ (gs : List GroupWeight). sum_by (λ (w : GroupWeight). length w.edges) gs) none);
+  fine = λ k d below. absurd (omega (arith, below, ap length none));
+  edges = λ k d below. absurd (omega (arith, below, ap length none));
+}
+
+groups_are_fine : (groups : List GroupWeight) → AreGroupsInRange (length groups) groups nothing → AreGroups (length groups) groups nothing → AreFineGroups groups
+groups_are_fine groups inside agree = record {
+  few = inside.few;
+  few_edges = omega (arith, inside.few_edges);
+  fine = λ k d below. (
+      let one = inside.each k d below in
+      let order = agree.in_order k d below in
+      record { two = one.size.from_first; few = one.size.to_last; rising = order.rising; some = order.some; within = one.weight; pair = order.pair }
+      );
+  edges = λ k d below. (inside.each k d below).edges;
+}
+
+set_is_fine : (pool : List (List ℕ)) (set : Prices) (said : LatestFirst) → shores_of said ≡ pool → length pool ≤ 2000 →
+    IsInRange said (prices set.unit (length set.services) set.services) → IsInRange said (weights (length set.weights) set.weights) →
+    AreWeights (length set.weights) set.weights → AreFineGroups set.groups → IsFineSet pool set
+set_is_fine pool set said has few numbers inside agree groups =
     let borders : length (shores_of said) ≡ length pool = ap length has in
-    let items = good.3.1.1 in
-    let set_fine : IsFineSet pool set = record {
+    let items = inside.1 in
+    record {
       prices = record {
-        some_unit = good.1.0.from_first;
-        unit_in = good.1.0.to_last;
-        few_services = good.1.1;
-        services = good.1.2;
-        few_weights = omega (arith, good.3.1.0, borders);
-        weights = λ k d below. record { from_one = (items k d below).shore.from_first; some = good.3.2.some k d below; within = (items k d below).weight };
-        rising = good.3.2.rising;
-        few_groups = omega (arith, ap length none.0);
-        groups = no_group_is_fine set.groups none.0;
-        few_edges = omega (arith, ap (λ (groups : List GroupWeight). sum_by (λ (w : GroupWeight). length w.edges) groups) none.0);
+        some_unit = numbers.0.from_first;
+        unit_in = numbers.0.to_last;
+        few_services = numbers.1;
+        services = numbers.2;
+        few_weights = omega (arith, inside.0, borders, few);
+        weights = λ k d below. record { from_one = (items k d below).shore.from_first; some = agree.some k d below; within = (items k d below).weight };
+        rising = agree.rising;
+        few_groups = groups.few;
+        few_edges = groups.few_edges;
+        groups = groups.fine;
       };
-      no_groups = none.0;
       shores = λ k d below. record { from_one = (items k d below).shore.from_first; in_range = omega (arith, (items k d below).shore.to_last, borders) };
-    } in
-    record { fine = (set_fine, rest.fine); later = rest.later }
+      group_edges = groups.edges;
+    }
+
+pub sets_say : (grouped : Bool) (pool : List (List ℕ)) (all : List Prices) (said : LatestFirst) (lines : List Line) → shores_of said ≡ pool → length pool ≤ 2000 →
+    AllByRecursion (IsSaidIn grouped) all → AreGood said (flat_map (set_lines grouped) all ++ lines) → SaysSets grouped pool all said lines
+sets_say grouped pool [] said lines has few none good = record { fine = tt; later = good }
+sets_say false pool (set ∷ all) said lines has few none good =
+    let rest =
+    sets_say false pool all (weights (length set.weights) set.weights ∷ (prices set.unit (length set.services) set.services ∷ said)) lines has few none.1 good.3.3 in
+    record { fine = (set_is_fine pool set said has few good.1 good.3.1 good.3.2 (no_group_is_fine set.groups none.0), rest.fine); later = rest.later }
+sets_say true pool (set ∷ all) said lines has few none good =
+    let half : LatestFirst = weights (length set.weights) set.weights ∷ (prices set.unit (length set.services) set.services ∷ said) in
+    let rest = sets_say true pool all (bonds (length set.groups) set.groups nothing ∷ half) lines has few none.1 good.3.3.3 in
+    record {
+      fine = (set_is_fine pool set said has few good.1 good.3.1 good.3.2 (groups_are_fine set.groups good.3.3.1 good.3.3.2.0), rest.fine);
+      later = rest.later;
+    }

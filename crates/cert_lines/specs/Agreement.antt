@@ -1,13 +1,16 @@
 -- What has to agree on a line, after the lines before it.
-use Rattle.std.specs.Prelude.{◌≡◌, ◌≢◌, ◌↔◌, ℕ, ◌<◌, pos, List, length, map}
+use Rattle.std.specs.Prelude.{◌≡◌, ◌≢◌, ◌↔◌, ℕ, ◌≤◌, ◌<◌, pos, ◌<ℤ◌, IsTrue, List, ◌∷◌, length, map}
 use Rattle.std.specs.List.{All}
 use Rattle.std.specs.List.Sorted.{IsStrictlyIncreasing}
+use Rattle.branch_rules.specs.Bonds.{GroupWeight}
+use Rattle.branch_rules.specs.Prices.{Prices}
 use Rattle.branch_rules.specs.declared.weight.Weight.{Weight}
 use Rattle.branch_rules.specs.declared.node.Node.{Node}
 use Rattle.branch_rules.specs.declared.node.Node.TheVariants.{Pair, Cut, Price, Void, Fixed}
-use Rattle.cert_lines.specs.Lines.{Line, version, counts, cost, bound, tours, tour, shores, shore, sets, prices, weights, nodes, node, end}
-use Rattle.cert_lines.specs.Order.{LatestFirst, next_of, left_of, open_of, open_after}
-use Rattle.cert_lines.specs.Certificates.{shores_of}
+use Rattle.cert_lines.specs.Lines.{Line, version, counts, cost, bound, tours, tour, shores, shore, sets, prices, weights, bonds, nodes, node, end}
+use Rattle.cert_lines.specs.Lines.{Remainder, nothing}
+use Rattle.cert_lines.specs.Order.{LatestFirst, version_of, next_of, left_of, open_of, open_after}
+use Rattle.cert_lines.specs.Certificates.{shores_of, sets_of, has_groups}
 
 -- so many vertices, in rising order, which are no earlier shore
 pub record IsNewShore (earlier : List (List ℕ)) (n : ℕ) (vertices : List ℕ) : Type 0 where
@@ -20,6 +23,22 @@ pub record AreWeights (n : ℕ) (items : List Weight) : Type 0 where
   pub stated : length items ≡ n
   pub rising : IsStrictlyIncreasing (map (λ w. w.shore) items)
   pub some : All (λ w. w.weight ≢ pos 0) items
+
+-- the edges of a group rise, and its weight is not 0; where it is negative, the group is a pair
+pub record IsGroupInOrder (w : GroupWeight) : Type 0 where
+  pub rising : IsStrictlyIncreasing w.edges
+  pub some : w.weight ≢ pos 0
+  pub pair : w.weight <ℤ pos 0 → length w.edges ≡ 2
+
+-- so many groups, each complete and in order
+pub record AreGroups (n : ℕ) (groups : List GroupWeight) (rest : Remainder) : Type 0 where
+  pub stated : length groups ≡ n
+  pub complete : rest ≡ nothing
+  pub in_order : All IsGroupInOrder groups
+
+-- where no set is to come after this one, some set has a group
+abbrev pub SomeSetHasGroups : ℕ → List Prices → Type 0
+SomeSetHasGroups left all = left ≡ 1 → IsTrue (has_groups all)
 
 -- the first edge of a pair is the lesser
 abbrev pub IsPairInOrder : Node → Type 0
@@ -43,9 +62,10 @@ Agrees said (tours n) = Unit {0}
 Agrees said (tour n steps) = length steps ≡ n
 Agrees said (shores n) = Unit {0}
 Agrees said (shore n vertices) = IsNewShore (shores_of said) n vertices
-Agrees said (sets n) = Unit {0}
+Agrees said (sets n) = version_of said ≡ 4 → 1 ≤ n
 Agrees said (prices unit n services) = length services ≡ n
 Agrees said (weights n items) = AreWeights n items
+Agrees said (bonds n groups rest) = AreGroups n groups rest × SomeSetHasGroups (left_of (next_of said)) (sets_of (bonds n groups rest ∷ said))
 Agrees said (nodes n) = Unit {0}
 Agrees said (node x) = IsPairInOrder x × BecomesWhole (left_of (next_of said)) (open_of (next_of said)) x
 Agrees said end = Unit {0}

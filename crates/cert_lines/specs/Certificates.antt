@@ -1,11 +1,14 @@
 -- A certificate as plain data, and what lines say of it.
-use Rattle.std.specs.Prelude.{ℕ, ◌+◌, ℤ, List, [], ◌∷◌, ◌++◌, Option, Some, None}
+use Rattle.std.specs.Prelude.{ℕ, ◌+◌, ◌==◌, ℤ, Bool, true, false, List, [], ◌∷◌, ◌++◌, Option, Some, None, if◌then◌else◌}
+use Rattle.std.specs.List.{list_any}
 use Rattle.plan_model.specs.declared.step.Step.{Step}
+use Rattle.branch_rules.specs.Bonds.{GroupWeight}
 use Rattle.branch_rules.specs.Prices.{Prices}
+use Rattle.branch_rules.specs.declared.weight.Weight.{Weight}
 use Rattle.branch_rules.specs.declared.node.Node.{Node}
 use Rattle.cert_lines.specs.declared.counts.Counts.{Counts}
-use Rattle.cert_lines.specs.Lines.{counts, cost, bound, tour, shore, prices, weights, node}
-use Rattle.cert_lines.specs.Order.{LatestFirst}
+use Rattle.cert_lines.specs.Lines.{counts, cost, bound, tour, shore, prices, weights, bonds, node}
+use Rattle.cert_lines.specs.Order.{LatestFirst, version_of}
 
 -- a plan with its cost, a bound, and what shows it: shores, price sets and the nodes of a tree in preorder. The numbers of the
 -- instance may be missing.
@@ -17,6 +20,15 @@ pub record Certificate : Type 0 where
   pub shores : List (List ℕ)
   pub sets : List Prices
   pub nodes : List Node
+
+-- there is a group
+abbrev pub some_group : List GroupWeight → Bool
+some_group [] = false
+some_group (w ∷ groups) = true
+
+-- some price set has a group
+abbrev pub has_groups : List Prices → Bool
+has_groups sets = list_any (λ set. some_group set.groups) sets
 
 abbrev pub counts_of : LatestFirst → Option Counts
 counts_of [] = None
@@ -61,10 +73,21 @@ services_of [] = []
 services_of (prices unit n services ∷ said) = services
 services_of (_ ∷ said) = services_of said
 
--- the price sets: each of the prices of one line and the weights of the next, with no weight on a group, of which no line speaks
+-- the latest weights
+abbrev pub weights_of : LatestFirst → List Weight
+weights_of [] = []
+weights_of (weights n items ∷ said) = items
+weights_of (_ ∷ said) = weights_of said
+
+-- the price sets: each of the prices of one line and the weights of the next, in version 4 with the groups of the line after these, and
+-- else with no group
 abbrev pub sets_of : LatestFirst → List Prices
 sets_of [] = []
-sets_of (weights n items ∷ said) = sets_of said ++ record { unit = unit_of said; services = services_of said; weights = items; groups = [] } ∷ []
+sets_of (weights n items ∷ said) =
+    if version_of said == 4 then sets_of said
+    else sets_of said ++ record { unit = unit_of said; services = services_of said; weights = items; groups = [] } ∷ []
+sets_of (bonds n groups rest ∷ said) =
+    sets_of said ++ record { unit = unit_of said; services = services_of said; weights = weights_of said; groups = groups } ∷ []
 sets_of (_ ∷ said) = sets_of said
 
 abbrev pub nodes_of : LatestFirst → List Node

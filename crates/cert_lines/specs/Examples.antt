@@ -23,6 +23,9 @@ drives_back e = record { edge = e; forward = false; served = false }
 abbrev pub on_shore : ℕ → ℤ → Weight
 on_shore i w = record { shore = i; weight = w }
 
+abbrev pub on_group : List ℕ → ℤ → GroupWeight
+on_group es w = record { edges = es; weight = w }
+
 -- the numbers of two streets in a row, each of demand 2, for vehicles of room 2
 abbrev pub row_counts : Counts
 row_counts = record { vertices = 3; edges = 2; required = 2; capacity = 2; demand = 4 }
@@ -38,10 +41,6 @@ triangle = record {
   sets = record { unit = 1; services = pos 5 ∷ pos 7 ∷ pos 4 ∷ []; weights = []; groups = [] } ∷ [];
   nodes = Price 1 ∷ [];
 }
-
--- the same with a weight on a group, which cannot be spelled
-abbrev pub with_group : GroupWeight → Certificate
-with_group w = record triangle { sets = record { unit = 1; services = pos 5 ∷ pos 7 ∷ pos 4 ∷ []; weights = []; groups = w ∷ [] } ∷ [] }
 
 -- the text of the triangle
 abbrev pub triangle_text : List ℕ
@@ -63,6 +62,20 @@ row = record {
 abbrev pub row_text : List ℕ
 row_text =
     codes "carp-certificate 2\ninstance 3 2 2 2 4\ncost 20\nbound 20\ntours 2\ntour 2 +1 <1\ntour 4 >1 +2 <2 <1\nshores 2\nshore 2 2 3\nshore 1 3\nsets 1\nprices 1 2 3 4\nweights 2 1 3 2 4\nnodes 1\nprice 1\nend\n"
+
+-- the same with weights on groups
+abbrev pub with_groups : List GroupWeight → Certificate
+with_groups groups = record row {
+  sets = record { unit = 1; services = pos 3 ∷ pos 4 ∷ []; weights = on_shore 1 (pos 3) ∷ on_shore 2 (pos 4) ∷ []; groups = groups } ∷ [];
+}
+
+-- with a weight on the group of both streets, and a gain where both are served together
+abbrev pub bonded : Certificate
+bonded = with_groups (on_group (1 ∷ 2 ∷ []) (pos 3) ∷ on_group (1 ∷ 2 ∷ []) (negsuc 1) ∷ [])
+
+abbrev pub bonded_text : List ℕ
+bonded_text =
+    codes "carp-certificate 4\ninstance 3 2 2 2 4\ncost 20\nbound 20\ntours 2\ntour 2 +1 <1\ntour 4 >1 +2 <2 <1\nshores 2\nshore 2 2 3\nshore 1 3\nsets 1\nprices 1 2 3 4\nweights 2 1 3 2 4\nbonds 2 3 2 1 2 -2 2 1 2\nnodes 1\nprice 1\nend\n"
 
 -- weights of 1 on the shores of single vertices
 abbrev pub star_weights : List Weight

@@ -4,11 +4,17 @@ use Rattle.branch_rules.specs.declared.node.Node.{Node}
 use Rattle.branch_rules.specs.declared.node.Node.TheVariants.{Pair, Cut, Price, Void, Fixed}
 use Rattle.cert_lines.specs.declared.next.Next.{Next}
 use Rattle.cert_lines.specs.declared.next.Next.TheVariants as stands
-use Rattle.cert_lines.specs.Lines.{Line, version, counts, cost, bound, tours, tour, shores, shore, sets, prices, weights, nodes, node, end}
+use Rattle.cert_lines.specs.Lines.{Line, version, counts, cost, bound, tours, tour, shores, shore, sets, prices, weights, bonds, nodes, node, end}
 
 -- the lines that were read, with the latest one at the head: what stood before a line is then the rest of the list
 abbrev pub LatestFirst : Type 0
 LatestFirst = List Line
+
+-- the version that the first line states
+abbrev pub version_of : LatestFirst → ℕ
+version_of [] = 0
+version_of (version n ∷ said) = n
+version_of (_ ∷ said) = version_of said
 
 -- where so many tours are to come, a tour stands next, and else the number of shores
 abbrev pub tours_to_come : ℕ → Next
@@ -33,6 +39,7 @@ left_of (stands.Tour left) = left
 left_of (stands.Shore left) = left
 left_of (stands.Prices left) = left
 left_of (stands.Weights left) = left
+left_of (stands.Bonds left) = left
 left_of (stands.Node left subtrees) = left
 left_of _ = 0
 
@@ -53,31 +60,32 @@ children Fixed = 0
 abbrev pub open_after : ℕ → Node → ℕ
 open_after subtrees x = subtrees - 1 + children x
 
--- what stands after a line
-abbrev pub after : Next → Line → Next
-after next (version n) = if n == 1 then stands.Cost else stands.Counts
-after next (counts c) = stands.Cost
-after next (cost n) = stands.Bound
-after next (bound n) = stands.Tours
-after next (tours n) = tours_to_come n
-after next (tour n steps) = tours_to_come (left_of next - 1)
-after next (shores n) = shores_to_come n
-after next (shore n vertices) = shores_to_come (left_of next - 1)
-after next (sets n) = sets_to_come n
-after next (prices unit n services) = stands.Weights (left_of next)
-after next (weights n items) = sets_to_come (left_of next - 1)
-after next (nodes n) = nodes_to_come n 1
-after next (node x) = nodes_to_come (left_of next - 1) (open_after (open_of next) x)
-after next end = stands.Nothing
+-- what stands after a line, in a text of this version: only in version 4 the weights of a set are followed by its groups
+abbrev pub after : ℕ → Next → Line → Next
+after v next (version n) = if n == 1 then stands.Cost else stands.Counts
+after v next (counts c) = stands.Cost
+after v next (cost n) = stands.Bound
+after v next (bound n) = stands.Tours
+after v next (tours n) = tours_to_come n
+after v next (tour n steps) = tours_to_come (left_of next - 1)
+after v next (shores n) = shores_to_come n
+after v next (shore n vertices) = shores_to_come (left_of next - 1)
+after v next (sets n) = sets_to_come n
+after v next (prices unit n services) = stands.Weights (left_of next)
+after v next (weights n items) = if v == 4 then stands.Bonds (left_of next) else sets_to_come (left_of next - 1)
+after v next (bonds n groups rest) = sets_to_come (left_of next - 1)
+after v next (nodes n) = nodes_to_come n 1
+after v next (node x) = nodes_to_come (left_of next - 1) (open_after (open_of next) x)
+after v next end = stands.Nothing
 
 -- what stands after the lines that were read
 abbrev pub next_of : LatestFirst → Next
 next_of [] = stands.Version
-next_of (line ∷ said) = after (next_of said) line
+next_of (line ∷ said) = after (version_of said) (next_of said) line
 
--- the line is of the kind that stands next; the version is 1 or 2
+-- the line is of the kind that stands next; the version is 1, 2 or 4
 abbrev pub follows : Next → Line → Bool
-follows stands.Version (version n) = (n == 1) || (n == 2)
+follows stands.Version (version n) = (n == 1) || (n == 2) || (n == 4)
 follows stands.Counts (counts c) = true
 follows stands.Cost (cost n) = true
 follows stands.Bound (bound n) = true
@@ -88,6 +96,7 @@ follows (stands.Shore left) (shore n vertices) = true
 follows stands.Sets (sets n) = true
 follows (stands.Prices left) (prices unit n services) = true
 follows (stands.Weights left) (weights n items) = true
+follows (stands.Bonds left) (bonds n groups rest) = true
 follows stands.Nodes (nodes n) = true
 follows (stands.Node left subtrees) (node x) = true
 follows stands.End end = true

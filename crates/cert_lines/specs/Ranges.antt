@@ -1,12 +1,14 @@
 -- The ranges of the numbers of a line, after the lines before it.
-use Rattle.std.specs.Prelude.{ℕ, ◌+◌, ◌^◌, ◌≤◌, ◌<◌, length}
+use Rattle.std.specs.Prelude.{ℕ, ◌+◌, ◌^◌, ◌≤◌, ◌<◌, List, length, sum_by}
 use Rattle.std.specs.List.{All}
+use Rattle.branch_rules.specs.Bonds.{GroupWeight}
 use Rattle.branch_rules.specs.Limits.{IsPriceNumber}
 use Rattle.branch_rules.specs.declared.weight.Weight.{Weight}
 use Rattle.branch_rules.specs.declared.node.Node.{Node}
 use Rattle.branch_rules.specs.declared.node.Node.TheVariants.{Pair, Cut, Price, Void, Fixed}
 use Rattle.cert_lines.specs.declared.counts.Counts.{Counts}
-use Rattle.cert_lines.specs.Lines.{Line, version, counts, cost, bound, tours, tour, shores, shore, sets, prices, weights, nodes, node, end}
+use Rattle.cert_lines.specs.Lines.{Line, version, counts, cost, bound, tours, tour, shores, shore, sets, prices, weights, bonds, nodes, node, end}
+use Rattle.cert_lines.specs.Lines.{Remainder, nothing, weight_alone, short_of, stated_size}
 use Rattle.cert_lines.specs.Order.{LatestFirst}
 use Rattle.cert_lines.specs.Certificates.{steps_of, shores_of, sets_of}
 
@@ -27,6 +29,31 @@ pub record AreCountsInRange (c : Counts) : Type 0 where
 pub record IsWeightInRange (borders : ℕ) (w : Weight) : Type 0 where
   pub shore : IsWithin 1 borders w.shore
   pub weight : IsPriceNumber w.weight
+
+-- a complete group with its weight
+pub record IsGroupInRange (w : GroupWeight) : Type 0 where
+  pub weight : IsPriceNumber w.weight
+  pub size : IsWithin 2 600 (length w.edges)
+  pub edges : All (IsWithin 1 600) w.edges
+
+-- an incomplete group, as far as it stands there
+abbrev pub IsRemainderInRange : Remainder → Type 0
+IsRemainderInRange nothing = Unit {0}
+IsRemainderInRange (weight_alone w) = IsPriceNumber w
+IsRemainderInRange (short_of missing w edges) = IsPriceNumber w × IsWithin 2 600 (stated_size missing edges) × All (IsWithin 1 600) edges
+
+-- the size that an incomplete group states
+abbrev pub remainder_size : Remainder → ℕ
+remainder_size nothing = 0
+remainder_size (weight_alone w) = 0
+remainder_size (short_of missing w edges) = stated_size missing edges
+
+-- the groups of a price set: the sizes that they state are at most 60,000 together
+pub record AreGroupsInRange (n : ℕ) (groups : List GroupWeight) (rest : Remainder) : Type 0 where
+  pub few : n ≤ 2000
+  pub each : All IsGroupInRange groups
+  pub behind : IsRemainderInRange rest
+  pub few_edges : sum_by (λ (w : GroupWeight). length w.edges) groups + remainder_size rest ≤ 60000
 
 -- a node, where there are so many shores (borders) and so many price sets (units)
 abbrev pub IsNodeInRange : (borders units : ℕ) → Node → Type 0
@@ -49,6 +76,7 @@ IsInRange said (shore n vertices) = IsWithin 1 999 n × All (IsWithin 1 1000) ve
 IsInRange said (sets n) = n ≤ 256
 IsInRange said (prices unit n services) = IsWithin 1 1000000 unit × (n ≤ 600) × All IsPriceNumber services
 IsInRange said (weights n items) = (n ≤ length (shores_of said)) × All (IsWeightInRange (length (shores_of said))) items
+IsInRange said (bonds n groups rest) = AreGroupsInRange n groups rest
 IsInRange said (nodes n) = IsWithin 1 2097153 n
 IsInRange said (node x) = IsNodeInRange (length (shores_of said)) (length (sets_of said)) x
 IsInRange said end = Unit {0}

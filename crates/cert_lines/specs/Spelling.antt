@@ -1,5 +1,5 @@
 -- The one spelling of a certificate.
-use Rattle.std.specs.Prelude.{◌≡◌, ℕ, ◌^◌, ◌≤◌, ◌<◌, IsTrue, List, [], ◌∷◌, ◌++◌, length, map, Option, Some, None, IfSome}
+use Rattle.std.specs.Prelude.{◌≡◌, ℕ, ◌^◌, ◌≤◌, ◌<◌, Bool, true, false, IsTrue, List, [], ◌∷◌, ◌++◌, length, map, Option, Some, None, IfSome, IsSome}
 use Rattle.std.specs.List.{All, flat_map, sum_by}
 use Rattle.std.specs.List.Sorted.{IsStrictlyIncreasing}
 use Rattle.plan_model.specs.declared.step.Step.{Step}
@@ -10,16 +10,17 @@ use Rattle.branch_rules.specs.Trees.{Tree, preorder}
 use Rattle.branch_rules.specs.declared.node.Node.{Node}
 use Rattle.branch_rules.specs.declared.node.Node.TheVariants.{Pair, Cut, Price, Void, Fixed}
 use Rattle.cert_lines.specs.declared.counts.Counts.{Counts}
-use Rattle.cert_lines.specs.Lines.{Line, version, counts, cost, bound, tours, tour, shores, shore, sets, prices, weights, nodes, node, end, line_text}
+use Rattle.cert_lines.specs.Lines.{Line, version, counts, cost, bound, tours, tour, shores, shore, sets, prices, weights, bonds, nodes, node, end, nothing, line_text}
 use Rattle.cert_lines.specs.Order.{LatestFirst, next_of, follows}
-use Rattle.cert_lines.specs.Certificates.{Certificate}
+use Rattle.cert_lines.specs.Certificates.{Certificate, has_groups}
 use Rattle.cert_lines.specs.Ranges.{IsWithin, AreCountsInRange, IsInRange}
 use Rattle.cert_lines.specs.Agreement.{Agrees}
 
--- version 1 without the numbers of the instance, version 2 with them
-abbrev pub version_lines : Option Counts → List Line
-version_lines None = version 1 ∷ []
-version_lines (Some c) = version 2 ∷ counts c ∷ []
+-- version 1 without the numbers of the instance; with them version 4 if some price set has a group, and else version 2
+abbrev pub version_lines : Option Counts → (grouped : Bool) → List Line
+version_lines None grouped = version 1 ∷ []
+version_lines (Some c) false = version 2 ∷ counts c ∷ []
+version_lines (Some c) true = version 4 ∷ counts c ∷ []
 
 abbrev pub tour_line : List Step → Line
 tour_line steps = tour (length steps) steps
@@ -27,17 +28,23 @@ tour_line steps = tour (length steps) steps
 abbrev pub shore_line : List ℕ → Line
 shore_line vertices = shore (length vertices) vertices
 
--- the two lines of a price set
-abbrev pub set_lines : Prices → List Line
-set_lines set = prices set.unit (length set.services) set.services ∷ weights (length set.weights) set.weights ∷ []
+-- the line of the groups of a price set, where some price set has one
+abbrev pub group_lines : (grouped : Bool) → Prices → List Line
+group_lines false set = []
+group_lines true set = bonds (length set.groups) set.groups nothing ∷ []
+
+-- the lines of a price set
+abbrev pub set_lines : (grouped : Bool) → Prices → List Line
+set_lines grouped set =
+    prices set.unit (length set.services) set.services ∷ weights (length set.weights) set.weights ∷ group_lines grouped set
 
 -- the lines of a certificate, in their order
 abbrev pub lines_of : Certificate → List Line
 lines_of c =
-    version_lines c.counts
+    version_lines c.counts (has_groups c.sets)
     ++ cost c.cost ∷ bound c.bound ∷ tours (length c.plan) ∷ map tour_line c.plan
     ++ shores (length c.shores) ∷ map shore_line c.shores
-    ++ sets (length c.sets) ∷ flat_map set_lines c.sets
+    ++ sets (length c.sets) ∷ flat_map (set_lines (has_groups c.sets)) c.sets
     ++ nodes (length c.nodes) ∷ map node c.nodes
     ++ end ∷ []
 
@@ -54,15 +61,15 @@ abbrev pub AreGood : LatestFirst → List Line → Type 0
 AreGood said [] = Unit {0}
 AreGood said (line ∷ lines) = IsTrue (follows (next_of said) line) × IsInRange said line × Agrees said line × AreGood (line ∷ said) lines
 
--- the price set has no weights on groups, of which no line speaks
-abbrev pub HasNoGroups : Prices → Type 0
-HasNoGroups set = set.groups ≡ []
+-- a certificate with a group has the numbers of the instance, too
+abbrev pub HasCountsForGroups : Certificate → Type 0
+HasCountsForGroups c = IsTrue (has_groups c.sets) → IsSome c.counts
 
--- a certificate that can be spelled: its lines follow each other, their numbers are in range, what they say agrees, and its price
--- sets have no groups
+-- a certificate that can be spelled: its lines follow each other, their numbers are in range, what they say agrees, and without the
+-- numbers of the instance it has no group
 pub record IsSpellable (c : Certificate) : Type 0 where
   pub lines : AreGood [] (lines_of c)
-  pub no_groups : All HasNoGroups c.sets
+  pub counted : HasCountsForGroups c
 
 -- a rising list of 1 to 999 vertices
 pub record IsFineShore (vertices : List ℕ) : Type 0 where
@@ -70,11 +77,11 @@ pub record IsFineShore (vertices : List ℕ) : Type 0 where
   pub vertices_in : All (IsWithin 1 1000) vertices
   pub rising : IsStrictlyIncreasing vertices
 
--- a price set without groups whose weights are on shores of the pool
+-- a price set whose weights are on shores of the pool, and whose groups are of edges from 1 to 600
 pub record IsFineSet (pool : List (List ℕ)) (set : Prices) : Type 0 where
   pub prices : IsPriceSet set
-  pub no_groups : HasNoGroups set
   pub shores : All (λ w. IsShoreNumber pool w.shore) set.weights
+  pub group_edges : All (λ w. All (IsWithin 1 600) w.edges) set.groups
 
 -- a node, where there are so many shores (borders) and so many price sets (units)
 abbrev pub IsFineNode : (borders units : ℕ) → Node → Type 0
@@ -85,7 +92,7 @@ IsFineNode borders units Void = Unit {0}
 IsFineNode borders units Fixed = Unit {0}
 
 -- the numbers of a certificate are in their ranges, its shores rise and are different, the weights of its price sets rise and are not 0,
--- its pairs have the lesser edge first, and its nodes are those of a tree in preorder
+-- it has the numbers of the instance if it has a group, its pairs have the lesser edge first, and its nodes are those of a tree in preorder
 pub record IsFine (c : Certificate) : Type 0 where
   pub counts_in : IfSome c.counts AreCountsInRange
   pub cost_in : c.cost < 10 ^ 18
@@ -98,6 +105,7 @@ pub record IsFine (c : Certificate) : Type 0 where
   pub different : AreDifferent c.shores
   pub few_sets : length c.sets ≤ 256
   pub sets_fine : All (IsFineSet c.shores) c.sets
+  pub counted : HasCountsForGroups c
   pub few_nodes : length c.nodes ≤ 2097153
   pub nodes_fine : All (IsFineNode (length c.shores) (length c.sets)) c.nodes
   pub tree : Tree

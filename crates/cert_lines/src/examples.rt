@@ -1,6 +1,5 @@
 // Small data on which a fact that no call decides holds, and on which it does not.
-ghost use Rattle.std.specs.Prelude.{◌≡◌, ◌+◌, ◌^◌, pos, negsuc, neg_ℤ, [], ◌∷◌, replicate, codes};
-ghost use Rattle.branch_rules.specs.Bonds.{GroupWeight};
+ghost use Rattle.std.specs.Prelude.{◌≡◌, ◌+◌, ◌^◌, pos, negsuc, neg_ℤ, [], ◌∷◌, None, replicate, codes};
 ghost use Rattle.branch_rules.specs.declared.node.Node.TheVariants.{Pair, Cut, Price, Void, Fixed as FixedLeaf};
 ghost use Rattle.cert_lines.specs.declared.fault.CertFault.TheVariants.{Syntax, Limit, Truncated};
 ghost use Rattle.cert_lines.specs.declared.next.Next.TheVariants as stands;
@@ -16,9 +15,13 @@ ghost use Rattle.cert_lines.specs.Lines.{
   sets,
   prices,
   weights,
+  bonds,
   nodes,
   node,
   end,
+  nothing,
+  weight_alone,
+  short_of,
   line_text,
 };
 ghost use Rattle.cert_lines.specs.Order.{next_of};
@@ -32,6 +35,7 @@ ghost use Rattle.cert_lines.specs.Examples.{
   drives,
   drives_back,
   on_shore,
+  on_group,
   row_counts,
   triangle,
   triangle_text,
@@ -39,7 +43,9 @@ ghost use Rattle.cert_lines.specs.Examples.{
   row_text,
   star,
   star_text,
-  with_group,
+  with_groups,
+  bonded,
+  bonded_text,
 };
 
 #[tactic(auto, unfolding(crate::specs::Numerals::numeral))]
@@ -71,6 +77,10 @@ fn lines_of_items()
     ensures shore { line_text (shore 2 (2 ∷ 3 ∷ [])) ≡ codes "shore 2 2 3" }
     ensures prices { line_text (prices 2 3 (pos 5 ∷ negsuc 6 ∷ pos 0 ∷ [])) ≡ codes "prices 2 3 5 -7 0" }
     ensures weights { line_text (weights 2 (on_shore 1 (negsuc 99) ∷ on_shore 2 (pos 1) ∷ [])) ≡ codes "weights 2 1 -100 2 1" }
+    ensures bonds { line_text (bonds 1 (on_group (4 ∷ 9 ∷ []) (negsuc 6) ∷ []) nothing) ≡ codes "bonds 1 -7 2 4 9" }
+    ensures no_bonds { line_text (bonds 0 [] nothing) ≡ codes "bonds 0" }
+    ensures weight_alone { line_text (bonds 1 [] (weight_alone (pos 5))) ≡ codes "bonds 1 5" }
+    ensures short_group { line_text (bonds 1 [] (short_of 1 (pos 5) (8 ∷ []))) ≡ codes "bonds 1 5 3 8" }
 {}
 
 #[tactic(auto, unfolding(crate::specs::Numerals::numeral))]
@@ -96,6 +106,10 @@ fn what_stands_next()
     ensures tours_to_come { next_of (tour 0 [] ∷ tours 3 ∷ []) ≡ stands.Tour 2 }
     ensures last_shore { next_of (shore 0 [] ∷ shores 1 ∷ []) ≡ stands.Sets }
     ensures weights_of_prices { next_of (prices 1 0 [] ∷ sets 2 ∷ []) ≡ stands.Weights 2 }
+    ensures prices_of_the_next_set { next_of (weights 0 [] ∷ prices 1 0 [] ∷ sets 2 ∷ version 2 ∷ []) ≡ stands.Prices 1 }
+    ensures bonds_of_weights { next_of (weights 0 [] ∷ prices 1 0 [] ∷ sets 2 ∷ version 4 ∷ []) ≡ stands.Bonds 2 }
+    ensures prices_after_bonds { next_of (bonds 0 [] nothing ∷ weights 0 [] ∷ prices 1 0 [] ∷ sets 2 ∷ version 4 ∷ []) ≡ stands.Prices 1 }
+    ensures of_version_four { next_of (version 4 ∷ []) ≡ stands.Counts }
     ensures two_subtrees { next_of (node (Pair 1 2) ∷ nodes 3 ∷ []) ≡ stands.Node 2 2 }
     ensures last_node { next_of (node Void ∷ nodes 1 ∷ []) ≡ stands.End }
     ensures none { next_of (end ∷ []) ≡ stands.Nothing }
@@ -157,6 +171,17 @@ fn ranges_of_price_sets()
     ensures shore_past { ¬ (IsInRange (shore 0 [] ∷ []) (weights 1 (on_shore 2 (pos 1) ∷ []))) }
 {}
 
+fn ranges_of_groups()
+    ensures pair { IsInRange [] (bonds 2000 (on_group (1 ∷ 600 ∷ []) (neg_ℤ (pos 1000000000000000)) ∷ []) nothing) }
+    ensures groups_past { ¬ (IsInRange [] (bonds 2001 [] nothing)) }
+    ensures one_edge { ¬ (IsInRange [] (bonds 1 (on_group (1 ∷ []) (pos 1) ∷ []) nothing)) }
+    ensures edge_zero { ¬ (IsInRange [] (bonds 1 (on_group (0 ∷ 1 ∷ []) (pos 1) ∷ []) nothing)) }
+    ensures edge_past { ¬ (IsInRange [] (bonds 1 (on_group (1 ∷ 601 ∷ []) (pos 1) ∷ []) nothing)) }
+    ensures weight_past { ¬ (IsInRange [] (bonds 1 [] (weight_alone (pos 1000000000000001)))) }
+    ensures stated { IsInRange [] (bonds 1 [] (short_of 598 (pos 1) (1 ∷ []))) }
+    ensures size_past { ¬ (IsInRange [] (bonds 1 [] (short_of 599 (pos 1) (1 ∷ [])))) }
+{}
+
 fn ranges_of_nodes()
     ensures pair { IsInRange [] (node (Pair 1 600)) }
     ensures pair_zero { ¬ (IsInRange [] (node (Pair 0 1))) }
@@ -182,6 +207,19 @@ fn what_agrees()
     ensures no_weight { ¬ (Agrees [] (weights 1 (on_shore 1 (pos 0) ∷ []))) }
 {}
 
+fn groups_that_agree()
+    ensures pairs { Agrees [] (bonds 2 (on_group (1 ∷ 2 ∷ []) (pos 1) ∷ on_group (1 ∷ 2 ∷ []) (negsuc 1) ∷ []) nothing) }
+    ensures other_number { ¬ (Agrees [] (bonds 0 (on_group (1 ∷ 2 ∷ []) (pos 1) ∷ []) nothing)) }
+    ensures incomplete { ¬ (Agrees [] (bonds 0 [] (weight_alone (pos 1)))) }
+    ensures falling { ¬ (Agrees [] (bonds 1 (on_group (2 ∷ 1 ∷ []) (pos 1) ∷ []) nothing)) }
+    ensures no_weight { ¬ (Agrees [] (bonds 1 (on_group (1 ∷ 2 ∷ []) (pos 0) ∷ []) nothing)) }
+    ensures negative_on_three { ¬ (Agrees [] (bonds 1 (on_group (1 ∷ 2 ∷ 3 ∷ []) (negsuc 0) ∷ []) nothing)) }
+    ensures none_in_the_last { ¬ (Agrees (weights 0 [] ∷ prices 1 0 [] ∷ sets 1 ∷ version 4 ∷ []) (bonds 0 [] nothing)) }
+    ensures none_in_the_first { Agrees (weights 0 [] ∷ prices 1 0 [] ∷ sets 2 ∷ version 4 ∷ []) (bonds 0 [] nothing) }
+    ensures no_set { ¬ (Agrees (version 4 ∷ []) (sets 0)) }
+    ensures no_set_in_version_two { Agrees (version 2 ∷ []) (sets 0) }
+{}
+
 fn trees_that_become_whole()
     ensures last { BecomesWhole 1 1 Void }
     ensures too_early { ¬ (BecomesWhole 2 1 Void) }
@@ -202,8 +240,11 @@ fn a_whole_certificate()
 fn certificates_that_cannot_be_spelled()
     ensures cost_past { ¬ (IsFine (record triangle { cost = 10 ^ 18 })) }
     ensures falling_shore { ¬ (IsFine (record triangle { shores = (3 ∷ 2 ∷ []) ∷ [] })) }
-    ensures group { (w : GroupWeight) → ¬ (IsFine (with_group w)) }
-    ensures group_unspellable { (w : GroupWeight) → ¬ (IsSpellable (with_group w)) }
+    ensures group_without_counts { ¬ (IsFine (record bonded { counts = None })) }
+    ensures group_without_counts_unspellable { ¬ (IsSpellable (record bonded { counts = None })) }
+    ensures no_group_weight { ¬ (IsFine (with_groups (on_group (1 ∷ 2 ∷ []) (pos 0) ∷ []))) }
+    ensures falling_group { ¬ (IsFine (with_groups (on_group (2 ∷ 1 ∷ []) (pos 1) ∷ []))) }
+    ensures negative_group_of_three { ¬ (IsFine (with_groups (on_group (1 ∷ 2 ∷ 3 ∷ []) (negsuc 0) ∷ []))) }
     ensures past_unspellable { ¬ (IsSpellable (record triangle { bound = 10 ^ 18 })) }
     ensures falling_unspellable { ¬ (IsSpellable (record triangle { shores = (3 ∷ 2 ∷ []) ∷ [] })) }
     ensures two_trees_unspellable { ¬ (IsSpellable (record triangle { nodes = Price 1 ∷ Price 1 ∷ [] })) }
@@ -213,6 +254,8 @@ fn certificates_that_cannot_be_spelled()
 fn larger_certificates()
     ensures row { text_of row ≡ row_text }
     ensures row_spellable { IsSpellable row }
+    ensures bonded { text_of bonded ≡ bonded_text }
+    ensures bonded_spellable { IsSpellable bonded }
     ensures star { text_of star ≡ star_text }
 {}
 

@@ -5,7 +5,7 @@
 pub enum Next {
     /// The version, with which the text begins.
     Version,
-    /// The numbers of the instance, which only version 2 has.
+    /// The numbers of the instance, which versions 2 and 4 have.
     Counts,
     /// The cost of the plan.
     Cost,
@@ -25,6 +25,9 @@ pub enum Next {
     Prices { left: u64 },
     /// The weights of the set whose prices stand on the line before; so many sets are still to come, this one too.
     Weights { left: u64 },
+    /// The groups of the set whose weights stand on the line before, which only version 4 has; so many sets are still to come, this one
+    /// too.
+    Bonds { left: u64 },
     /// How many nodes follow.
     Nodes,
     /// A node; so many nodes, and so many whole subtrees, are still to come, this one and its subtree too.

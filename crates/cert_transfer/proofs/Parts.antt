@@ -172,6 +172,7 @@ module _ (known : Known) (p q : Problem) (valid : IsValid p) (valid_now : IsVali
         different = fine.different;
         few_sets = fine.few_sets;
         sets_fine = fine.sets_fine;
+        counted = λ grouped. refl;
         few_nodes = omega (arith, no_more, fine.few_nodes);
         nodes_fine = all_fine;
         tree = carried.carried;

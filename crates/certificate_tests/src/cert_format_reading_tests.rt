@@ -71,13 +71,19 @@ fn push_fault(seen: &mut Vec<u8>, fault: CertFault) -> Result<(), Fail> {
 }
 
 // A row is what is given, and the text, in which `~` stands for each line feed, `^` for a carriage return, `$` for the lines up
-// to the bound, and `#` for those up to the prices of one set, where there is one shore.
+// to the bound, `#` for those up to the prices of one set, where there is one shore, and `%` for those up to the weights of one set in
+// version 4.
 fn expect_row(rt: &impl Abort, alloc: Global, row: &str) -> Result<(), Fail> {
     let (expected, text) = row.split_once('|').unwrap_or(("", row));
     let text = text.replace(
         alloc,
         "#",
         "$tours 0~shores 1~shore 1 3~sets 1~prices 1 1 5~",
+    )?;
+    let text = text.replace(
+        alloc,
+        "%",
+        "carp-certificate 4~instance 3 2 2 2 4~cost 5~bound 5~tours 0~shores 0~sets 1~prices 1 1 5~weights 0~",
     )?;
     let text = text.replace(alloc, "$", "carp-certificate 1~cost 5~bound 5~")?;
     let text = text.replace(alloc, "~", "\n")?;
@@ -185,6 +191,58 @@ const SETS: &str = "\
     LI|#weights 1 1 -1000000000000001~\n\
     TJ|#weights 1 1 -7~";
 
+// Groups of price sets: in whole texts, in their shape, past a limit, and where they do not agree.
+const GROUPS: &str = "\
+    hnw|carp-certificate 4~instance 3 2 2 2 4~cost 20~bound 20~tours 2~tour 2 +1 <1~tour 4 >1 +2 <2 <1~shores 2~shore 2 2 3~shore 1 3~sets 1~prices 1 2 3 4~weights 2 1 3 2 4~bonds 2 3 2 1 2 -2 2 1 2~nodes 1~price 1~end~\n\
+    hnw|carp-certificate 4~instance 3 2 2 2 4~cost 5~bound 5~tours 0~shores 0~sets 2~prices 1 1 5~weights 0~bonds 0~prices 1 1 5~weights 0~bonds 1 1 2 1 2~nodes 1~void~end~\n\
+    hnw|carp-certificate 4~instance 3 2 2 2 4~cost 5~bound 5~tours 0~shores 0~sets 2~prices 1 1 5~weights 0~bonds 1 1 2 1 2~prices 1 1 5~weights 0~bonds 0~nodes 1~void~end~\n\
+    SM|carp-certificate 4~instance 3 2 2 2 4~cost 5~bound 5~tours 0~shores 0~sets 2~prices 1 1 5~weights 0~bonds 0~prices 1 1 5~weights 0~bonds 0~nodes 1~void~end~\n\
+    SG|carp-certificate 4~instance 3 2 2 2 4~cost 5~bound 5~tours 0~shores 0~sets 0~\n\
+    SJ|carp-certificate 2~instance 3 2 2 2 4~cost 5~bound 5~tours 0~shores 0~sets 1~prices 1 1 5~weights 0~bonds 1 3 2 1 2~\n\
+    SB|carp-certificate 4~cost 5~\n\
+    SA|carp-certificate 5~\n\
+    hnw|%bonds 1 3 2 1 2~nodes 1~void~end~\n\
+    hnw|%bonds 2 3 2 1 2 3 2 1 2~nodes 1~void~end~\n\
+    SJ|%nodes 1~\n\
+    SJ|%bonds 0~\n\
+    SJ|%bonds~\n\
+    SJ|%bonds  1 3 2 1 2~\n\
+    SJ|%bonds 1 3 2 1 2 ~\n\
+    SJ|%bonds 1 3 2 1 02~\n\
+    SJ|%bonds 1 3 2 1 -2~\n\
+    SJ|%bonds 1 3 -2 1 2~\n\
+    SJ|%bonds 1 +3 2 1 2~\n\
+    SJ|%bonds 1 -0 2 1 2~\n\
+    SJ|%bonds 2001 x~\n\
+    SJ|%bonds 1 3 601 1 2 x~\n\
+    LJ|%bonds 2001~\n\
+    LJ|%bonds 1 1000000000000001 2 1 2~\n\
+    LJ|%bonds 1 -1000000000000001 2 1 2~\n\
+    LJ|%bonds 1 3 0~\n\
+    LJ|%bonds 1 3 0 3 2 1 2~\n\
+    LJ|%bonds 1 3 1 1~\n\
+    LJ|%bonds 1 3 601~\n\
+    LJ|%bonds 1 3 1000000000000000000 1 2~\n\
+    LJ|%bonds 1 3 100000000000000000000000000000 1 2~\n\
+    LJ|%bonds 1 3 2 0 1~\n\
+    LJ|%bonds 1 3 2 1 601~\n\
+    LJ|%bonds 1 3 2 601~\n\
+    LJ|%bonds 1 3 2 1 2 1000000000000001~\n\
+    LJ|%bonds 0 3 2 2 601~\n\
+    SJ|%bonds 1 3~\n\
+    SJ|%bonds 1 3 2~\n\
+    SJ|%bonds 1 3 2 1~\n\
+    SJ|%bonds 2 3 2 1 2~\n\
+    SJ|%bonds 0 3 2 1 2~\n\
+    SJ|%bonds 1 3 2 1 2 4 2 1 2~\n\
+    SJ|%bonds 1 3 2 1 2 4~\n\
+    SJ|%bonds 1 3 2 2 1~\n\
+    SJ|%bonds 1 3 2 1 1~\n\
+    SJ|%bonds 1 0 2 1 2~\n\
+    SJ|%bonds 1 -1 3 1 2 3~\n\
+    TK|%bonds 1 1000000000000000 3 1 2 600~\n\
+    TK|%bonds 1 -1000000000000000 2 1 600~";
+
 // Nodes, and what follows the end.
 const NODES: &str = "\
     LJ|#weights 0~nodes 0~\n\
@@ -228,6 +286,51 @@ fn tours_and_shores(rt: HostRuntime) -> Result<(), Fail> {
 #[test]
 fn price_sets(rt: HostRuntime) -> Result<(), Fail> {
     expect_rows(&rt, rt.alloc(), SETS)
+}
+
+#[test]
+fn groups_of_price_sets(rt: HostRuntime) -> Result<(), Fail> {
+    expect_rows(&rt, rt.alloc(), GROUPS)
+}
+
+// Adds a group of so many edges.
+fn push_group(alloc: Global, text: &mut String, size: u32) -> Result<(), Fail> {
+    text.push_str(&format!(in alloc; " 1 {size}")?)?;
+    for e in 1..=size {
+        text.push_str(&format!(in alloc; " {e}")?)?;
+    }
+    Ok(())
+}
+
+// The lines up to those of 101 groups, the last two of these sizes, and the others of 600 edges.
+fn many_groups(alloc: Global, last: u32, more: u32) -> Result<String, Fail> {
+    let mut text = String::from_str(
+        alloc,
+        "carp-certificate 4\ninstance 3 2 2 2 4\ncost 5\nbound 5\ntours 0\nshores 0\nsets 1\nprices 1 1 5\nweights 0\nbonds 101",
+    )?;
+    for _ in 0..99 {
+        push_group(alloc, &mut text, 600)?;
+    }
+    push_group(alloc, &mut text, last)?;
+    push_group(alloc, &mut text, more)?;
+    text.push_str("\n")?;
+    Ok(text)
+}
+
+#[test]
+fn edges_of_all_groups(rt: HostRuntime) -> Result<(), Fail> {
+    let alloc = rt.alloc();
+    let text = many_groups(alloc, 598, 2)?;
+    assert_eq!(rt;
+        given(alloc, text.as_bytes(), 65536)?.as_slice(),
+        b"TK".as_slice()
+    );
+    let text = many_groups(alloc, 599, 2)?;
+    assert_eq!(rt;
+        given(alloc, text.as_bytes(), 65536)?.as_slice(),
+        b"LJ".as_slice()
+    );
+    Ok(())
 }
 
 #[test]

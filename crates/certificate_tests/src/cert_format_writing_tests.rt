@@ -95,14 +95,16 @@ fn expect_back(rt: &impl Abort, alloc: Global, text: &[u8]) -> Result<(), Fail> 
 
 // The worked certificates, in which `~` stands for each line feed: of a triangle; of two streets in a row, without the numbers of
 // the instance and with them; of five streets far from the depot, with a cut; one that costs more than its instance needs; of
-// three streets round a far corner.
+// three streets round a far corner. Of version 4: of the two streets, and one of two price sets of which the first has no group.
 const TEXTS: &str = "\
     carp-certificate 1~cost 16~bound 16~tours 1~tour 3 +1 +2 -3~shores 0~sets 1~prices 1 3 5 7 4~weights 0~nodes 1~price 1~end~\n\
     carp-certificate 1~cost 20~bound 20~tours 2~tour 2 +1 <1~tour 4 >1 +2 <2 <1~shores 2~shore 2 2 3~shore 1 3~sets 1~prices 1 2 3 4~weights 2 1 3 2 4~nodes 1~price 1~end~\n\
     carp-certificate 2~instance 3 2 2 2 4~cost 20~bound 20~tours 2~tour 2 +1 <1~tour 4 >1 +2 <2 <1~shores 2~shore 2 2 3~shore 1 3~sets 1~prices 1 2 3 4~weights 2 1 3 2 4~nodes 1~price 1~end~\n\
     carp-certificate 1~cost 610~bound 610~tours 3~tour 6 >6 +1 <1 +2 <2 <6~tour 6 >6 +3 <3 +4 <4 <6~tour 4 >6 +5 <5 <6~shores 6~shore 6 2 3 4 5 6 7~shore 1 3~shore 1 4~shore 1 5~shore 1 6~shore 1 7~sets 2~prices 1 5 201 201 201 201 201~weights 6 1 -100 2 1 3 1 4 1 5 1 6 1~prices 1 5 1 1 1 1 1~weights 6 1 100 2 1 3 1 4 1 5 1 6 1~nodes 3~cut 1 4~price 1~price 2~end~\n\
     carp-certificate 1~cost 204~bound 204~tours 1~tour 6 >3 +1 <1 +2 <2 <3~shores 0~sets 1~prices 1 2 102 102~weights 0~nodes 1~price 1~end~\n\
-    carp-certificate 1~cost 45~bound 45~tours 2~tour 5 >4 +1 +2 >3 <4~tour 4 >4 -3 >3 <4~shores 2~shore 3 2 3 4~shore 2 3 4~sets 1~prices 1 3 1 1 1~weights 2 1 10 2 1~nodes 1~price 1~end~";
+    carp-certificate 1~cost 45~bound 45~tours 2~tour 5 >4 +1 +2 >3 <4~tour 4 >4 -3 >3 <4~shores 2~shore 3 2 3 4~shore 2 3 4~sets 1~prices 1 3 1 1 1~weights 2 1 10 2 1~nodes 1~price 1~end~\n\
+    carp-certificate 4~instance 3 2 2 2 4~cost 20~bound 20~tours 2~tour 2 +1 <1~tour 4 >1 +2 <2 <1~shores 2~shore 2 2 3~shore 1 3~sets 1~prices 1 2 3 4~weights 2 1 3 2 4~bonds 2 3 2 1 2 -2 2 1 2~nodes 1~price 1~end~\n\
+    carp-certificate 4~instance 3 2 2 2 4~cost 5~bound 5~tours 0~shores 0~sets 2~prices 1 1 5~weights 0~bonds 0~prices 1 1 5~weights 0~bonds 1 1 3 1 2 600~nodes 1~void~end~";
 
 #[test]
 fn what_is_read_is_written_back(rt: HostRuntime) -> Result<(), Fail> {

@@ -59,6 +59,10 @@ module _ {file cert : List ℕ} (p : Problem) (valid : IsValid p) (proves : Good
       still_good = (keep p (certificate_in good) valid accepted.good accepted.spellable).0;
     }
 
+    held_by : {bytes : List ℕ} (good : Cert) → IsGoodCert p bytes good → Reads (certificate_at cert) (λ bytes. certificates.IsTextOf bytes (certificate_in good))
+        → AreCertified Reads file cert p (certificate_in good)
+    held_by good accepted text = certified (certificate_in good) text accepted.good
+
   -- of the bytes that names hold
   module _ (contents : List ℕ → Option (List ℕ)) (read : Holds (instance_at file) contents (λ bytes. IsTextOf bytes p)) where
     pub was_checked : (stated : Stated) → Holds (certificate_at cert) contents (λ bytes. IsAcceptedText p bytes stated) → WasChecked (HeldIn contents) file cert stated.cost stated.bound
@@ -74,6 +78,10 @@ module _ {file cert : List ℕ} (p : Problem) (valid : IsValid p) (proves : Good
     was_renewed keep good renewed is accepted = with_some (contents cert) accepted (λ bytes held text.
         renewed_by (HeldIn contents) read keep good renewed is text.1 (there _ (contents cert) bytes held (text.0, text.1.text)))
 
+    pub was_held : (good : Cert) → Holds (certificate_at cert) contents (λ bytes. IsGoodCert p bytes good) → AreCertified (HeldIn contents) file cert p (certificate_in good)
+    was_held good accepted = with_some (contents cert) accepted (λ bytes held text.
+        held_by (HeldIn contents) read good text.1 (there _ (contents cert) bytes held (text.0, text.1.text)))
+
   -- of the bytes that files gave, one after the other
   module _ (gb gm gn : ℕ) (since : gb ≤ gm) (until : gm ≤ gn) (first : GivenIn gb gm (instance_at file) (λ bytes. IsTextOf bytes p)) where
     pub given_checked : (stated : Stated) → GivenIn gm gn (certificate_at cert) (λ bytes. IsAcceptedText p bytes stated) → WasChecked (GivenIn gb gn) file cert stated.cost stated.bound
@@ -85,6 +93,10 @@ module _ {file cert : List ℕ} (p : Problem) (valid : IsValid p) (proves : Good
     pub given_renewed : CountsKeepGood → (good renewed : Cert) → certificate_in renewed ≡ with_counts p (certificate_in good)
         → GivenIn gm gn (certificate_at cert) (λ bytes. IsGoodCert p bytes good) → WasRenewed (GivenIn gb gn) file cert renewed
     given_renewed keep good renewed is (bytes, rose, text) = renewed_by (GivenIn gb gn) (given_until (instance_at file) (λ bytes. IsTextOf bytes p) gb gm gn until first) keep good renewed is text (bytes, rose_since _ gb gm gn since rose, text.text)
+
+    pub given_held : (good : Cert) → GivenIn gm gn (certificate_at cert) (λ bytes. IsGoodCert p bytes good) → AreCertified (GivenIn gb gn) file cert p (certificate_in good)
+    given_held good (bytes, rose, text) =
+        held_by (GivenIn gb gn) (given_until (instance_at file) (λ bytes. IsTextOf bytes p) gb gm gn until first) good text (bytes, rose_since _ gb gm gn since rose, text.text)
 
 -- a checked plan is lawful
 pub lawful_plan : {p : Problem} {bytes : List ℕ} (stated : Stated) → IsAcceptedText p bytes stated → IsLawful p stated.plan

@@ -3,7 +3,7 @@ use Rattle.std.specs.Prelude.{ℕ, List, Option, ◌⊎◌}
 use Rattle.carp_base.specs.Problem.{Problem}
 use Rattle.carp_outside.specs.Causes.{Rose}
 use Rattle.dat_text.specs.Text.{IsTextOf}
-use Rattle.command_words.specs.Commands.{Command, Solve, Check, Sheet, Make, Drill, Upgrade, Postman, Fleet, Edit, instance_at, certificate_at}
+use Rattle.command_words.specs.Commands.{Command, Solve, Check, Sheet, Make, Drill, Upgrade, Postman, Fleet, Edit, Improve, instance_at, certificate_at}
 use Rattle.command_jobs.specs.Files.{Holds, IsInstance, IsBadInstance, IsGoodText, IsBadCertificate, IsBadFile, IsBadRound, IsJoinedText}
 use Rattle.command_jobs.specs.Reads.{IsOfCertificate, IsOfFile, IsOfInstance, IsOfRound}
 use Rattle.command_jobs.specs.declared.status.Status.{Status}
@@ -41,6 +41,7 @@ IsRefusalOf (Upgrade file cert renewed) status = IsOfFile status ⊎ IsOfPair st
 IsRefusalOf (Postman file) status = IsOfFile status ⊎ IsOfRound status
 IsRefusalOf (Fleet file turns) status = IsOfFile status ⊎ IsOfInstance status
 IsRefusalOf (Edit file cert edits edited carried) status = IsOfFile status ⊎ IsOfTexts status
+IsRefusalOf (Improve file cert improved turns seed) status = IsOfFile status ⊎ IsOfPair status
 
 -- what names hold has a command refuse so; one that reads no file refuses nothing
 abbrev pub IsRefused : Command → (List ℕ → Option (List ℕ)) → Status → Type 0
@@ -53,6 +54,7 @@ IsRefused (Upgrade file cert renewed) contents status = IsBadPair file cert cont
 IsRefused (Postman file) contents status = IsBadFile IsBadRound (instance_at file) contents status
 IsRefused (Fleet file turns) contents status = IsBadFile IsBadInstance (instance_at file) contents status
 IsRefused (Edit file cert edits edited carried) contents status = AreBadFiles file cert edits contents status
+IsRefused (Improve file cert improved turns seed) contents status = IsBadPair file cert contents status
 
 -- what names hold lets a command be done
 abbrev pub CanBeDone : Command → (List ℕ → Option (List ℕ)) → Type 0
@@ -65,6 +67,7 @@ CanBeDone (Upgrade file cert renewed) contents = IsGoodPair file cert contents
 CanBeDone (Postman file) contents = Holds (instance_at file) contents IsJoinedText
 CanBeDone (Fleet file turns) contents = Holds (instance_at file) contents IsInstance
 CanBeDone (Edit file cert edits edited carried) contents = AreGoodFiles file cert edits contents
+CanBeDone (Improve file cert improved turns seed) contents = IsGoodPair file cert contents
 
 -- a look failed at the first of two files, or at the second one, where the first is the text of an instance
 abbrev pub IsUnreadPair : (file cert : List ℕ) → (List ℕ → Option (List ℕ)) → (List ℕ → ℕ) → (List ℕ → ℕ) → Type 0
@@ -81,3 +84,4 @@ IsUnread (Upgrade file cert renewed) contents before now = IsUnreadPair file cer
 IsUnread (Postman file) contents before now = Rose (before file) (now file)
 IsUnread (Fleet file turns) contents before now = Rose (before file) (now file)
 IsUnread (Edit file cert edits edited carried) contents before now = AreUnread file cert edits contents before now
+IsUnread (Improve file cert improved turns seed) contents before now = IsUnreadPair file cert contents before now

@@ -11,7 +11,7 @@ use Rattle.cert_lines.specs.Texts as certificates
 use Rattle.cert_format.specs.Certs.{certificate_in}
 use Rattle.cert_format.specs.Good.{IsGood, IsProof, with_counts}
 use Rattle.cert_format.specs.declared.cert.Cert.{Cert}
-use Rattle.command_words.specs.Commands.{Command, Source, Solve, Check, Sheet, Make, Drill, Upgrade, Postman, Fleet, Edit, instance_at, certificate_at, reads}
+use Rattle.command_words.specs.Commands.{Command, Source, Solve, Check, Sheet, Make, Drill, Upgrade, Postman, Fleet, Edit, Improve, instance_at, certificate_at, reads}
 use Rattle.postman.specs.Rounds.{IsShownRound}
 use Rattle.command_words.specs.Laws.{HasBudget}
 use Rattle.command_jobs.specs.Files.{GivenIn, HeldIn}
@@ -33,9 +33,11 @@ IsFor (Upgrade file cert renewed) (jobs.Upgrade c name) = name.now ≡ renewed
 IsFor (Postman file) (jobs.Postman laid) = Unit {0}
 IsFor (Fleet file turns) (jobs.Fleet inst asked) = asked ≡ turns
 IsFor (Edit file cert edits edited carried) (jobs.Edit read first second) = (first.now ≡ edited) × (second.now ≡ carried)
+IsFor (Improve file cert improved turns seed) (jobs.Improve inst c name asked drawn) = (name.now ≡ improved) × (asked ≡ turns) × (drawn ≡ seed)
 IsFor _ _ = ⊥
 
--- it can be done: its turns are in their range, its plan is lawful, its certificate can be spelled, its round is least, and its certificate is good for the instance that is edited
+-- It can be done: its turns are in their range, its plan is lawful, its certificate can be spelled, its round is least, and its certificate
+-- is good for the instance that is edited, or with which it is gone on.
 abbrev pub IsSoundJob : Job → Type 0
 IsSoundJob (jobs.Solve inst name turns seed) = HasBudget (Solve name.now name.now turns seed)
 IsSoundJob (jobs.Check cost bound) = Unit {0}
@@ -46,6 +48,7 @@ IsSoundJob (jobs.Upgrade c name) = IsSpellable (certificate_in c)
 IsSoundJob (jobs.Postman laid) = IsShownRound laid.inst laid.round.walk laid.round.shores.items laid.round.cost
 IsSoundJob (jobs.Fleet inst turns) = HasBudget (Fleet [] turns)
 IsSoundJob (jobs.Edit read edited carried) = IsEdited read
+IsSoundJob (jobs.Improve inst c name turns seed) = HasBudget (Improve [] [] [] turns seed) × IsSpellable (certificate_in c) × IsGood inst (certificate_in c)
 
 -- What follows is said for each way of reading files (`Reads`): of the bytes that their names hold, or of bytes that they gave in this call.
 
@@ -90,6 +93,7 @@ WasRead Reads (Upgrade file cert renewed) (jobs.Upgrade c name) = WasRenewed Rea
 WasRead Reads (Postman file) (jobs.Postman laid) = Reads (instance_at file) (λ bytes. IsTextOf bytes laid.inst)
 WasRead Reads (Fleet file turns) (jobs.Fleet inst asked) = Reads (instance_at file) (λ bytes. IsTextOf bytes inst)
 WasRead Reads (Edit file cert edits edited carried) (jobs.Edit read first second) = IsEditedFrom file cert edits Reads read
+WasRead Reads (Improve file cert improved turns seed) (jobs.Improve inst c name asked drawn) = AreCertified Reads file cert inst (certificate_in c)
 WasRead Reads _ _ = ⊥
 
 -- The job of a command: it rests on bytes that the files gave in this call, whether or not contents are told, and on those that the names hold where

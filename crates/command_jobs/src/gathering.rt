@@ -3,7 +3,7 @@ ghost use Rattle.std.specs.Prelude.{◌≡◌, ℕ, ◌≤◌, IfOk, IsTrue};
 ghost use Rattle.carp_outside.specs.Told.{SameContents};
 ghost use Rattle.cert_format.specs.Certs.{certificate_in};
 ghost use Rattle.cert_format.specs.Good.{with_counts};
-ghost use Rattle.command_words.specs.Commands.{Solve, Check, Sheet, Upgrade, Postman, Fleet, Edit};
+ghost use Rattle.command_words.specs.Commands.{Solve, Check, Sheet, Upgrade, Postman, Fleet, Edit, Improve};
 ghost use Rattle.command_words.specs.Forms.{command_in};
 ghost use Rattle.command_words.specs.Laws.{HasBudget};
 ghost use Rattle.command_jobs.specs.Reads.{Seen};
@@ -27,8 +27,8 @@ use std::alloc::Global;
 /// [`Status::BadEdit`] of edits, and [`Status::NotJoined`] only of `postman`.
 ///
 /// Whether or not the shelf tells its contents, the job rests on bytes that it gave in this call: the certificate of a
-/// check, a sheet, an upgrade and an edit is good for the instance. If it tells them, these are the bytes that the
-/// names hold, and what they hold decides, if no look failed at a file that had to be looked at.
+/// check, a sheet, an upgrade, an edit and an improvement is good for the instance. If it tells them, these are the
+/// bytes that the names hold, and what they hold decides, if no look failed at a file that had to be looked at.
 ///
 /// `Fail::Memory` says only that there was not enough memory. It takes the time of reading the files and checking the
 /// certificate, for `postman` also of the round, and for `edit` of the edited instance.
@@ -76,6 +76,13 @@ pub fn gather<'a, H: Shelf>(
             edited,
             carried,
         } => gather_edited(alloc, file, cert, edits, edited, carried, shelf),
+        Command::Improve {
+            file,
+            cert,
+            improved,
+            turns,
+            seed,
+        } => gather_held(alloc, file, cert, improved, turns, seed, shelf),
     }
 }
 
@@ -309,6 +316,48 @@ fn gather_edited<'a, H: Shelf>(
             edited,
             carried,
         }),
+        Err(fail) => Err(fail),
+    }
+}
+
+// An instance, and a certificate that is good for it. It is held, since it is gone on with.
+fn gather_held<'a, H: Shelf>(
+    alloc: Global,
+    file: &str,
+    cert: &str,
+    improved: &'a str,
+    turns: u64,
+    seed: u64,
+    shelf: &mut H,
+) -> Result<Job<'a>, Fail<Status>>
+    requires some_turns { 1 ≤ turns }
+    requires turns_in_range { turns ≤ 1048576 }
+    ensures job { IfOk result (IsJobOf H.tells (Improve file.now cert.now improved.now turns seed) (H.contents shelf.old) (H.given shelf.old) (H.given shelf.new)) }
+    ensures tried { let seen : Seen = record {
+      held = H.tells;
+      contents = H.contents shelf.old;
+      looks_before = H.failed_looks shelf.old;
+      looks_now = H.failed_looks shelf.new;
+      given_before = H.given shelf.old;
+      given_now = H.given shelf.new;
+    } in
+        IsGathered (Improve file.now cert.now improved.now turns seed) seen result }
+    ensures contents { IsTrue H.tells → SameContents (H.contents shelf.old) (H.contents shelf.new) }
+    ensures keeps { H.failed_keeps shelf.new ≡ H.failed_keeps shelf.old }
+{
+    good_is_proof();
+    readings_are_unique();
+    match read_instance(alloc, shelf, file) {
+        Ok(inst) => match read_good(alloc, &inst, shelf, cert) {
+            Ok(good) => Ok(Job::Improve {
+                inst,
+                cert: good,
+                improved,
+                turns,
+                seed,
+            }),
+            Err(fail) => Err(fail),
+        },
         Err(fail) => Err(fail),
     }
 }

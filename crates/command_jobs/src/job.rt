@@ -58,4 +58,13 @@ pub enum Job<'a> {
         edited: &'a str,
         carried: &'a str,
     },
+    /// Goes on with a certificate that is good for the instance, and keeps what comes of it at `improved`.
+    Improve {
+        inst: Instance,
+        cert: Cert,
+        improved: &'a str,
+        /// 1 to 1,048,576.
+        turns: u64,
+        seed: u64,
+    },
 }

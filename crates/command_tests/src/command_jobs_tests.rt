@@ -49,6 +49,17 @@ fn spelled(alloc: Global, job: &Job<'_>) -> Result<String, Fail> {
             edited,
             carried,
         } => format!(in alloc; "edit {} {edited} {carried}", read.edits.len())?,
+        Job::Improve {
+            inst,
+            cert,
+            improved,
+            turns,
+            seed,
+        } => {
+            let vertices = inst.vertices();
+            let tours = cert.plan.len();
+            format!(in alloc; "improve {vertices} {tours} {improved} {turns} {seed}")?
+        }
     })
 }
 
@@ -108,6 +119,22 @@ fn an_edit_is_gathered(rt: HostRuntime) -> Result<(), Fail> {
         },
     )?;
     assert!(rt; edit.as_str() == "edit 2 new kept");
+    Ok(())
+}
+
+#[test]
+fn a_certificate_to_go_on_from_is_gathered(rt: HostRuntime) -> Result<(), Fail> {
+    let improve = gathered(
+        rt.alloc(),
+        Command::Improve {
+            file: "file",
+            cert: "cert",
+            improved: "new",
+            turns: 9,
+            seed: 7,
+        },
+    )?;
+    assert!(rt; improve.as_str() == "improve 2 1 new 9 7");
     Ok(())
 }
 

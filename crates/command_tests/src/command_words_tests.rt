@@ -27,6 +27,11 @@ const ROWS: &str = "\
     fleet file | fleet file 64\n\
     fleet file --turns 1048576 | fleet file 1048576\n\
     edit file cert edits new renewed | edit file cert edits new renewed\n\
+    improve file cert new | improve file cert new 64 1\n\
+    improve file cert new --turns 9 | improve file cert new 9 1\n\
+    improve file cert new --seed 7 | improve file cert new 64 7\n\
+    improve file cert new --turns 9 --seed 7 | improve file cert new 9 7\n\
+    improve file cert new --seed 007 --turns 1048576 | improve file cert new 1048576 7\n\
     |\n\
     solve |\n\
     solve file |\n\
@@ -81,6 +86,18 @@ const ROWS: &str = "\
     edit file cert edits new new |\n\
     edit file cert edits new cert |\n\
     edit file cert edits new renewed --seed 1 |\n\
+    improve |\n\
+    improve file cert |\n\
+    improve file cert cert |\n\
+    improve file cert file |\n\
+    improve file file new |\n\
+    improve file cert new other |\n\
+    improve file cert _ |\n\
+    improve file cert --turns 9 |\n\
+    improve file cert new --turns 0 |\n\
+    improve file cert new --turns 1048577 |\n\
+    improve file cert new --seed 1 --seed 1 |\n\
+    improve --turns 9 file cert new |\n\
     check file |\n\
     check file file |\n\
     check file cert other |\n\
@@ -135,6 +152,15 @@ fn told(alloc: Global, command: Option<Command<'_>>) -> Result<String, Fail> {
                 carried,
             },
         ) => Ok(format!(in alloc; "edit {file} {cert} {edits} {edited} {carried}")?),
+        Some(
+            Command::Improve {
+                file,
+                cert,
+                improved,
+                turns,
+                seed,
+            },
+        ) => Ok(format!(in alloc; "improve {file} {cert} {improved} {turns} {seed}")?),
     }
 }
 

@@ -7,7 +7,7 @@ use Rattle.std.proofs.lemmas.Bool.{leb-true}
 use Rattle.std.proofs.lemmas.Slice.Eq.{bytes_eq-Decides}
 use Rattle.command_words.specs.Commands.{Command}
 use Rattle.command_words.specs.Laws.{HasBudget}
-use Rattle.command_words.specs.Words.{Form, are_names, are_names_and_options, are_options, are_turns, check, command_of, command_with, drill, edit, fleet, forms, given, is_followed, is_given, is_number, is_option, make, number_of, postman, seed_word, sheet, solve, turns_word, upgrade}
+use Rattle.command_words.specs.Words.{Form, are_names, are_names_and_options, are_options, are_turns, check, command_of, command_with, drill, edit, fleet, forms, given, improve, is_followed, is_given, is_number, is_option, make, number_of, postman, seed_word, sheet, solve, turns_word, upgrade}
 use Rattle.command_words.proofs.Numbers.{both}
 
 abbrev IsBudget : ℕ → Type 0
@@ -47,6 +47,13 @@ module _ (t s : ℕ) (fits : IsBudget t) where
   solve_in (a ∷ []) = tt
   solve_in (a ∷ b ∷ []) = fits
   solve_in (a ∷ b ∷ x ∷ xs) = tt
+
+  improve_in : (names : List (List ℕ)) → IfSome (improve names t s) HasBudget
+  improve_in [] = tt
+  improve_in (a ∷ []) = tt
+  improve_in (a ∷ b ∷ []) = tt
+  improve_in (a ∷ b ∷ c ∷ []) = fits
+  improve_in (a ∷ b ∷ c ∷ x ∷ xs) = tt
 
   fleet_in : (names : List (List ℕ)) → IfSome (fleet names t s) HasBudget
   fleet_in [] = tt
@@ -153,7 +160,10 @@ budget_in (verb ∷ words) =
                   without_turns words (row (codes "postman") 1 None postman) (λ names t s. postman_in t s names),
                   (
                     with_turns words (codes "fleet") 1 64 None fleet (omega arith, omega arith) fleet_in,
-                    (without_turns words (row (codes "edit") 5 None edit) (λ names t s. edit_in t s names), tt),
+                    (
+                      without_turns words (row (codes "edit") 5 None edit) (λ names t s. edit_in t s names),
+                      (with_turns words (codes "improve") 3 64 (Some 1) improve (omega arith, omega arith) improve_in, tt),
+                    ),
                   ),
                 ),
               ),

@@ -109,3 +109,12 @@ edit_enters = record {
       let stops = walk_stopped top.rules names (walk_from nothing_held) (codes "edit") [] words in rw (← stops, left, passes) refl;
   rows_are = λ words. let stops = walk_stopped top.rules names (walk_from nothing_held) (codes "edit") [] words in rw (← stops) refl;
 }
+
+pub improve_enters : Enters (codes "improve")
+unfolding clap_on_literals top names
+improve_enters = record {
+  takes_is = λ words passes.
+      let left = left_over top names (walk_from nothing_held) (codes "improve") [] words in
+      let stops = walk_stopped top.rules names (walk_from nothing_held) (codes "improve") [] words in rw (← stops, left, passes) refl;
+  rows_are = λ words. let stops = walk_stopped top.rules names (walk_from nothing_held) (codes "improve") [] words in rw (← stops) refl;
+}

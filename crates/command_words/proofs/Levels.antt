@@ -6,7 +6,7 @@ use Rattle.clap.specs.Simple.{Shape, built, label_of, new_shape}
 use Rattle.clap.specs.Walk.{Row, Text, answers_to}
 use Rattle.clap.specs.Words.{one_of}
 use Rattle.command_words.specs.Grammar.{HasNumber, IsRead, grammar_app}
-use Rattle.command_words.specs.Commands.{Command, Solve, Check, Sheet, Make, Drill, Upgrade, Postman, Fleet, Edit}
+use Rattle.command_words.specs.Commands.{Command, Solve, Check, Sheet, Make, Drill, Upgrade, Postman, Fleet, Edit, Improve}
 use Rattle.command_words.specs.Words.{is_number, number_of}
 use Rattle.command_words.proofs.Walking.{IsPlainText, Reads, goes_end, goes_name, goes_on, goes_value, reads}
 
@@ -57,6 +57,50 @@ module _ (file cert : Text) (f : IsPlainText file) (g : IsPlainText cert) where
     level = reads (goes_name f refl (goes_name g refl (goes_name h refl (goes_name i refl (goes_name j refl goes_end))))) refl;
     read = (refl, refl, refl, refl, refl, refl);
   }
+
+  module _ (improved : Text) (h : IsPlainText improved) where
+    pub improve_read : IsReadAs (codes "improve") (file ∷ cert ∷ improved ∷ []) (Improve file cert improved 64 1)
+    unfolding clap_on_literals
+    improve_read = record {
+      rows = _;
+      level = reads (goes_name f refl (goes_name g refl (goes_name h refl goes_end))) refl;
+      read = (refl, refl, refl, refl, given (codes "turns") (codes "64") refl refl, given (codes "seed") (codes "1") refl refl);
+    }
+
+    pub improve_turns_read : (n : Text) → is_number n ≡ true → IsPlainText n →
+        IsReadAs (codes "improve") (file ∷ cert ∷ improved ∷ codes "--turns" ∷ n ∷ []) (Improve file cert improved (number_of n) 1)
+    unfolding clap_on_literals
+    improve_turns_read n digits i = record {
+      rows = _;
+      level = reads (goes_name f refl (goes_name g refl (goes_name h refl (goes_on refl refl (goes_value i goes_end))))) refl;
+      read = (refl, refl, refl, refl, given (codes "turns") n refl digits, given (codes "seed") (codes "1") refl refl);
+    }
+
+    pub improve_seed_read : (n : Text) → is_number n ≡ true → IsPlainText n →
+        IsReadAs (codes "improve") (file ∷ cert ∷ improved ∷ codes "--seed" ∷ n ∷ []) (Improve file cert improved 64 (number_of n))
+    unfolding clap_on_literals
+    improve_seed_read n digits i = record {
+      rows = _;
+      level = reads (goes_name f refl (goes_name g refl (goes_name h refl (goes_on refl refl (goes_value i goes_end))))) refl;
+      read = (refl, refl, refl, refl, given (codes "turns") (codes "64") refl refl, given (codes "seed") n refl digits);
+    }
+
+    module _ (n k : Text) (d : is_number n ≡ true) (e : is_number k ≡ true) (i : IsPlainText n) (j : IsPlainText k) where
+      pub improve_turns_first : IsReadAs (codes "improve") (file ∷ cert ∷ improved ∷ codes "--turns" ∷ n ∷ codes "--seed" ∷ k ∷ []) (Improve file cert improved (number_of n) (number_of k))
+      unfolding clap_on_literals
+      improve_turns_first = record {
+        rows = _;
+        level = reads (goes_name f refl (goes_name g refl (goes_name h refl (goes_on refl refl (goes_value i (goes_on refl refl (goes_value j goes_end))))))) refl;
+        read = (refl, refl, refl, refl, given (codes "turns") n refl d, given (codes "seed") k refl e);
+      }
+
+      pub improve_seed_first : IsReadAs (codes "improve") (file ∷ cert ∷ improved ∷ codes "--seed" ∷ k ∷ codes "--turns" ∷ n ∷ []) (Improve file cert improved (number_of n) (number_of k))
+      unfolding clap_on_literals
+      improve_seed_first = record {
+        rows = _;
+        level = reads (goes_name f refl (goes_name g refl (goes_name h refl (goes_on refl refl (goes_value j (goes_on refl refl (goes_value i goes_end))))))) refl;
+        read = (refl, refl, refl, refl, given (codes "turns") n refl d, given (codes "seed") k refl e);
+      }
 
   pub solve_read : IsReadAs (codes "solve") (file ∷ cert ∷ []) (Solve file cert 64 1)
   unfolding clap_on_literals

@@ -10,11 +10,11 @@ use Rattle.clap.specs.Takes.{takes}
 use Rattle.clap.specs.Walk.{Row, Text}
 use Rattle.clap.specs.Words.{subcommand_of}
 use Rattle.command_words.specs.Grammar.{IsRead, grammar_app}
-use Rattle.command_words.specs.Commands.{Command, Solve, Check, Sheet, Make, Drill, Upgrade, Postman, Fleet, Edit}
-use Rattle.command_words.specs.Words.{Form, are_names, are_options, are_turns, check, command_of, drill, edit, fleet, forms, given, is_digit, is_followed, is_given, is_name, is_number, is_option, is_plain, make, postman, seed_word, sheet, solve, turns_word, upgrade}
+use Rattle.command_words.specs.Commands.{Command, Solve, Check, Sheet, Make, Drill, Upgrade, Postman, Fleet, Edit, Improve}
+use Rattle.command_words.specs.Words.{Form, are_names, are_options, are_turns, check, command_of, drill, edit, fleet, forms, given, improve, is_digit, is_followed, is_given, is_name, is_number, is_option, is_plain, make, postman, seed_word, sheet, solve, turns_word, upgrade}
 use Rattle.command_words.proofs.Numbers.{both}
-use Rattle.command_words.proofs.Levels.{IsReadAs, check_read, drill_read, drill_seed_first, drill_seed_read, drill_turns_first, drill_turns_read, edit_read, fleet_read, fleet_turns_read, make_read, make_seed_read, postman_read, seed_first, seed_read, sheet_read, solve_read, turns_first, turns_read, upgrade_read}
-use Rattle.command_words.proofs.Entering.{Enters, check_enters, drill_enters, edit_enters, fleet_enters, make_enters, postman_enters, sheet_enters, solve_enters, upgrade_enters}
+use Rattle.command_words.proofs.Levels.{IsReadAs, check_read, drill_read, drill_seed_first, drill_seed_read, drill_turns_first, drill_turns_read, edit_read, fleet_read, fleet_turns_read, improve_read, improve_seed_first, improve_seed_read, improve_turns_first, improve_turns_read, make_read, make_seed_read, postman_read, seed_first, seed_read, sheet_read, solve_read, turns_first, turns_read, upgrade_read}
+use Rattle.command_words.proofs.Entering.{Enters, check_enters, drill_enters, edit_enters, fleet_enters, improve_enters, make_enters, postman_enters, sheet_enters, solve_enters, upgrade_enters}
 use Rattle.command_words.proofs.Walking.{IsPlainText, plain_text}
 
 -- plain words are taken, and read as their command
@@ -296,6 +296,22 @@ edits (file ∷ cert ∷ list ∷ edited ∷ carried ∷ options) e =
     (edit_read file cert (first_name file (cert ∷ list ∷ edited ∷ carried ∷ []) names) (first_name cert (list ∷ edited ∷ carried ∷ []) four) list edited carried
     (first_name list (edited ∷ carried ∷ []) three) (first_name edited (carried ∷ []) two) (first_name carried [] (other_names edited (carried ∷ []) two))))
 
+improves : (words : List Text) → Follows (row (codes "improve") 3 (Some 64) (Some 1) improve) words
+improves [] e = cc
+improves (file ∷ []) e = cc
+improves (file ∷ cert ∷ []) e = cc
+improves (file ∷ cert ∷ improved ∷ options) e =
+    let k = both (nat_le 3 (length (file ∷ cert ∷ improved ∷ options)) && are_names (file ∷ cert ∷ improved ∷ [])) (are_options true true options) e in
+    let names = (both (nat_le 3 (length (file ∷ cert ∷ improved ∷ options))) (are_names (file ∷ cert ∷ improved ∷ [])) k.0).1 in
+    let others = other_names file (cert ∷ improved ∷ []) names in
+    let f = first_name file (cert ∷ improved ∷ []) names in
+    let g = first_name cert (improved ∷ []) others in
+    let h = first_name improved [] (other_names cert (improved ∷ []) others) in
+    means (codes "improve") (file ∷ cert ∷ improved ∷ options) _ improve_enters (rw e refl)
+    (options_read (λ options. IsReadAs (codes "improve") (file ∷ cert ∷ improved ∷ options) (Improve file cert improved (given turns_word 64 options) (given seed_word 1 options)))
+    (improve_read file cert f g improved h) (improve_turns_read file cert f g improved h) (improve_seed_read file cert f g improved h)
+    (improve_turns_first file cert f g improved h) (improve_seed_first file cert f g improved h) options k.1)
+
 -- words that follow a verb of some rows, where those of each row mean their command
 by_rows : (rows : List Form) (verb : Text) (words : List Text) → AllByRecursion (λ form. Follows form words) rows
     → option_map_or (λ form. is_followed form words) (find (λ form. bytes_eq form.verb verb) rows) false ≡ true → Means (verb ∷ words)
@@ -310,4 +326,4 @@ by_rows (form ∷ rows) verb words each e = by (bytes_eq form.verb verb) refl (�
 -- the verb of plain words is one of the table
 pub plain_means : (words : List Text) → is_plain words ≡ true → Means words
 plain_means [] e = cc
-plain_means (verb ∷ words) e = by_rows forms verb words (solves words, (checks words, (sheets words, (makes words, (drills words, (upgrades words, (postmen words, (fleets words, (edits words, tt))))))))) e
+plain_means (verb ∷ words) e = by_rows forms verb words (solves words, (checks words, (sheets words, (makes words, (drills words, (upgrades words, (postmen words, (fleets words, (edits words, (improves words, tt)))))))))) e

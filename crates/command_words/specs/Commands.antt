@@ -11,6 +11,7 @@ pub data Command : Type 0 where
   Postman : (file : List ℕ) → Command
   Fleet : (file : List ℕ) (turns : ℕ) → Command
   Edit : (file cert edits edited carried : List ℕ) → Command
+  Improve : (file cert improved : List ℕ) (turns seed : ℕ) → Command
 
 -- a file that is read, and the most bytes that it may have
 pub record Source : Type 0 where
@@ -37,42 +38,30 @@ reads (Upgrade file cert renewed) = instance_at file ∷ certificate_at cert ∷
 reads (Postman file) = instance_at file ∷ []
 reads (Fleet file turns) = instance_at file ∷ []
 reads (Edit file cert edits edited carried) = instance_at file ∷ certificate_at cert ∷ edits_at edits ∷ []
+reads (Improve file cert improved turns seed) = instance_at file ∷ certificate_at cert ∷ []
 
 -- the names that a command keeps where it is done, in order
 abbrev pub keeps : Command → List (List ℕ)
 keeps (Solve file cert turns seed) = cert ∷ []
-keeps (Check file cert) = []
-keeps (Sheet file cert) = []
 keeps (Make file seed) = file ∷ []
-keeps (Drill turns seed) = []
 keeps (Upgrade file cert renewed) = renewed ∷ []
-keeps (Postman file) = []
-keeps (Fleet file turns) = []
 keeps (Edit file cert edits edited carried) = edited ∷ carried ∷ []
+keeps (Improve file cert improved turns seed) = improved ∷ []
+keeps _ = []
 
 -- whether a command asks the helpers
 abbrev pub asks_helpers : Command → Bool
 asks_helpers (Solve file cert turns seed) = true
-asks_helpers (Check file cert) = false
-asks_helpers (Sheet file cert) = false
-asks_helpers (Make file seed) = false
 asks_helpers (Drill turns seed) = true
-asks_helpers (Upgrade file cert renewed) = false
-asks_helpers (Postman file) = false
-asks_helpers (Fleet file turns) = false
-asks_helpers (Edit file cert edits edited carried) = false
+asks_helpers (Improve file cert improved turns seed) = true
+asks_helpers _ = false
 
 -- the seed with which a command asks them
 abbrev pub seed_of : Command → ℕ
 seed_of (Solve file cert turns seed) = seed
-seed_of (Check file cert) = 0
-seed_of (Sheet file cert) = 0
-seed_of (Make file seed) = 0
 seed_of (Drill turns seed) = seed
-seed_of (Upgrade file cert renewed) = 0
-seed_of (Postman file) = 0
-seed_of (Fleet file turns) = 0
-seed_of (Edit file cert edits edited carried) = 0
+seed_of (Improve file cert improved turns seed) = seed
+seed_of _ = 0
 
 -- words that are no command read nothing, keep nothing and ask no helper
 abbrev pub sources_of : Option Command → List Source

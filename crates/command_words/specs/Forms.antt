@@ -17,6 +17,7 @@ command_in (variants.Upgrade file cert renewed) = commands.Upgrade file.now cert
 command_in (variants.Postman file) = commands.Postman file.now
 command_in (variants.Fleet file turns) = commands.Fleet file.now turns
 command_in (variants.Edit file cert edits edited carried) = commands.Edit file.now cert.now edits.now edited.now carried.now
+command_in (variants.Improve file cert improved turns seed) = commands.Improve file.now cert.now improved.now turns seed
 
 -- the code's form is this row of the table
 abbrev pub IsForm : Takes → words.Form → Type 0

@@ -3,7 +3,7 @@ use Rattle.std.specs.Prelude.{◌≡◌, ℕ, true, List, [], ◌∷◌, Some, c
 use Rattle.clap.specs.Simple.{on_top}
 use Rattle.clap.specs.Words.{App, Row, Rule, Text, first_of, new_app, new_rule, one_of, subcommand_rows_of, with_rule, with_subcommand}
 use Rattle.clap.specs.declared.parser.matches.ArgMatches.{ArgMatches}
-use Rattle.command_words.specs.Commands.{Command, Solve, Check, Sheet, Make, Drill, Upgrade, Postman, Fleet, Edit}
+use Rattle.command_words.specs.Commands.{Command, Solve, Check, Sheet, Make, Drill, Upgrade, Postman, Fleet, Edit, Improve}
 use Rattle.command_words.specs.Words.{is_number, number_of}
 
 abbrev pub name_rule : Text → Rule
@@ -42,10 +42,14 @@ upgrade_app = with_rule (two_names (codes "upgrade")) (name_rule (codes "renewed
 abbrev pub edit_app : App
 edit_app = with_rule (with_rule (with_rule (two_names (codes "edit")) (name_rule (codes "edits"))) (name_rule (codes "edited"))) (name_rule (codes "carried"))
 
+abbrev pub improve_app : App
+improve_app = with_seed (with_turns (codes "64") (with_rule (two_names (codes "improve")) (name_rule (codes "improved"))))
+
 abbrev pub without_name : App → App
 without_name = on_top (λ s. record s { no_binary_name = true })
 
--- the verbs that read a certificate or make one, those with the verbs of towns and of an upgrade, and all verbs
+-- the verbs that read a certificate or make one, those with the verbs of towns and of an upgrade, those with the neighbouring problems, and all
+-- verbs
 abbrev pub proving_app : App
 proving_app =
     with_subcommand (with_subcommand (with_subcommand (without_name (new_app (codes "carp"))) solve_app.top) (two_names (codes "check")).top) (two_names (codes "sheet")).top
@@ -53,8 +57,11 @@ proving_app =
 abbrev pub middle_app : App
 middle_app = with_subcommand (with_subcommand (with_subcommand proving_app make_app.top) drill_app.top) upgrade_app.top
 
+abbrev pub neighbour_app : App
+neighbour_app = with_subcommand (with_subcommand middle_app (one_name (codes "postman")).top) fleet_app.top
+
 abbrev pub grammar_app : App
-grammar_app = with_subcommand (with_subcommand (with_subcommand middle_app (one_name (codes "postman")).top) fleet_app.top) edit_app.top
+grammar_app = with_subcommand (with_subcommand neighbour_app edit_app.top) improve_app.top
 
 -- the matches have a name, and a number
 abbrev pub HasName : Text → Text → List Row → Type 0
@@ -81,6 +88,9 @@ IsRead (Fleet file turns) verb rows = (verb ≡ codes "fleet") × HasName (codes
 IsRead (Edit file cert edits edited carried) verb rows =
     (verb ≡ codes "edit") × HasName (codes "file") file rows × HasName (codes "cert") cert rows × HasName (codes "edits") edits rows × HasName (codes "edited") edited rows
     × HasName (codes "carried") carried rows
+IsRead (Improve file cert improved turns seed) verb rows =
+    (verb ≡ codes "improve") × HasName (codes "file") file rows × HasName (codes "cert") cert rows × HasName (codes "improved") improved rows
+    × HasNumber (codes "turns") turns rows × HasNumber (codes "seed") seed rows
 
 pub record AreMatchesOf (c : Command) (m : ArgMatches) : Type 0 where
   pub verb : Text

@@ -5,7 +5,7 @@ use Rattle.std.specs.Option.{option_map_or}
 use Rattle.std.specs.Str.{bytes_eq}
 use Rattle.std.specs.Str.Parse.{digits_value}
 use Rattle.std.specs.declared.alloc.Global.{Global}
-use Rattle.command_words.specs.Commands.{Command, Solve, Check, Sheet, Make, Drill, Upgrade, Postman, Fleet, Edit}
+use Rattle.command_words.specs.Commands.{Command, Solve, Check, Sheet, Make, Drill, Upgrade, Postman, Fleet, Edit, Improve}
 
 -- a name is not empty, and does not begin with `-`
 abbrev pub is_name : List ℕ → Bool
@@ -72,6 +72,10 @@ abbrev pub edit : List (List ℕ) → (turns seed : ℕ) → Option Command
 edit (file ∷ cert ∷ edits ∷ edited ∷ carried ∷ []) turns seed = Some (Edit file cert edits edited carried)
 edit _ turns seed = None
 
+abbrev pub improve : List (List ℕ) → (turns seed : ℕ) → Option Command
+improve (file ∷ cert ∷ improved ∷ []) turns seed = Some (Improve file cert improved turns seed)
+improve _ turns seed = None
+
 -- The table of verbs.
 abbrev pub forms : List Form
 forms = record { verb = codes "solve"; names = 2; turns = Some 64; seed = Some 1; command = solve }
@@ -83,6 +87,7 @@ forms = record { verb = codes "solve"; names = 2; turns = Some 64; seed = Some 1
     ∷ record { verb = codes "postman"; names = 1; turns = None; seed = None; command = postman }
     ∷ record { verb = codes "fleet"; names = 1; turns = Some 64; seed = None; command = fleet }
     ∷ record { verb = codes "edit"; names = 5; turns = None; seed = None; command = edit }
+    ∷ record { verb = codes "improve"; names = 3; turns = Some 64; seed = Some 1; command = improve }
     ∷ []
 
 -- the words of the options, and the numbers that they may have

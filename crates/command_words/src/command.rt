@@ -61,4 +61,14 @@ pub enum Command<'a> {
         edited: &'a str,
         carried: &'a str,
     },
+    /// Goes on with the certificate of `cert` for the instance of `file`, and keeps what comes of it at `improved`.
+    Improve {
+        file: &'a str,
+        cert: &'a str,
+        improved: &'a str,
+        /// The most turns that the search takes beside those of the certificate: 1 to 1,048,576.
+        turns: u64,
+        /// What the choices of helpers are drawn from: below 10 to the 18.
+        seed: u64,
+    },
 }

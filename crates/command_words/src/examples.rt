@@ -1,6 +1,6 @@
 // Words that are plain, with the commands that they are, and words that are not.
 ghost use Rattle.std.specs.Prelude.{◌≡◌, [], ◌∷◌, None, Some, codes};
-ghost use Rattle.command_words.specs.Commands.{Solve, Check, Sheet, Make, Drill, Upgrade, Postman, Fleet, Edit};
+ghost use Rattle.command_words.specs.Commands.{Solve, Check, Sheet, Make, Drill, Upgrade, Postman, Fleet, Edit, Improve};
 ghost use Rattle.command_words.specs.Words.{command_of};
 
 #[tactic(auto, unfolding(crate::specs::Words::is_option, crate::specs::Words::is_given))]
@@ -21,6 +21,9 @@ fn words_are_plain()
     ensures fleet { command_of (codes "fleet" ∷ codes "f" ∷ []) ≡ Some (Fleet (codes "f") 64) }
     ensures fleet_turns { command_of (codes "fleet" ∷ codes "f" ∷ codes "--turns" ∷ codes "9" ∷ []) ≡ Some (Fleet (codes "f") 9) }
     ensures edit { command_of (codes "edit" ∷ codes "f" ∷ codes "c" ∷ codes "e" ∷ codes "n" ∷ codes "k" ∷ []) ≡ Some (Edit (codes "f") (codes "c") (codes "e") (codes "n") (codes "k")) }
+    ensures improve { command_of (codes "improve" ∷ codes "f" ∷ codes "c" ∷ codes "n" ∷ []) ≡ Some (Improve (codes "f") (codes "c") (codes "n") 64 1) }
+    ensures improve_both { command_of (codes "improve" ∷ codes "f" ∷ codes "c" ∷ codes "n" ∷ codes "--seed" ∷ codes "7" ∷ codes "--turns" ∷ codes "9" ∷ [])
+        ≡ Some (Improve (codes "f") (codes "c") (codes "n") 9 7) }
     ensures upgrade { command_of (codes "upgrade" ∷ codes "f" ∷ codes "c" ∷ codes "n" ∷ []) ≡ Some (Upgrade (codes "f") (codes "c") (codes "n")) }
 {}
 
@@ -31,6 +34,9 @@ fn words_are_not_plain()
     ensures one_name { command_of (codes "solve" ∷ codes "f" ∷ []) ≡ None }
     ensures three_names { command_of (codes "check" ∷ codes "f" ∷ codes "c" ∷ codes "n" ∷ []) ≡ None }
     ensures equal_names { command_of (codes "upgrade" ∷ codes "f" ∷ codes "c" ∷ codes "f" ∷ []) ≡ None }
+    ensures improved_in_place { command_of (codes "improve" ∷ codes "f" ∷ codes "c" ∷ codes "c" ∷ []) ≡ None }
+    ensures improve_two_names { command_of (codes "improve" ∷ codes "f" ∷ codes "c" ∷ []) ≡ None }
+    ensures improve_no_turns { command_of (codes "improve" ∷ codes "f" ∷ codes "c" ∷ codes "n" ∷ codes "--turns" ∷ codes "0" ∷ []) ≡ None }
     ensures empty_name { command_of (codes "check" ∷ [] ∷ codes "c" ∷ []) ≡ None }
     ensures help { command_of (codes "--help" ∷ []) ≡ None }
     ensures option_first { command_of (codes "solve" ∷ codes "--seed" ∷ codes "1" ∷ codes "f" ∷ codes "c" ∷ []) ≡ None }

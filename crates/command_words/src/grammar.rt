@@ -7,13 +7,16 @@ ghost use Rattle.clap.specs.declared.builder.command.Command.TheViews.{out-Comma
 ghost use Rattle.command_words.specs.Commands as commands;
 ghost use Rattle.command_words.specs.Words.{texts_of, command_of, is_number, is_plain, number_of};
 ghost use Rattle.command_words.specs.Forms.{command_in};
-ghost use Rattle.command_words.specs.Grammar.{AreMatchesOf, HasName, HasNumber, drill_app, edit_app, fleet_app, grammar_app, make_app, middle_app, name_rule, one_name, option_rule, proving_app, solve_app, two_names, upgrade_app};
+ghost use Rattle.command_words.specs.Grammar.{AreMatchesOf, HasName, HasNumber, drill_app, edit_app, fleet_app, grammar_app, improve_app, make_app, middle_app, name_rule, neighbour_app, one_name, option_rule, proving_app, solve_app, two_names, upgrade_app};
 
 use crate::command::Command;
 use carp_base::Memory;
 use clap::error::ErrorKind;
 use clap::{Arg, ArgMatches};
 use std::alloc::{AllocError, Global};
+
+// The turns of a search where none are given.
+const TURNS: &str = "64";
 
 /// The command of plain words.
 pub(crate) fn read_plain<'a>(alloc: Global, words: &'a [String]) -> Result<Command<'a>, Memory>
@@ -36,13 +39,21 @@ pub(crate) fn read_plain<'a>(alloc: Global, words: &'a [String]) -> Result<Comma
 fn grammar<'a>(alloc: Global) -> Result<clap::Command<'a>, AllocError>
     ensures { IfOk result (λ c. app_of c ≡ grammar_app) }
 {
-    middle(alloc)?
-        .subcommand(one_name(alloc, "postman")?)?
-        .subcommand(fleet(alloc)?)?
-        .subcommand(edit(alloc)?)
+    neighbours(alloc)?
+        .subcommand(edit(alloc)?)?
+        .subcommand(improve(alloc)?)
 }
 
-// The verbs but for those that solve a neighbouring problem, and for an edit.
+// The verbs but for those that make a new certificate of an old one.
+fn neighbours<'a>(alloc: Global) -> Result<clap::Command<'a>, AllocError>
+    ensures { IfOk result (λ c. app_of c ≡ neighbour_app) }
+{
+    middle(alloc)?
+        .subcommand(one_name(alloc, "postman")?)?
+        .subcommand(fleet(alloc)?)
+}
+
+// The same, but for those that solve a neighbouring problem.
 fn middle<'a>(alloc: Global) -> Result<clap::Command<'a>, AllocError>
     ensures { IfOk result (λ c. app_of c ≡ middle_app) }
 {
@@ -68,7 +79,7 @@ fn solve<'a>(alloc: Global) -> Result<clap::Command<'a>, AllocError>
     ensures local { IfOk result (λ c. (fields_of c).has_globals ≡ false) }
 {
     two_names(alloc, "solve")?
-        .arg(option(alloc, "turns", "64"))?
+        .arg(option(alloc, "turns", TURNS))?
         .arg(option(alloc, "seed", "1"))
 }
 
@@ -83,7 +94,7 @@ fn fleet<'a>(alloc: Global) -> Result<clap::Command<'a>, AllocError>
     ensures app { IfOk result (λ c. app_of c ≡ fleet_app) }
     ensures local { IfOk result (λ c. (fields_of c).has_globals ≡ false) }
 {
-    one_name(alloc, "fleet")?.arg(option(alloc, "turns", "64"))
+    one_name(alloc, "fleet")?.arg(option(alloc, "turns", TURNS))
 }
 
 fn edit<'a>(alloc: Global) -> Result<clap::Command<'a>, AllocError>
@@ -94,6 +105,16 @@ fn edit<'a>(alloc: Global) -> Result<clap::Command<'a>, AllocError>
         .arg(name(alloc, "edits"))?
         .arg(name(alloc, "edited"))?
         .arg(name(alloc, "carried"))
+}
+
+fn improve<'a>(alloc: Global) -> Result<clap::Command<'a>, AllocError>
+    ensures app { IfOk result (λ c. app_of c ≡ improve_app) }
+    ensures local { IfOk result (λ c. (fields_of c).has_globals ≡ false) }
+{
+    two_names(alloc, "improve")?
+        .arg(name(alloc, "improved"))?
+        .arg(option(alloc, "turns", TURNS))?
+        .arg(option(alloc, "seed", "1"))
 }
 
 // A verb with an instance alone.
@@ -159,6 +180,7 @@ fn command_from<'a>(matches: &ArgMatches<'a>) -> Option<Command<'a>>
         "postman" => postman_from(inner),
         "fleet" => fleet_from(inner),
         "edit" => edit_from(inner),
+        "improve" => improve_from(inner),
         _ => None,
     }
 }
@@ -264,6 +286,26 @@ fn edit_from<'a>(matches: &ArgMatches<'a>) -> Option<Command<'a>>
         edits,
         edited,
         carried,
+    })
+}
+
+fn improve_from<'a>(matches: &ArgMatches<'a>) -> Option<Command<'a>>
+    ensures { (file cert improved : List ℕ) (turns seed : ℕ) → HasName (codes "file") file (rows_of (found_of matches.now)) → HasName (codes "cert") cert (rows_of (found_of matches.now))
+        → HasName (codes "improved") improved (rows_of (found_of matches.now))
+        → HasNumber (codes "turns") turns (rows_of (found_of matches.now)) → HasNumber (codes "seed") seed (rows_of (found_of matches.now))
+        → IsSomeAnd result (λ r. command_in r ≡ commands.Improve file cert improved turns seed) }
+{
+    let file = name_in(matches, "file")?;
+    let cert = name_in(matches, "cert")?;
+    let improved = name_in(matches, "improved")?;
+    let turns = number_in(matches, "turns")?;
+    let seed = number_in(matches, "seed")?;
+    Some(Command::Improve {
+        file,
+        cert,
+        improved,
+        turns,
+        seed,
     })
 }
 

@@ -81,6 +81,11 @@ fn form_of(verb: &str) -> Option<Takes>
             turns: false,
             seed: false,
         }),
+        "improve" => Some(Takes {
+            names: 3,
+            turns: true,
+            seed: true,
+        }),
         _ => None,
     }
 }

@@ -1,3 +1,4 @@
 pub mod Solved
+pub mod Bettered
 pub mod Walks
 pub mod Counted

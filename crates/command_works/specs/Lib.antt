@@ -1,5 +1,6 @@
 pub mod Works
 pub mod Solving
+pub mod Improving
 pub mod Texts
 pub mod Drills
 pub mod Rounds

@@ -7,11 +7,12 @@ use Rattle.dat_text.specs.DatText.{dat_of}
 use Rattle.plan_print.specs.Sheet.{sheet_text}
 use Rattle.town_maker.specs.Towns.{town_of}
 use Rattle.command_jobs.specs.declared.job.Job.{Job}
-use Rattle.command_jobs.specs.declared.job.Job.TheVariants.{Solve, Check, Sheet, Make, Drill, Upgrade, Postman, Fleet, Edit}
+use Rattle.command_jobs.specs.declared.job.Job.TheVariants.{Solve, Check, Sheet, Make, Drill, Upgrade, Postman, Fleet, Edit, Improve}
 use Rattle.command_jobs.specs.declared.status.Status.{Status}
 use Rattle.command_jobs.specs.declared.status.Status.TheVariants.{Proven, Gap, Accepted, Done}
 use Rattle.command_works.specs.Works.{Work}
 use Rattle.command_works.specs.Solving.{IsSolvedBy}
+use Rattle.command_works.specs.Improving.{IsImprovedBy}
 use Rattle.command_works.specs.Drills.{IsDrilled}
 use Rattle.command_works.specs.Fleets.{IsFleetFound}
 use Rattle.command_works.specs.Carried.{AreBothKept}
@@ -37,14 +38,23 @@ IsMade (Upgrade c renewed) offered status work = (status ≡ Done) × IsKeptAgai
 IsMade (Postman laid) offered status work = (status ≡ Done) × (work ≡ record { kept = []; text = round_text laid.inst laid.round.walk laid.round.cost })
 IsMade (Fleet inst turns) offered status work = ((status ≡ Proven) ⊎ (status ≡ Gap)) × IsFleetFound inst turns status work
 IsMade (Edit read edited carried) offered status work = (status ≡ Done) × AreBothKept read edited.now carried.now work
+IsMade (Improve inst c improved turns seed) offered status work =
+    ((status ≡ Proven) ⊎ (status ≡ Gap)) × IsImprovedBy inst (certificate_in c) improved.now turns offered status work
+
+-- a job only reads what was read for it; the certificate that is gone on from is used up
+abbrev pub IsLent : Job → Type 0
+IsLent (Improve inst c improved turns seed) = ⊥
+IsLent _ = Unit {0}
 
 -- whether a job asks the helpers, and the seed with which it does
 abbrev pub job_asks : Job → Bool
 job_asks (Solve inst cert turns seed) = true
 job_asks (Drill turns seed) = true
+job_asks (Improve inst c improved turns seed) = true
 job_asks _ = false
 
 abbrev pub job_seed : Job → ℕ
 job_seed (Solve inst cert turns seed) = seed
 job_seed (Drill turns seed) = seed
+job_seed (Improve inst c improved turns seed) = seed
 job_seed _ = 0

@@ -5,6 +5,7 @@
 //!
 //! - `solving`, `drilling`: instances that are solved.
 //! - `fleets`: a count of vehicles. `rounds`: a walk of the postman.
+//! - `improving`: a certificate that is gone on from.
 //! - `editing`: a certificate that is carried over.
 //! - `answers`: what the other commands make.
 #![tactic(auto)]
@@ -14,6 +15,7 @@ mod delivery;
 mod drilling;
 mod editing;
 mod fleets;
+mod improving;
 mod making;
 mod rounds;
 mod solving;

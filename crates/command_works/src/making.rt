@@ -1,7 +1,7 @@
 // Does a job.
 ghost use Rattle.std.specs.Prelude.{◌≡◌, ◌≤◌, ◌+◌, ◌%◌, ◌^◌, All, EachIndex, map, slice_index, false, true, IfOk, OnOk};
 ghost use Rattle.command_jobs.specs.Jobs.{IsSoundJob};
-ghost use Rattle.command_works.specs.Made.{IsMade, job_asks, job_seed};
+ghost use Rattle.command_works.specs.Made.{IsLent, IsMade, job_asks, job_seed};
 ghost use Rattle.command_works.specs.Works.{work_in};
 
 use crate::answers::{accept, keep_town, renew, spell_sheet};
@@ -9,6 +9,7 @@ use crate::delivery::Delivery;
 use crate::drilling::drill;
 use crate::editing::keep_edited;
 use crate::fleets::count_fleet;
+use crate::improving::improve_instance;
 use crate::rounds::spell_round;
 use crate::solving::solve_instance;
 use carp_base::Memory;
@@ -16,18 +17,45 @@ use command_jobs::Job;
 use plan_model::Proposer;
 use std::alloc::Global;
 
-/// Does a job. If it solves an instance, the helpers aid it, and are seeded from the job's seed on. All other jobs
-/// leave the helpers as they are.
+/// Does a job. If it solves an instance or goes on from a certificate, the helpers aid it, and are seeded from the
+/// job's seed on. All other jobs leave the helpers as they are.
 ///
 /// Its error says only that there was not enough memory. It takes the time of what the job asks for
-/// ([`carp_engine::solve`], [`fleet_pack::pack`], [`cert_transfer::carry`]) and of the texts, all of which are held at
-/// once.
+/// ([`carp_engine::solve`], [`carp_engine::improve`], [`fleet_pack::pack`], [`cert_transfer::carry`]) and of the texts,
+/// all of which are held at once.
 pub fn make<'a, P: Proposer>(
+    alloc: Global,
+    job: Job<'a>,
+    helpers: &mut Vec<P>,
+) -> Result<Delivery<'a>, Memory>
+    requires { IsSoundJob job }
+    ensures made { IfOk result (λ d. IsMade job.entry (map (λ helper. (P.tally helper).least) helpers.new.items) d.status (work_in d)) }
+    ensures same { map P.id helpers.new.items ≡ map P.id helpers.old.items }
+    ensures unasked { job_asks job.entry ≡ false → helpers.new.items ≡ helpers.old.items }
+    ensures seeds { job_asks job.entry ≡ true → OnOk result (EachIndex helpers.new.items (λ k. slice_index (map P.seed helpers.new.items) k ≡ (job_seed job.entry + k) % 2 ^ 64)) }
+    ensures asked { job_asks job.entry ≡ true → OnOk result (All (λ helper. 1 ≤ P.asked helper) helpers.new.items) }
+    ensures fouls { job_asks job.entry ≡ true → OnOk result (All (λ helper. (P.tally helper).fouls ≤ 1) helpers.new.items) }
+{
+    match job {
+        Job::Improve {
+            inst,
+            cert,
+            improved,
+            turns,
+            seed,
+        } => improve_instance(alloc, &inst, cert, improved, turns, seed, helpers),
+        other => make_lent(alloc, &other, helpers),
+    }
+}
+
+// Does a job that only reads what was read for it. Each arm of a function that owns the job would drop it.
+fn make_lent<'a, P: Proposer>(
     alloc: Global,
     job: &Job<'a>,
     helpers: &mut Vec<P>,
 ) -> Result<Delivery<'a>, Memory>
-    requires { IsSoundJob job.now }
+    requires sound { IsSoundJob job.now }
+    requires lent { IsLent job.now }
     ensures made { IfOk result (λ d. IsMade job.now (map (λ helper. (P.tally helper).least) helpers.new.items) d.status (work_in d)) }
     ensures same { map P.id helpers.new.items ≡ map P.id helpers.old.items }
     ensures unasked { job_asks job.now ≡ false → helpers.new.items ≡ helpers.old.items }
@@ -54,5 +82,6 @@ pub fn make<'a, P: Proposer>(
             edited,
             carried,
         } => keep_edited(alloc, read, edited, carried),
+        Job::Improve { .. } => unreachable!(),
     }
 }

@@ -1,5 +1,5 @@
 -- A set over a pool that grew, and sets that are no lower.
-use Rattle.std.proofs.Common.{◌≡◌, ℕ, zero, suc, ◌+◌, ◌*◌, ◌≤◌, List, ◌++◌, length, sym, subst, ap, ◌∙◌, arith, ℤ, pos, negsuc, neg_ℤ, ◌+ℤ◌, ◌*ℤ◌, ◌≤ℤ◌, Result, Ok, Err, IfOk, All, append_assoc, length-append, inl, inr}
+use Rattle.std.proofs.Common.{◌≡◌, ℕ, zero, suc, ◌+◌, ◌*◌, ◌≤◌, List, [], ◌++◌, length, sym, subst, ap, ◌∙◌, arith, ℤ, pos, negsuc, neg_ℤ, ◌+ℤ◌, ◌*ℤ◌, ◌≤ℤ◌, Result, Ok, Err, IfOk, All, append_assoc, length-append, inl, inr}
 use Rattle.std.proofs.Math.Nat.{mul-le-mul_left}
 use Rattle.std.proofs.lemmas.Bool.{cases_lt}
 use Rattle.std.proofs.lemmas.Int.{ints}
@@ -14,7 +14,7 @@ use Rattle.branch_rules.specs.Prices.{Prices, value_of}
 use Rattle.branch_rules.specs.declared.weight.Weight.{Weight}
 use Rattle.shore_prices.specs.Proposals.{IsGrown}
 use Rattle.dual_master.specs.Growth.{GrowthKeepsSets, IsAsBefore}
-use Rattle.dual_master.specs.Raising.{IsNoLower}
+use Rattle.dual_master.specs.Raising.{IsNoLower, KeepsGroups}
 use Rattle.dual_master.proofs.Chosen.{shore_of_grown}
 
 neg_times : (n m : ℕ) → (pos n *ℤ neg_ℤ (pos m)) +ℤ pos (n * m) ≡ pos 0
@@ -111,6 +111,11 @@ module _ (law : GrowthKeepsSets) (p : Problem) (branch : List Decision) (pool af
 
   pub itself : IsNoLower p branch pool set after set
   itself = no_lower_before set (omega (arith, ints))
+
+-- a set whose start has no groups has none
+pub none_kept : (start set : Prices) → KeepsGroups start set → start.groups ≡ [] → set.groups ≡ []
+none_kept start set (inl same) none = same ∙ none
+none_kept start set (inr gone) none = gone
 
 pub both_ok : {X E : Type 0} (r : Result X E) (P Q R : X → Type 0) → ((x : X) → P x → Q x → R x) → IfOk r P → IfOk r Q → IfOk r R
 both_ok (Ok x) P Q R all p q = all x p q

@@ -1,5 +1,5 @@
 -- Price sets that are raised, over a pool that may grow.
-use Rattle.std.specs.Prelude.{◌≡◌, ℕ, List, [], pos, ◌*ℤ◌, ◌≤ℤ◌}
+use Rattle.std.specs.Prelude.{◌≡◌, ◌⊎◌, ℕ, List, [], pos, ◌*ℤ◌, ◌≤ℤ◌}
 use Rattle.std.specs.List.{All}
 use Rattle.carp_base.specs.Problem.{Problem}
 use Rattle.decision_chains.specs.declared.decision.Decision.{Decision}
@@ -12,6 +12,10 @@ use Rattle.branch_rules.specs.Prices.{Prices, value_of}
 abbrev pub IsNoLower : Problem → List Decision → List (List ℕ) → Prices → List (List ℕ) → Prices → Type 0
 IsNoLower p branch pool start after set =
     (pos set.unit *ℤ value_of (rules_of p pool branch) start) ≤ℤ (pos start.unit *ℤ value_of (rules_of p after branch) set)
+
+-- the weights on groups are those of the start, or there are none
+abbrev pub KeepsGroups : Prices → Prices → Type 0
+KeepsGroups start set = (set.groups ≡ start.groups) ⊎ (set.groups ≡ [])
 
 -- such a set that fits under the branch, with its shores in the pool and no groups
 pub record IsRaised (p : Problem) (branch : List Decision) (pool : List (List ℕ)) (start : Prices) (after : List (List ℕ)) (set : Prices) : Type 0 where

@@ -1,5 +1,5 @@
 // Price sets that are raised.
-ghost use Rattle.std.specs.Prelude.{◌≡◌, ◌≤◌, ◌*ℤ◌, ◌≤ℤ◌, [], pos, All, IfOk, IfSome, IsTrue, length};
+ghost use Rattle.std.specs.Prelude.{◌≡◌, ◌≤◌, ◌*ℤ◌, ◌≤ℤ◌, pos, All, IfOk, IfSome, IsTrue, length};
 ghost use Rattle.cut_pool.specs.Shores.{Belongs};
 ghost use Rattle.branch_rules.specs.Decisions.{rules_of};
 ghost use Rattle.branch_rules.specs.Laws.{FitsBranch};
@@ -9,7 +9,7 @@ ghost use Rattle.decision_chains.specs.Pairs.{ArePairsIn};
 ghost use Rattle.route_pricing.specs.Tables.{IsRoom};
 ghost use Rattle.shore_prices.specs.Proposals.{IsGrown};
 ghost use Rattle.tight_prices.specs.Tight.{IsTight};
-ghost use Rattle.dual_master.specs.Raising.{IsNoLower, IsRaised};
+ghost use Rattle.dual_master.specs.Raising.{IsNoLower, IsRaised, KeepsGroups};
 
 use crate::laws::growth_keeps_sets;
 use crate::values::{is_no_more, value_under};
@@ -30,8 +30,8 @@ use tight_prices::{fits, tighten};
 /// If `rounds` is above 0, it solves the linear program over shores in up to so many rounds of search for shores that
 /// it leaves short (`shore_prices`), and takes that set if it fits and is better. From the better one prices and
 /// weights ascend along relaxed tours in up to so many steps (`price_ascent`), and it takes that set in the same way.
-/// Shores with a weight are placed in the pool behind those that it held, while it holds fewer than 2,000. From a start
-/// without groups comes a set without groups.
+/// Shores with a weight are placed in the pool behind those that it held, while it holds fewer than 2,000. The weights
+/// on groups are those of the start, or there are none.
 ///
 /// It asks for the network, for a table that was made for the instance, which it fills, for a branch whose pairs are of
 /// required edges, and for a pool whose shores belong to the instance. The shores that it adds belong to the instance
@@ -54,7 +54,7 @@ pub fn raise(
     requires fits { FitsBranch inst.now pool.old branch.now start.now }
     ensures tight { IfOk result (IsTight inst.now pool.new (length pool.old) branch.now) }
     ensures no_lower { IfOk result (IsNoLower inst.now branch.now pool.old start.now pool.new) }
-    ensures no_groups { start.now.groups ≡ [] → IfOk result (λ set. set.groups ≡ []) }
+    ensures groups { IfOk result (KeepsGroups start.now) }
     ensures shores { IfOk result (λ set. All (λ w. IsShoreOf inst.now pool.new w.shore) set.weights) }
     ensures grown { IsGrown pool.old pool.new }
     ensures belong { All (Belongs inst.now) pool.new }
@@ -90,7 +90,7 @@ fn climb(
     requires held { held ≤ length pool.old }
     ensures tight { IfOk result (IsTight inst.now pool.new held branch.now) }
     ensures no_lower { IfOk result (IsNoLower inst.now branch.now pool.old start.now pool.new) }
-    ensures no_groups { start.now.groups ≡ [] → IfOk result (λ set. set.groups ≡ []) }
+    ensures groups { IfOk result (KeepsGroups start.now) }
     ensures shores { IfOk result (λ set. All (λ w. IsShoreOf inst.now pool.new w.shore) set.weights) }
     ensures grown { IsGrown pool.old pool.new }
     ensures belong { All (Belongs inst.now) pool.new }

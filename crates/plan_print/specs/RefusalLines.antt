@@ -15,7 +15,7 @@ use Rattle.cert_lines.specs.declared.fault.CertFault.TheVariants as cert
 use Rattle.cert_checker.specs.declared.reason.Part.{Part}
 use Rattle.cert_checker.specs.declared.reason.Part.TheVariants.{Shore, Prices, Node}
 use Rattle.cert_checker.specs.declared.reason.Reason.{Reason}
-use Rattle.cert_checker.specs.declared.reason.Reason.TheVariants.{PlanUnlawful, CostDiffers, Misfit, WeightTooLarge, CountsDiffer, NotLean, NotVoid, NotFixed, MissingUpper, TourTooCheap, LeafLow}
+use Rattle.cert_checker.specs.declared.reason.Reason.TheVariants.{PlanUnlawful, CostDiffers, Misfit, WeightTooLarge, CountsDiffer, NotLean, NotVoid, NotFixed, MissingUpper, MissingYes, TourTooCheap, LeafLow}
 
 -- words, a number, and what follows
 abbrev pub around : List ℕ → ℕ → List ℕ → List ℕ
@@ -96,6 +96,8 @@ reason_words (NotLean node) = around (codes "node ") node (codes " is not lean")
 reason_words (NotVoid node) = around (codes "node ") node (codes " is not void")
 reason_words (NotFixed node) = around (codes "node ") node (codes " is not fixed")
 reason_words (MissingUpper set node shore) = around (codes "set ") set (around (codes " at node ") node (codes " has no upper number for shore " ++ decimal shore))
+reason_words (MissingYes set node a b) =
+    around (codes "set ") set (around (codes " at node ") node (around (codes " needs the pair ") a (codes " " ++ decimal b)))
 reason_words (TourTooCheap set node value) = around (codes "set ") set (around (codes " at node ") node (codes " has a tour at " ++ signed_decimal value))
 reason_words (LeafLow node value limit) = around (codes "node ") node (codes " has value " ++ (signed_decimal value ++ (codes ", not above " ++ signed_decimal limit)))
 reason_words (CountsDiffer place stated found) = around (codes "count ") place (around (codes " is ") stated (codes " and the instance has " ++ decimal found))

@@ -147,6 +147,9 @@ fn push_reason(text: &mut String, reason: &Reason) -> Result<(), AllocError>
                 "set {set} at node {node} has no upper number for shore {shore}"
             )
         }
+        Reason::MissingYes { set, node, a, b } => {
+            write!(text, "set {set} at node {node} needs the pair {a} {b}")
+        }
         Reason::TourTooCheap { set, node, value } => {
             write!(text, "set {set} at node {node} has a tour at {value}")
         }

@@ -202,6 +202,12 @@ fn nodes_are_rejected(rt: HostRuntime) -> Result<(), Fail> {
             node: 14,
             shore: 3,
         },
+        Reason::MissingYes {
+            set: 18_446_744_073_709_551_615,
+            node: 17,
+            a: 3,
+            b: 600,
+        },
         Reason::TourTooCheap {
             set: 1,
             node: 15,
@@ -217,6 +223,7 @@ fn nodes_are_rejected(rt: HostRuntime) -> Result<(), Fail> {
 rejected: node 12 is not void
 rejected: node 13 is not fixed
 rejected: set 2 at node 14 has no upper number for shore 3
+rejected: set 18446744073709551615 at node 17 needs the pair 3 600
 rejected: set 1 at node 15 has a tour at -7
 rejected: node 16 has value -20, not above -1
 ";

@@ -17,6 +17,11 @@ if_asked A Y Q (Err e) holds = tt
 pub returns-in-Ok-clause-prepared : goal.returns-in-Ok-clause-prepared
 returns-in-Ok-clause-prepared g c = of_ok c.make.result c.make.ensures.made (λ d made. job_prepared c.in-Ok.job d.status (work_in d) c.in-Ok.ensures.job c.in-Ok.ensures.tried made)
 
+pub returns-in-Ok-clause-unasked : goal.returns-in-Ok-clause-unasked
+returns-in-Ok-clause-unasked g c none =
+    let alike = asks_alike (command_in c.args.command) c.in-Ok.job c.in-Ok.ensures.job.is_for in
+    c.make.ensures.unasked (alike.0 ∙ none)
+
 pub returns-in-Ok-clause-seeds : goal.returns-in-Ok-clause-seeds
 returns-in-Ok-clause-seeds g c =
     let alike = asks_alike (command_in c.args.command) c.in-Ok.job c.in-Ok.ensures.job.is_for in

@@ -10,7 +10,7 @@ use Rattle.cert_checker.proofs.checking.answer.Goals as goal
 pub head_reason-requires : goal.head_reason-requires
 head_reason-requires c =
     let claim = c.args.claim.now in
-    (spelled_is (support_in claim) (claimed claim c.args.tree.now.nodes) refl refl c.requires).sets_read
+    (spelled_is c.spellable_is_fine.ensures (support_in claim) (claimed claim c.args.tree.now.nodes) refl refl c.requires).sets_read
 
 pub returns-in-Some-clause-answer : goal.returns-in-Some-clause-answer
 returns-in-Some-clause-answer c = subst (LayerSays HeadIsRight c.args.claim.now) c.in-Some.is c.in_ok-reason.ensures c.args.tree.now.nodes
@@ -19,17 +19,17 @@ pub tree_reason-requires-clause-backed : goal.tree_reason-requires-clause-backed
 tree_reason-requires-clause-backed c =
     let claim = c.args.claim.now in
     let head = subst (LayerSays HeadIsRight claim) c.in_default.is c.in_ok-reason.ensures c.args.tree.now.nodes in
-    backed_by claim.inst.now (claimed claim c.args.tree.now.nodes) head (spelled_is (support_in claim) (claimed claim c.args.tree.now.nodes) refl refl c.requires).sets_read
+    backed_by claim.inst.now (claimed claim c.args.tree.now.nodes) head (spelled_is c.spellable_is_fine.ensures (support_in claim) (claimed claim c.args.tree.now.nodes) refl refl c.requires).sets_read
 
 pub tree_reason-requires-clause-read : goal.tree_reason-requires-clause-read
 tree_reason-requires-clause-read c =
     let claim = c.args.claim.now in
-    (spelled_is (support_in claim) (claimed claim c.args.tree.now.nodes) refl refl c.requires).read
+    (spelled_is c.spellable_is_fine.ensures (support_in claim) (claimed claim c.args.tree.now.nodes) refl refl c.requires).read
 
 pub tree_reason-requires-clause-whole : goal.tree_reason-requires-clause-whole
 tree_reason-requires-clause-whole c =
     let claim = c.args.claim.now in
-    (spelled_is (support_in claim) (claimed claim c.args.tree.now.nodes) refl refl c.requires).whole
+    (spelled_is c.spellable_is_fine.ensures (support_in claim) (claimed claim c.args.tree.now.nodes) refl refl c.requires).whole
 
 pub returns-in-Some-2-clause-answer : goal.returns-in-Some-2-clause-answer
 returns-in-Some-2-clause-answer c =
@@ -43,5 +43,5 @@ returns-in-None c =
     let claim = c.args.claim.now in
     let all = c.args.tree.now.nodes in
     let head = subst (LayerSays HeadIsRight claim) c.in_default.is c.in_ok-reason.ensures all in
-    let good = good_from claim.inst.now (claimed claim all) head (spelled_is (support_in claim) (claimed claim all) refl refl c.requires).whole (subst (TreeSays (support_in claim) claim.bound all) c.in-None.is c.in_ok-reason-2.ensures) in
+    let good = good_from claim.inst.now (claimed claim all) head (spelled_is c.spellable_is_fine.ensures (support_in claim) (claimed claim all) refl refl c.requires).whole (subst (TreeSays (support_in claim) claim.bound all) c.in-None.is c.in_ok-reason-2.ensures) in
     record { answer = good; proof = c.good_is_proof.ensures claim.inst.now (claimed claim all) c.vertices.ensures.valid good }

@@ -1,7 +1,7 @@
-use Rattle.std.proofs.Common.{◌≡◌, ℕ, suc, ◌+◌, ◌<◌, List, length, take, get_or, refl, sym, ap, ◌∙◌, subst, add-one, rules, arith, take}
+use Rattle.std.proofs.Common.{List, get_or, sym, ◌∙◌, subst, rules}
 use Rattle.cert_format.specs.declared.kind.Kind.{Kind}
 use Rattle.cert_format.specs.declared.kind.Kind.TheVariants.{Version}
-use Rattle.cert_format.specs.Kinds.{IsOneOf, IsNoneOf, keyword}
+use Rattle.cert_format.specs.Kinds.{IsOneOf, IsNoneOf}
 use Rattle.cert_format.proofs.FirstWords.{one_at, none_more, none_all}
 use Rattle.cert_format.proofs.kind.kind_of.Goals as goal
 

@@ -1,10 +1,8 @@
-use Rattle.std.proofs.Common.{◌≡◌, ℕ, ◌+◌, ◌≤◌, List, [], ◌++◌, length, take, refl, sym, ap, subst, ◌∙◌, rules, arith, inl}
-use Rattle.std.proofs.lemmas.List.{take_all}
+use Rattle.std.proofs.Common.{◌≡◌, ℕ, ◌+◌, List, [], take, subst, rules, arith, inl}
 use Rattle.carp_base.specs.declared.fail.Fail.TheVariants.{Refused}
 use Rattle.cert_lines.specs.Texts.{BreaksAt}
 use Rattle.cert_format.specs.declared.reader.Standing.{Standing}
-use Rattle.cert_format.specs.Held.{StandingHolds, IsBroken}
-use Rattle.cert_format.specs.Reads.{ReadsTree}
+use Rattle.cert_format.specs.Held.{StandingHolds}
 use Rattle.cert_format.proofs.MoreBytes.{advances_same}
 use Rattle.cert_format.proofs.Standings.{slice_run, slice_rest, slice_length}
 use Rattle.cert_format.proofs.TreeSteps.{item_fits, tree_step, tree_start}

@@ -5,4 +5,4 @@ use Rattle.cert_format.proofs.writing.push_each_set.Given as goal
 
 -- those so far are written
 abbrev pub invariant-loop-set : goal.invariant-loop-set
-invariant-loop-set l = l.text.items ≡ l.fn.text.items ++ flat_map set_text (take l.set-index l.sets)
+invariant-loop-set l = l.text.items ≡ l.fn.text.items ++ flat_map (set_text l.grouped) (take l.set-index l.sets)

@@ -1,4 +1,5 @@
 use Rattle.std.proofs.Common.{refl, rules, arith, lit<, lit≤}
+use Rattle.std.proofs.lemmas.Bool.{false≢true}
 use Rattle.branch_rules.specs.Trees.{price}
 use Rattle.cert_lines.specs.Numerals.{numeral}
 use Rattle.cert_lines.specs.Spelling.{IsFine}
@@ -20,6 +21,7 @@ fine = record {
   different = λ i j one two same. absurd (omega (arith, one.from_one, one.in_range));
   few_sets = lit≤ tt;
   sets_fine = search rules;
+  counted = λ some. absurd (false≢true some);
   few_nodes = lit≤ tt;
   nodes_fine = search rules;
   tree = price 1;

@@ -11,3 +11,6 @@ returns-in-Upgrade-clause-tried g c = rw c.in-Upgrade.is c.gather_renewed.ensure
 
 pub returns-in-Edit-clause-tried : goal.returns-in-Edit-clause-tried
 returns-in-Edit-clause-tried g c = rw c.in-Edit.is c.gather_edited.ensures.tried
+
+pub returns-in-Improve-clause-tried : goal.returns-in-Improve-clause-tried
+returns-in-Improve-clause-tried g c = rw c.in-Improve.is c.gather_held.ensures.tried

@@ -13,4 +13,5 @@ returns-in_default c =
     let postman : bytes_eq (codes "postman") c.args.verb.now ≡ false = search rules in
     let fleet : bytes_eq (codes "fleet") c.args.verb.now ≡ false = search rules in
     let edit : bytes_eq (codes "edit") c.args.verb.now ≡ false = search rules in
-    rw (solve, check, sheet, make, drill, upgrade, postman, fleet, edit) refl
+    let improve : bytes_eq (codes "improve") c.args.verb.now ≡ false = search rules in
+    rw (solve, check, sheet, make, drill, upgrade, postman, fleet, edit, improve) refl

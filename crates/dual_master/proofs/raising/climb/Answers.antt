@@ -1,4 +1,4 @@
-use Rattle.std.proofs.Common.{Option, subst, sym, ◌∙◌, IfSome}
+use Rattle.std.proofs.Common.{Option, subst, sym, ◌∙◌, IfSome, inl, inr}
 use Rattle.std.proofs.lemmas.Result.{IfOk-weaker}
 use Rattle.branch_rules.specs.Prices.{Prices}
 use Rattle.dual_master.specs.Raising.{IsRaised}
@@ -28,11 +28,11 @@ returns-in-Some-clause-no_lower c =
     (λ set no_lower worth. no_lower_then p branch c.args.pool.now c.by_ascent.new.pool c.args.start.now c.in-Some.set set raised.no_lower no_lower.unit worth)
     c.tighten.ensures.no_lower c.tighten.ensures.value
 
-pub returns-in-None-clause-no_groups : goal.returns-in-None-clause-no_groups
-returns-in-None-clause-no_groups c none = IfOk-weaker c.tighten-in-None.result _ _ (λ set no_lower. sym no_lower.groups ∙ none) c.tighten-in-None.ensures.no_lower
+pub returns-in-None-clause-groups : goal.returns-in-None-clause-groups
+returns-in-None-clause-groups c = IfOk-weaker c.tighten-in-None.result _ _ (λ set no_lower. inl (sym no_lower.groups)) c.tighten-in-None.ensures.no_lower
 
-pub returns-in-Some-clause-no_groups : goal.returns-in-Some-clause-no_groups
-returns-in-Some-clause-no_groups c none =
+pub returns-in-Some-clause-groups : goal.returns-in-Some-clause-groups
+returns-in-Some-clause-groups c =
     let p = c.args.inst.now in
     let raised = subst (λ (found : Option Prices). IfSome found (IsRaised p c.args.branch.now c.args.pool.now c.args.start.now c.by_ascent.new.pool)) c.in-Some.is c.in_ok-better.ensures.raised in
-    IfOk-weaker c.tighten.result _ _ (λ set no_lower. sym no_lower.groups ∙ raised.no_groups) c.tighten.ensures.no_lower
+    IfOk-weaker c.tighten.result _ _ (λ set no_lower. inr (sym no_lower.groups ∙ raised.no_groups)) c.tighten.ensures.no_lower

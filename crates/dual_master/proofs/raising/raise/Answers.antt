@@ -1,9 +1,9 @@
-use Rattle.std.proofs.Common.{Option, subst, IfSome}
+use Rattle.std.proofs.Common.{Option, subst, IfSome, inr}
 use Rattle.std.proofs.lemmas.Result.{IfOk-weaker}
 use Rattle.branch_rules.specs.Limits.{IsPriceSet}
 use Rattle.branch_rules.specs.Prices.{Prices}
 use Rattle.dual_master.specs.Raising.{IsRaised}
-use Rattle.dual_master.proofs.Raised.{no_lower_since, no_lower_through, still_fits}
+use Rattle.dual_master.proofs.Raised.{no_lower_since, no_lower_through, none_kept, still_fits}
 use Rattle.dual_master.proofs.raising.raise.Goals as goal
 
 pub climb-requires-in-None-clause-fits : goal.climb-requires-in-None-clause-fits
@@ -27,7 +27,7 @@ returns-in-Some-clause-no_lower c =
     IfOk-weaker c.climb.result _ _
     (λ set no_lower. no_lower_through p branch c.args.pool.now middle c.climb.new.pool c.args.start.now c.in-Some.set set fine.some_unit raised.no_lower no_lower) c.climb.ensures.no_lower
 
-pub returns-in-Some-clause-no_groups : goal.returns-in-Some-clause-no_groups
-returns-in-Some-clause-no_groups c none =
+pub returns-in-Some-clause-groups : goal.returns-in-Some-clause-groups
+returns-in-Some-clause-groups c =
     let raised = subst (λ (found : Option Prices). IfSome found (IsRaised c.args.inst.now c.args.branch.now c.args.pool.now c.args.start.now c.by_program.new.pool)) c.in-Some.is c.in_ok-better.ensures.raised in
-    c.climb.ensures.no_groups raised.no_groups
+    IfOk-weaker c.climb.result _ _ (λ set kept. inr (none_kept c.in-Some.set set kept raised.no_groups)) c.climb.ensures.groups

@@ -12,5 +12,8 @@ returns-in-NotFixed c = rw c.in-NotFixed.is c.write-in-NotFixed.ensures.bytes
 pub returns-in-MissingUpper : goal.returns-in-MissingUpper
 returns-in-MissingUpper c = rw c.in-MissingUpper.is c.write-in-MissingUpper.ensures.bytes
 
+pub returns-in-MissingYes : goal.returns-in-MissingYes
+returns-in-MissingYes c = rw c.in-MissingYes.is c.write-in-MissingYes.ensures.bytes
+
 pub returns-in-TourTooCheap : goal.returns-in-TourTooCheap
 returns-in-TourTooCheap c = rw c.in-TourTooCheap.is c.write-in-TourTooCheap.ensures.bytes

@@ -1,9 +1,7 @@
-use Rattle.std.proofs.Common.{rules, Option, All, ap, subst, ◌∙◌, ℤ, to_z, of_z}
+use Rattle.std.proofs.Common.{rules, Option, ap, subst, ◌∙◌, ℤ, to_z, of_z}
 use mir.Syntax.{w128}
 use Rattle.std.proofs.lemmas.Int.{to_z-of_z}
-use Rattle.branch_rules.specs.Decisions.{rules_of}
-use Rattle.branch_rules.specs.Prices.{Prices, value_of}
-use Rattle.branch_rules.specs.Refusals.{HasUpper}
+use Rattle.branch_rules.specs.Prices.{Prices}
 use Rattle.branch_rules.specs.Trees.{set_at}
 use Rattle.cert_checker.specs.Claims.{support_in}
 use Rattle.cert_checker.specs.Leaves.{TourSays}
@@ -17,8 +15,8 @@ returns-in-None-clause-says c =
     let set = set_at s c.args.set in
     let branch = c.args.branch.now in
     price_says s c.args.claim.now.bound c.args.node branch c.args.set (to_z w128 (of_z w128 c.in-Ok.value)) (to_z w128 (of_z w128 c.limit.result)) c.low_leaf.result c.requires.backed c.requires.set
-    (subst (λ (x : Prices). All (HasUpper branch) x.weights) c.set-prices.ensures c.in-Ok.ensures.accepted)
-    (to_z-of_z w128 c.in-Ok.value (search rules) ∙ c.in-Ok.ensures.value ∙ ap (λ (x : Prices). value_of (rules_of s.problem s.pool branch) x) c.set-prices.ensures)
-    (to_z-of_z w128 c.limit.result (search rules) ∙ c.limit.ensures ∙ ap (λ n. limit_of n c.args.claim.now.bound) (c.unit.ensures.value ∙ ap (λ (x : Prices). x.unit) c.set-prices.ensures))
+    c.in-Ok.ensures.needs
+    (to_z-of_z w128 c.in-Ok.value (search rules) ∙ c.in-Ok.ensures.value)
+    (to_z-of_z w128 c.limit.result (search rules) ∙ c.limit.ensures ∙ ap (λ n. limit_of n c.args.claim.now.bound) (c.unit.ensures.value ∙ ap (λ (x : Prices). x.unit) c.set.ensures))
     (subst (λ (found : Option ℤ). TourSays s branch set found) c.in-None.is c.in_ok-value.ensures.says)
     c.low_leaf.ensures

@@ -1,15 +1,7 @@
-use Rattle.std.proofs.Common.{◌≡◌, ◌≢◌, ℕ, ◌+◌, ◌<◌, ◌≤◌, List, [], ◌∷◌, ◌++◌, length, get_or, take, drop, refl, sym, ap, subst, ◌∙◌, append_assoc, inl, inr, rules, arith, true, false}
-use Rattle.std.proofs.lemmas.List.{append-nil}
-use Rattle.cert_lines.specs.Order.{LatestFirst}
-use Rattle.cert_lines.specs.Texts.{ReadsAs}
-use Rattle.cert_format.specs.declared.draft.Draft.{Draft}
-use Rattle.cert_format.specs.declared.judging.Verdict.{Verdict}
-use Rattle.cert_format.specs.declared.reader.Standing.{Standing}
-use Rattle.cert_format.specs.Drafts.{HoldsDraft}
-use Rattle.cert_format.specs.Judging.{Judged, context_of}
-use Rattle.cert_format.specs.Held.{StandingHolds, IsGoing, IsBroken, Advances}
-use Rattle.cert_format.proofs.MoreBytes.{going_more, going_blank, line_good, line_syntax, line_limit, advances_quiet, advances_same, advances_more, take_one, take_run_more, gives_of}
-use Rattle.cert_format.proofs.Standings.{some_bytes, slice_is, slice_rest, slice_run, slice_length, fills_other, if_ok_then, still_broken, head_of, head_told, on_ok_then, rest_none, none_rest, unfinished_more, unfinished_short, not_plain, piece_parts}
+use Rattle.std.proofs.Common.{ℕ, ◌+◌, List, ◌++◌, length, take, ap, subst, ◌∙◌, append_assoc, arith}
+use Rattle.cert_format.specs.Held.{IsBroken, Advances}
+use Rattle.cert_format.proofs.MoreBytes.{advances_same, advances_more}
+use Rattle.cert_format.proofs.Standings.{some_bytes, slice_rest, slice_run, slice_length, fills_other}
 use Rattle.cert_lines.specs.declared.item.Item.{Item}
 use Rattle.cert_format.proofs.cert_reader.CertReader.feed_lines.Goals as goal
 

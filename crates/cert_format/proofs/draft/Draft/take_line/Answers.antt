@@ -1,4 +1,4 @@
-use Rattle.std.proofs.Common.{◌≡◌, ℕ, List, [], length, true, false, refl, sym, ap, subst, ◌∙◌, inl, inr, rules, arith}
+use Rattle.std.proofs.Common.{◌≡◌, false, inl, inr, rules}
 use Rattle.cert_format.specs.Judging.{context_of, has_stated}
 use Rattle.cert_format.proofs.Growing.{shaped_line}
 use Rattle.cert_format.proofs.Ready.{ready_both, whole_line, past_line}

@@ -1,5 +1,4 @@
-use Rattle.std.proofs.Common.{rules, ◌≡◌, ℕ, List, length, sym, ap, ◌∙◌, arith, subst}
-use Rattle.cert_format.specs.Lists.{fields_ok}
+use Rattle.std.proofs.Common.{rules}
 use Rattle.cert_format.proofs.Growing.{field_fails, field_more, line_shaped}
 use Rattle.cert_format.proofs.line.LineState.take_field.Goals as goal
 

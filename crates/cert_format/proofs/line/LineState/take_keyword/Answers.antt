@@ -1,4 +1,4 @@
-use Rattle.std.proofs.Common.{refl, rules, ◌≡◌, ℕ, List, length, sym, ap, ◌∙◌, arith, subst}
+use Rattle.std.proofs.Common.{refl}
 use Rattle.cert_format.proofs.Growing.{first_word, no_first_word}
 use Rattle.cert_format.proofs.line.LineState.take_keyword.Goals as goal
 use Rattle.cert_format.proofs.line.LineState.take_keyword.Goals.{in-Some, in-None}

@@ -1,8 +1,8 @@
-use Rattle.std.proofs.Common.{◌≡◌, ℕ, ◌+◌, ◌≤◌, min, Bool, true, ◌&&◌, nat_le, List, [], ◌∷◌, ◌++◌, length, map, Option, Some, None, refl, sym, ap, subst, ◌∙◌, rules, arith, append_assoc}
+use Rattle.std.proofs.Common.{ℕ, List, [], ◌∷◌, ◌++◌, map, refl, sym, ap, ◌∙◌}
 use Rattle.cert_format.specs.Lists.{is_within}
-use Rattle.cert_format.proofs.Hopeless.{next_item, next_shore, next_weight}
-use Rattle.cert_format.proofs.Growing.{item_fails, item_more, list_more, line_shaped, shaped_line, shapeless_line, start_line, line_shapeless, all_come, map-append}
-use Rattle.cert_format.proofs.Told.{step_told, vertex_told, price_told, weight_told, step_is, vertex_is, price_is, weight_is, no_waiting, shore_words, weight_more, shore_fails, weight_fails, waiting_is}
+use Rattle.cert_format.proofs.Hopeless.{next_item}
+use Rattle.cert_format.proofs.Growing.{item_fails, item_more, list_more, line_shaped, all_come, map-append}
+use Rattle.cert_format.proofs.Told.{step_told, step_is}
 use Rattle.cert_format.proofs.line.LineState.take_step.Goals as goal
 use Rattle.cert_lines.specs.Lines.{step_word}
 

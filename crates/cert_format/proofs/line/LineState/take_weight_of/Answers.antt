@@ -1,10 +1,8 @@
-use Rattle.std.proofs.Common.{to_z, of_z, w64, ◌≡◌, ℕ, ◌+◌, ◌≤◌, min, Bool, true, ◌&&◌, nat_le, List, [], ◌∷◌, ◌++◌, length, map, Option, Some, None, refl, sym, ap, subst, ◌∙◌, rules, arith, append_assoc}
-use Rattle.cert_format.proofs.Hopeless.{next_item, next_shore, next_weight}
-use Rattle.cert_format.proofs.Growing.{item_fails, item_more, list_more, line_shaped, shaped_line, shapeless_line, start_line, line_shapeless, all_come, map-append}
-use Rattle.cert_format.proofs.Told.{step_told, vertex_told, price_told, weight_told, step_is, vertex_is, told_bits, weight_is, no_waiting, shore_words, weight_more, shore_fails, weight_fails, waiting_is}
+use Rattle.std.proofs.Common.{to_z, of_z, w64, ◌≡◌, ℕ, ◌≤◌, ◌&&◌, [], ◌∷◌, ◌++◌, None, refl, ap, subst, ◌∙◌}
+use Rattle.cert_format.proofs.Growing.{item_fails, item_more, list_more, line_shaped, all_come}
+use Rattle.cert_format.proofs.Told.{weight_told, told_bits, weight_is, weight_more, weight_fails, waiting_is}
 use Rattle.cert_format.proofs.line.LineState.take_weight_of.Goals as goal
-use Rattle.branch_rules.specs.declared.weight.Weight.{Weight}
-use Rattle.cert_format.specs.Lists.{is_within, weight_ok, price_ok}
+use Rattle.cert_format.specs.Lists.{is_within, price_ok}
 
 pub returns-in_default : goal.returns-in_default
 returns-in_default c = λ context words text s all held form some same.
