@@ -1,5 +1,7 @@
 //! A search by turns for a tree of decisions that shows what the best plan costs.
 //!
+//! In the field: branch and bound, best bound first.
+//!
 //! [`Search::begin`] plants a tree of one leaf, which has the best set of the floors. [`Search::resume`] goes on from
 //! another tree. [`Search::step`] takes one turn (Land and Doig 1960): it closes the first leaf that shows least, or
 //! splits it. [`Search::finish`] gives what was [`Found`]: the best plan, the tree, and the greatest bound that the

@@ -1,6 +1,9 @@
 //! Sets of vertices that a plan must cross more often than some deadheads do, and the sets of the vertices beyond each
 //! distance from the depot (Belenguer and Benavent 1998).
 //!
+//! In the field: separation of capacity constraints by maximum flows, and the cutsets of the level sets of
+//! distance.
+//!
 //! The violation of a set S without the depot is `2 t(S) / Q - r(S) - x(S) / unit`. Here t(S) is the demand that
 //! touches it, r(S) the number of required edges over it, x(S) the parts of deadheads over it, and Q the capacity.
 //!

@@ -18,7 +18,7 @@ use Rattle.command_jobs.specs.declared.status.Status.{Status}
 use Rattle.command_jobs.specs.declared.status.Status.TheVariants.{Accepted}
 use Rattle.command_jobs.specs.Inputs.{CanBeDone, IsUnread}
 use Rattle.command_works.specs.Texts.{answer_text}
-use Rattle.command_works.specs.Works.{Kept, Work}
+use Rattle.command_works.specs.Outputs.{Kept, Output}
 use Rattle.carp_cli.specs.Outside.{Outside, AreKept}
 use Rattle.carp_cli.specs.Answers.{IsDoneStatus}
 use Rattle.carp_cli.specs.Refusals.{HasReport}
@@ -153,7 +153,7 @@ pub made_held : WrittenIsRead → WrittenIsShort → TownsAreValid → MadeIsHel
 made_held read brief towns file seed before now status left done =
     let report : HasReport status = subst HasReport (sym done) tt in
     let all = promised (Make file seed) before now status report (λ bad. bad) left in
-    let held = one_kept file (dat_of (town_of seed)) before.contents now.contents (subst (λ (w : Work). AreKept w.kept before.contents now.contents) all.done all.kept) in
+    let held = one_kept file (dat_of (town_of seed)) before.contents now.contents (subst (λ (w : Output). AreKept w.kept before.contents now.contents) all.done all.kept) in
     written_text read brief file now.contents (town_of seed) (towns seed) held.there
 
 pub made_solved : WrittenIsRead → WrittenIsShort → TownsAreValid → MadeIsSolved

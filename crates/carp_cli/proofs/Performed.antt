@@ -27,9 +27,9 @@ use Rattle.command_jobs.specs.Edited.{IsEditedFrom}
 use Rattle.command_jobs.specs.declared.edited.Edited.{Edited}
 use Rattle.carp_cli.specs.Editing.{AreEdited}
 use Rattle.command_works.specs.Texts.{answer_text}
-use Rattle.command_works.specs.Works.{Kept, Work}
+use Rattle.command_works.specs.Outputs.{Kept, Output}
 use Rattle.carp_cli.specs.Outside.{Finding}
-use Rattle.carp_cli.specs.Answers.{IsDone, IsDoneStatus, IsKnown, refusal_work}
+use Rattle.carp_cli.specs.Answers.{IsDone, IsDoneStatus, IsKnown, refusal_output}
 use Rattle.carp_cli.specs.Refusals.{HasReport}
 use Rattle.carp_cli.specs.Runs.{IsHelped}
 use Rattle.carp_cli.specs.Steps.{IsPrepared}
@@ -45,10 +45,10 @@ by_second None none f = absurd none
 by_second (Some x) holds f = f x holds
 
 -- a command is done
-record IsPerformed (Reads : Source → (List ℕ → Type 0) → Type 0) (c : Command) (offered : List (Option ℕ)) (status : Status) (work : Work) : Type 0 where
+record IsPerformed (Reads : Source → (List ℕ → Type 0) → Type 0) (c : Command) (offered : List (Option ℕ)) (status : Status) (output : Output) : Type 0 where
   pub status_is : IsDoneStatus c status
-  pub names : map (λ k. k.name) work.kept ≡ keeps c
-  pub done : IsDone Reads c offered status work
+  pub names : map (λ k. k.name) output.kept ≡ keeps c
+  pub done : IsDone Reads c offered status output
 
 -- what the texts of three files say, as three facts
 record AreApart (Reads : Source → (List ℕ → Type 0) → Type 0) : Type 0 where
@@ -70,12 +70,12 @@ given_apart before now = record { facts = λ file cert edits x from. facts file 
       → AreEdited (GivenIn before now) file cert edits x.before (certificate_in x.cert) x.edits.items
   facts file cert edits x (a, ra, (b, rb, (c, rc, is))) = record { read = (a, ra, is.read); certified = (b, rb, is.certified); edits_read = (c, rc, is.edits_read); good = is.is.good }
 
-module _ (Reads : Source → (List ℕ → Type 0) → Type 0) (offered : List (Option ℕ)) (status : Status) (work : Work) where
+module _ (Reads : Source → (List ℕ → Type 0) → Type 0) (offered : List (Option ℕ)) (status : Status) (output : Output) where
   solved : (file cert : List ℕ) (turns seed : ℕ) (job : Job) → IsFor (Solve file cert turns seed) job → WasRead Reads (Solve file cert turns seed) job
-      → IsMade job offered status work → IsPerformed Reads (Solve file cert turns seed) offered status work
+      → IsMade job offered status output → IsPerformed Reads (Solve file cert turns seed) offered status output
   solved file cert turns seed (jobs.Solve inst name asked drawn) is read made =
-      let by : IsSolvedBy inst cert turns offered status work =
-      subst (λ (t : ℕ). IsSolvedBy inst cert t offered status work) is.1 (subst (λ (n : List ℕ). IsSolvedBy inst n asked offered status work) is.0 made.1) in
+      let by : IsSolvedBy inst cert turns offered status output =
+      subst (λ (t : ℕ). IsSolvedBy inst cert t offered status output) is.1 (subst (λ (n : List ℕ). IsSolvedBy inst n asked offered status output) is.0 made.1) in
       record {
         status_is = made.0;
         names = ap (map (λ k. k.name)) by.keeps;
@@ -84,54 +84,54 @@ module _ (Reads : Source → (List ℕ → Type 0) → Type 0) (offered : List (
   solved file cert turns seed _ fails read made = absurd fails
 
   accepted : (file cert : List ℕ) (job : Job) → IsFor (Check file cert) job → WasRead Reads (Check file cert) job
-      → IsMade job offered status work → IsPerformed Reads (Check file cert) offered status work
+      → IsMade job offered status output → IsPerformed Reads (Check file cert) offered status output
   accepted file cert (jobs.Check cost bound) is read made = record {
     status_is = made.0;
-    names = ap (λ (w : Work). map (λ k. k.name) w.kept) made.1;
+    names = ap (λ (w : Output). map (λ k. k.name) w.kept) made.1;
     done = record {
       instance = read.instance;
       certificate = read.certificate;
       certified = read.certified;
-      keeps = ap (λ (w : Work). w.kept) made.1;
-      writes = ap (λ (w : Work). w.text) made.1 ∙ rw (read.cost_is, read.bound_is) refl;
+      keeps = ap (λ (w : Output). w.kept) made.1;
+      writes = ap (λ (w : Output). w.text) made.1 ∙ rw (read.cost_is, read.bound_is) refl;
     };
   }
   accepted file cert _ fails read made = absurd fails
 
   spelled_out : (file cert : List ℕ) (job : Job) → IsFor (Sheet file cert) job → WasRead Reads (Sheet file cert) job
-      → IsMade job offered status work → IsPerformed Reads (Sheet file cert) offered status work
+      → IsMade job offered status output → IsPerformed Reads (Sheet file cert) offered status output
   spelled_out file cert (jobs.Sheet inst plan) is read made = record {
     status_is = made.0;
-    names = ap (λ (w : Work). map (λ k. k.name) w.kept) made.1;
+    names = ap (λ (w : Output). map (λ k. k.name) w.kept) made.1;
     done = record {
       instance = inst;
       certificate = read.certificate;
       certified = read.certified;
-      keeps = ap (λ (w : Work). w.kept) made.1;
-      writes = ap (λ (w : Work). w.text) made.1 ∙ rw read.plan_is refl;
+      keeps = ap (λ (w : Output). w.kept) made.1;
+      writes = ap (λ (w : Output). w.text) made.1 ∙ rw read.plan_is refl;
     };
   }
   spelled_out file cert _ fails read made = absurd fails
 
   town_kept : (file : List ℕ) (seed : ℕ) (job : Job) → IsFor (Make file seed) job → WasRead Reads (Make file seed) job
-      → IsMade job offered status work → IsPerformed Reads (Make file seed) offered status work
+      → IsMade job offered status output → IsPerformed Reads (Make file seed) offered status output
   town_kept file seed (jobs.Make name drawn) is read made = record {
     status_is = made.0;
-    names = ap (λ (w : Work). map (λ k. k.name) w.kept) made.1 ∙ ap (λ (n : List ℕ). n ∷ []) is.0;
+    names = ap (λ (w : Output). map (λ k. k.name) w.kept) made.1 ∙ ap (λ (n : List ℕ). n ∷ []) is.0;
     done = made.1 ∙ rw (is.0, is.1) refl;
   }
   town_kept file seed _ fails read made = absurd fails
 
   drilled : (turns seed : ℕ) (job : Job) → IsFor (Drill turns seed) job → WasRead Reads (Drill turns seed) job
-      → IsMade job offered status work → IsPerformed Reads (Drill turns seed) offered status work
+      → IsMade job offered status output → IsPerformed Reads (Drill turns seed) offered status output
   drilled turns seed (jobs.Drill asked drawn) is read made =
-      let by : IsDrilled seed turns offered work =
-      subst (λ (t : ℕ). IsDrilled seed t offered work) is.0 (subst (λ (s : ℕ). IsDrilled s asked offered work) is.1 made.1) in
+      let by : IsDrilled seed turns offered output =
+      subst (λ (t : ℕ). IsDrilled seed t offered output) is.0 (subst (λ (s : ℕ). IsDrilled s asked offered output) is.1 made.1) in
       record { status_is = made.0; names = ap (map (λ k. k.name)) by.keeps; done = by }
   drilled turns seed _ fails read made = absurd fails
 
   upgraded : (file cert renewed : List ℕ) (job : Job) → IsFor (Upgrade file cert renewed) job → WasRead Reads (Upgrade file cert renewed) job
-      → IsMade job offered status work → IsPerformed Reads (Upgrade file cert renewed) offered status work
+      → IsMade job offered status output → IsPerformed Reads (Upgrade file cert renewed) offered status output
   upgraded file cert renewed (jobs.Upgrade c name) is read made = record {
     status_is = made.0;
     names = ap (map (λ k. k.name)) made.1.keeps ∙ ap (λ (n : List ℕ). n ∷ []) is;
@@ -149,10 +149,10 @@ module _ (Reads : Source → (List ℕ → Type 0) → Type 0) (offered : List (
   upgraded file cert renewed _ fails read made = absurd fails
 
   round_found : (file : List ℕ) (job : Job) → IsFor (Postman file) job → IsSoundJob job → WasRead Reads (Postman file) job
-      → IsMade job offered status work → IsPerformed Reads (Postman file) offered status work
+      → IsMade job offered status output → IsPerformed Reads (Postman file) offered status output
   round_found file (jobs.Postman laid) is sound read made = record {
     status_is = made.0;
-    names = ap (λ (w : Work). map (λ k. k.name) w.kept) made.1;
+    names = ap (λ (w : Output). map (λ k. k.name) w.kept) made.1;
     done = record {
       instance = laid.inst;
       read = read;
@@ -160,22 +160,22 @@ module _ (Reads : Source → (List ℕ → Type 0) → Type 0) (offered : List (
       shores = laid.round.shores.items;
       cost = laid.round.cost;
       round = sound;
-      keeps = ap (λ (w : Work). w.kept) made.1;
-      writes = ap (λ (w : Work). w.text) made.1;
+      keeps = ap (λ (w : Output). w.kept) made.1;
+      writes = ap (λ (w : Output). w.text) made.1;
     };
   }
   round_found file _ fails sound read made = absurd fails
 
   fleet_counted : (file : List ℕ) (turns : ℕ) (job : Job) → IsFor (Fleet file turns) job → WasRead Reads (Fleet file turns) job
-      → IsMade job offered status work → IsPerformed Reads (Fleet file turns) offered status work
+      → IsMade job offered status output → IsPerformed Reads (Fleet file turns) offered status output
   fleet_counted file turns (jobs.Fleet inst asked) is read made =
-      let by : IsFleetFound inst turns status work = subst (λ (t : ℕ). IsFleetFound inst t status work) is made.1 in
+      let by : IsFleetFound inst turns status output = subst (λ (t : ℕ). IsFleetFound inst t status output) is made.1 in
       record { status_is = made.0; names = ap (map (λ k. k.name)) by.keeps; done = record { instance = inst; read = read; fleet = by } }
   fleet_counted file turns _ fails read made = absurd fails
 
   carried_along : AreApart Reads → (file cert edits new_file new_cert : List ℕ) (job : Job) → IsFor (Edit file cert edits new_file new_cert) job → IsSoundJob job
-      → WasRead Reads (Edit file cert edits new_file new_cert) job → IsMade job offered status work
-      → IsPerformed Reads (Edit file cert edits new_file new_cert) offered status work
+      → WasRead Reads (Edit file cert edits new_file new_cert) job → IsMade job offered status output
+      → IsPerformed Reads (Edit file cert edits new_file new_cert) offered status output
   carried_along apart file cert edits new_file new_cert (jobs.Edit read first second) is sound was made =
       let by = made.1 in
       record {
@@ -199,11 +199,11 @@ module _ (Reads : Source → (List ℕ → Type 0) → Type 0) (offered : List (
   carried_along apart file cert edits new_file new_cert _ fails sound was made = absurd fails
 
   improved : (file cert better : List ℕ) (turns seed : ℕ) (job : Job) → IsFor (Improve file cert better turns seed) job → WasRead Reads (Improve file cert better turns seed) job
-      → IsMade job offered status work → IsPerformed Reads (Improve file cert better turns seed) offered status work
+      → IsMade job offered status output → IsPerformed Reads (Improve file cert better turns seed) offered status output
   improved file cert better turns seed (jobs.Improve inst c name asked drawn) is read made =
       let old = certificate_in c in
-      let by : IsImprovedBy inst old better turns offered status work =
-      subst (λ (t : ℕ). IsImprovedBy inst old better t offered status work) is.1 (subst (λ (n : List ℕ). IsImprovedBy inst old n asked offered status work) is.0 made.1) in
+      let by : IsImprovedBy inst old better turns offered status output =
+      subst (λ (t : ℕ). IsImprovedBy inst old better t offered status output) is.1 (subst (λ (n : List ℕ). IsImprovedBy inst old n asked offered status output) is.0 made.1) in
       record {
         status_is = made.0;
         names = ap (map (λ k. k.name)) by.keeps;
@@ -212,7 +212,7 @@ module _ (Reads : Source → (List ℕ → Type 0) → Type 0) (offered : List (
   improved file cert better turns seed _ fails read made = absurd fails
 
   performed : AreApart Reads → (c : Command) (job : Job) → IsFor c job → IsSoundJob job → WasRead Reads c job
-      → IsMade job offered status work → IsPerformed Reads c offered status work
+      → IsMade job offered status output → IsPerformed Reads c offered status output
   performed apart (Solve file cert turns seed) job is sound = solved file cert turns seed job is
   performed apart (Check file cert) job is sound = accepted file cert job is
   performed apart (Sheet file cert) job is sound = spelled_out file cert job is
@@ -277,9 +277,9 @@ names_apart other kept names is apart = by kept (subst (AllByRecursion (λ name.
   by (k ∷ ks) apart = (apart.0, by ks apart.1)
 
 -- what a run saw of the files
-abbrev seen_at : (held : Bool) → Finding → (given_before given_now : ℕ) → Seen
-seen_at held found given_before given_now = record {
-  held = held;
+abbrev seen_at : (contents_told : Bool) → Finding → (given_before given_now : ℕ) → Seen
+seen_at contents_told found given_before given_now = record {
+  contents_told = contents_told;
   contents = found.contents;
   looks_before = found.looks_before;
   looks_now = found.looks_now;
@@ -288,17 +288,17 @@ seen_at held found given_before given_now = record {
 }
 
 -- a job of a command was done
-pub job_prepared : {held : Bool} {c : Command} {found : Finding} {gb gn : ℕ} (job : Job) (status : Status) (work : Work) → IsJobOf held c found.contents gb gn job
-    → IsGathered c (seen_at held found gb gn) (Ok job) → IsMade job found.offered status work → IsPrepared held (Some c) found gb gn status work
-job_prepared {held} {c} {found} {gb} {gn} job status work is tried made =
-    let rests = performed (GivenIn gb gn) found.offered status work (given_apart gb gn) c job is.is_for is.sound is.founded made in
+pub job_prepared : {contents_told : Bool} {c : Command} {found : Finding} {gb gn : ℕ} (job : Job) (status : Status) (output : Output) → IsJobOf contents_told c found.contents gb gn job
+    → IsGathered c (seen_at contents_told found gb gn) (Ok job) → IsMade job found.offered status output → IsPrepared contents_told (Some c) found gb gn status output
+job_prepared {contents_told} {c} {found} {gb} {gn} job status output is tried made =
+    let rests = performed (GivenIn gb gn) found.offered status output (given_apart gb gn) c job is.is_for is.sound is.founded made in
     let reports : HasReport status = done_reports c status rests.status_is in record {
-      right = λ known. inr (inr (rests.status_is, (performed (HeldIn found.contents) found.offered status work (held_apart found.contents) c job is.is_for is.sound (read_or_told (GivenIn gb gn) found.contents c job is.was_read is.founded known) made).done));
+      right = λ known. inr (inr (rests.status_is, (performed (HeldIn found.contents) found.offered status output (held_apart found.contents) c job is.is_for is.sound (read_or_told (GivenIn gb gn) found.contents c job is.was_read is.founded known) made).done));
       founded = inr (rests.status_is, rests.done);
       refusal = λ no. absurd (no reports);
       written = λ is. subst HasReport is reports;
       remembered = λ is. subst HasReport is reports;
-      names = λ other apart. names_apart other work.kept (keeps c) rests.names apart;
+      names = λ other apart. names_apart other output.kept (keeps c) rests.names apart;
       usage = λ is. absurd (subst HasReport is reports);
       read = λ is. absurd (subst HasReport is reports);
       too_long = λ limit is. absurd (subst HasReport is reports);
@@ -316,21 +316,21 @@ abbrev failed : Status → Result Job (Fail Status)
 failed s = Err (Refused s)
 
 -- a command was refused
-pub refusal_prepared : {held : Bool} {c : Command} {found : Finding} {gb gn : ℕ} (status answered : Status) (work : Work)
-    → IsGathered c (seen_at held found gb gn) (Err (Refused status)) → answered ≡ status → work ≡ refusal_work status → IsPrepared held (Some c) found gb gn answered work
-refusal_prepared {held} {c} {found} {gb} {gn} status answered work tried same_status same_work =
-    subst (λ s. IsPrepared held (Some c) found gb gn s work) (sym same_status) (subst (λ w. IsPrepared held (Some c) found gb gn status w) (sym same_work) prepared) where
+pub refusal_prepared : {contents_told : Bool} {c : Command} {found : Finding} {gb gn : ℕ} (status answered : Status) (output : Output)
+    → IsGathered c (seen_at contents_told found gb gn) (Err (Refused status)) → answered ≡ status → output ≡ refusal_output status → IsPrepared contents_told (Some c) found gb gn answered output
+refusal_prepared {contents_told} {c} {found} {gb} {gn} status answered output tried same_status same_output =
+    subst (λ s. IsPrepared contents_told (Some c) found gb gn s output) (sym same_status) (subst (λ w. IsPrepared contents_told (Some c) found gb gn status w) (sym same_output) prepared) where
       refusal : IsRefusal status
       refusal = is_refusal c status (tried.refusal status refl)
 
       one : {a b : Command} → Some a ≡ Some b → a ≡ b
       one e = cc
 
-      told : IsKnown held (Some c) → IsTrue held
+      told : IsKnown contents_told (Some c) → IsTrue contents_told
       told (inl tells) = tells
       told (inr none) = absurd (reads_nothing_refuses_nothing c status none (tried.refusal status refl))
 
-      prepared : IsPrepared held (Some c) found gb gn status (refusal_work status)
+      prepared : IsPrepared contents_told (Some c) found gb gn status (refusal_output status)
       prepared = record {
         right = λ known. elim (tried.refused (told known) status refl) [
           | inl fault ↦ inl (fault, tried.order (told known) (ap failed fault), refl)
@@ -364,11 +364,11 @@ refused_asks_none c status answered refusal same helped =
     absurd (refusals_report_nothing status (is_refusal c status refusal) (done_reports c status (subst (IsDoneStatus c) same helped.1)))
 
 -- words that are no command
-pub usage_prepared : {held : Bool} {found : Finding} {gb gn : ℕ} (command : Option Command) (status : Status) (work : Work) → command ≡ None → status ≡ BadUsage → work ≡ refusal_work BadUsage
-    → IsPrepared held command found gb gn status work
-usage_prepared {held} {found} {gb} {gn} command status work none is works =
-    subst (λ c. IsPrepared held c found gb gn status work) (sym none) (subst (λ s. IsPrepared held None found gb gn s work) (sym is) (subst (λ w. IsPrepared held None found gb gn BadUsage w) (sym works) prepared)) where
-      prepared : IsPrepared held None found gb gn BadUsage (refusal_work BadUsage)
+pub usage_prepared : {contents_told : Bool} {found : Finding} {gb gn : ℕ} (command : Option Command) (status : Status) (output : Output) → command ≡ None → status ≡ BadUsage → output ≡ refusal_output BadUsage
+    → IsPrepared contents_told command found gb gn status output
+usage_prepared {contents_told} {found} {gb} {gn} command status output none is outputs =
+    subst (λ c. IsPrepared contents_told c found gb gn status output) (sym none) (subst (λ s. IsPrepared contents_told None found gb gn s output) (sym is) (subst (λ w. IsPrepared contents_told None found gb gn BadUsage w) (sym outputs) prepared)) where
+      prepared : IsPrepared contents_told None found gb gn BadUsage (refusal_output BadUsage)
       prepared = record {
         right = λ known. (refl, refl);
         founded = (refl, refl);

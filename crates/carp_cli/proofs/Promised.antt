@@ -7,7 +7,7 @@ use Rattle.command_words.specs.Commands.{Command, Source, instance_at, certifica
 use Rattle.command_jobs.specs.Files.{HeldIn, IsBadFile, IsBadInstance, IsBadCertificate}
 use Rattle.command_jobs.specs.declared.status.Status.{Status}
 use Rattle.command_jobs.specs.Inputs.{IsBadPair, IsRefused}
-use Rattle.command_works.specs.Works.{Work}
+use Rattle.command_works.specs.Outputs.{Output}
 use Rattle.command_jobs.specs.Edited.{AreBadFiles, AreBadTexts, IsBadEdits}
 use Rattle.carp_cli.specs.Outside.{Outside, Finding, found, AreKept}
 use Rattle.carp_cli.specs.Answers.{IsDone, IsRight}
@@ -63,23 +63,23 @@ three_unreported file cert edits contents status report bad =
 -- What was kept and written.
 
 pub record IsPromised (c : Command) (before now : Outside) (status : Status) : Type 0 where
-  pub work : Work
-  pub done : IsDone (HeldIn before.contents) c now.offered status work
-  pub kept : AreKept work.kept before.contents now.contents
-  pub wrote : now.written ≡ before.written ++ work.text
+  pub output : Output
+  pub done : IsDone (HeldIn before.contents) c now.offered status output
+  pub kept : AreKept output.kept before.contents now.contents
+  pub wrote : now.written ≡ before.written ++ output.text
 
-done_of : (c : Command) (all : Finding) (status : Status) (work : Work) → HasReport status → (IsRefused c all.contents status → ⊥) → IsRight c all status work → IsDone (HeldIn all.contents) c all.offered status work
-done_of c all status work report unrefused (inl unread) = absurd (subst HasReport unread.0 report)
-done_of c all status work report unrefused (inr (inl bad)) = absurd (unrefused bad.0)
-done_of c all status work report unrefused (inr (inr done)) = done.1
+done_of : (c : Command) (all : Finding) (status : Status) (output : Output) → HasReport status → (IsRefused c all.contents status → ⊥) → IsRight c all status output → IsDone (HeldIn all.contents) c all.offered status output
+done_of c all status output report unrefused (inl unread) = absurd (subst HasReport unread.0 report)
+done_of c all status output report unrefused (inr (inl bad)) = absurd (unrefused bad.0)
+done_of c all status output report unrefused (inr (inr done)) = done.1
 
 pub promised : (c : Command) (before now : Outside) (status : Status) → HasReport status → (IsRefused c before.contents status → ⊥) → Leaves true true (Some c) before now status →
     IsPromised c before now status
 promised c before now status report unrefused left =
     let whole = left.whole (λ e. subst HasReport e report) (λ e. subst HasReport e report) in
     record {
-      work = whole.work;
-      done = done_of c (found before now) status whole.work report unrefused (whole.answer.right (inl refl));
+      output = whole.output;
+      done = done_of c (found before now) status whole.output report unrefused (whole.answer.right (inl refl));
       kept = whole.kept refl;
       wrote = whole.wrote refl;
     }

@@ -109,8 +109,8 @@ reads_nothing_refuses_nothing (Edit file cert edits edited carried) status none 
 reads_nothing_refuses_nothing (Improve file cert improved turns seed) status none is = cc
 
 -- what a job without files says is so of any contents
-pub read_or_told : {held : Bool} (Reads : Source → (List ℕ → Type 0) → Type 0) (contents : List ℕ → Option (List ℕ)) (c : Command) (job : Job) → (IsTrue held → WasRead (HeldIn contents) c job) → WasRead Reads c job
-    → IsKnown held (Some c) → WasRead (HeldIn contents) c job
+pub read_or_told : {contents_told : Bool} (Reads : Source → (List ℕ → Type 0) → Type 0) (contents : List ℕ → Option (List ℕ)) (c : Command) (job : Job) → (IsTrue contents_told → WasRead (HeldIn contents) c job) → WasRead Reads c job
+    → IsKnown contents_told (Some c) → WasRead (HeldIn contents) c job
 read_or_told Reads contents c job told some (inl tells) = told tells
 read_or_told Reads contents (Solve file cert turns seed) job told some (inr none) = cc
 read_or_told Reads contents (Check file cert) job told some (inr none) = cc
@@ -130,7 +130,7 @@ read_or_told Reads contents (Edit file cert edits edited carried) job told some 
 read_or_told Reads contents (Improve file cert improved turns seed) job told some (inr none) = cc
 
 -- nor is what names hold refused
-pub refuses_only_read : {held : Bool} {P : Type 0} (contents : List ℕ → Option (List ℕ)) (status : Status) (c : Command) → IsKnown held (Some c) → IsRefused c contents status → (IsTrue held → P) → P
+pub refuses_only_read : {contents_told : Bool} {P : Type 0} (contents : List ℕ → Option (List ℕ)) (status : Status) (c : Command) → IsKnown contents_told (Some c) → IsRefused c contents status → (IsTrue contents_told → P) → P
 refuses_only_read contents status c (inl tells) bad f = f tells
 refuses_only_read contents status (Solve file cert turns seed) (inr none) bad f = cc
 refuses_only_read contents status (Check file cert) (inr none) bad f = cc

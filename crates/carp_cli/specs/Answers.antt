@@ -7,7 +7,7 @@ use Rattle.command_jobs.specs.Files.{HeldIn}
 use Rattle.command_jobs.specs.Inputs.{IsRefused, IsUnread}
 use Rattle.command_works.specs.Drills.{IsDrilled}
 use Rattle.command_works.specs.Texts.{made_text}
-use Rattle.command_works.specs.Works.{Work}
+use Rattle.command_works.specs.Outputs.{Output}
 use Rattle.carp_cli.specs.Outside.{Finding}
 use Rattle.carp_cli.specs.Refusals.{refusal_text}
 use Rattle.carp_cli.specs.Solving.{IsSolved}
@@ -32,37 +32,37 @@ IsDoneStatus (Edit file cert edits edited carried) status = status ≡ Done
 IsDoneStatus (Improve file cert improved turns seed) status = (status ≡ Proven) ⊎ (status ≡ Gap)
 
 -- the text of the town of a number is to be kept, and its numbers are to be written
-abbrev pub IsTownKept : (file : List ℕ) (seed : ℕ) → Work → Type 0
-IsTownKept file seed work = work ≡ record { kept = record { name = file; bytes = dat_of (town_of seed) } ∷ []; text = made_text (town_of seed) }
+abbrev pub IsTownKept : (file : List ℕ) (seed : ℕ) → Output → Type 0
+IsTownKept file seed output = output ≡ record { kept = record { name = file; bytes = dat_of (town_of seed) } ∷ []; text = made_text (town_of seed) }
 
--- a command is done with this answer and this work, where its files are read in this way and helpers offered such costs
-abbrev pub IsDone : (Source → (List ℕ → Type 0) → Type 0) → Command → List (Option ℕ) → Status → Work → Type 0
-IsDone Reads (Solve file cert turns seed) offered status work = IsSolved Reads file cert turns offered status work
-IsDone Reads (Check file cert) offered status work = IsChecked Reads file cert work
-IsDone Reads (Sheet file cert) offered status work = IsSpelledOut Reads file cert work
-IsDone Reads (Make file seed) offered status work = IsTownKept file seed work
-IsDone Reads (Drill turns seed) offered status work = IsDrilled seed turns offered work
-IsDone Reads (Upgrade file cert renewed) offered status work = IsUpgraded Reads file cert renewed work
-IsDone Reads (Postman file) offered status work = IsRoundFound Reads file work
-IsDone Reads (Fleet file turns) offered status work = IsFleetCounted Reads file turns status work
-IsDone Reads (Edit file cert edits edited carried) offered status work = IsCarriedAlong Reads file cert edits edited carried work
-IsDone Reads (Improve file cert improved turns seed) offered status work = IsImprovedFrom Reads file cert improved turns offered status work
+-- a command is done with this answer and this output, where its files are read in this way and helpers offered such costs
+abbrev pub IsDone : (Source → (List ℕ → Type 0) → Type 0) → Command → List (Option ℕ) → Status → Output → Type 0
+IsDone Reads (Solve file cert turns seed) offered status output = IsSolved Reads file cert turns offered status output
+IsDone Reads (Check file cert) offered status output = IsChecked Reads file cert output
+IsDone Reads (Sheet file cert) offered status output = IsSpelledOut Reads file cert output
+IsDone Reads (Make file seed) offered status output = IsTownKept file seed output
+IsDone Reads (Drill turns seed) offered status output = IsDrilled seed turns offered output
+IsDone Reads (Upgrade file cert renewed) offered status output = IsUpgraded Reads file cert renewed output
+IsDone Reads (Postman file) offered status output = IsRoundFound Reads file output
+IsDone Reads (Fleet file turns) offered status output = IsFleetCounted Reads file turns status output
+IsDone Reads (Edit file cert edits edited carried) offered status output = IsCarriedAlong Reads file cert edits edited carried output
+IsDone Reads (Improve file cert improved turns seed) offered status output = IsImprovedFrom Reads file cert improved turns offered status output
 
 -- a refusal keeps nothing, and writes its text
-abbrev pub refusal_work : Status → Work
-refusal_work status = record { kept = []; text = refusal_text status }
+abbrev pub refusal_output : Status → Output
+refusal_output status = record { kept = []; text = refusal_text status }
 
 -- what a command reads is told, or it reads nothing
 abbrev pub IsKnown : Bool → Option Command → Type 0
-IsKnown held command = IsTrue held ⊎ (sources_of command ≡ [])
+IsKnown contents_told command = IsTrue contents_told ⊎ (sources_of command ≡ [])
 
 -- a command answers so: a file could not be read and those before it are good, a file is refused, or the command is done
-abbrev pub IsRight : Command → Finding → Status → Work → Type 0
-IsRight c found status work =
-    ((status ≡ ReadFault) × IsUnread c found.contents found.looks_before found.looks_now × (work ≡ refusal_work status))
-    ⊎ ((IsRefused c found.contents status × (work ≡ refusal_work status)) ⊎ (IsDoneStatus c status × IsDone (HeldIn found.contents) c found.offered status work))
+abbrev pub IsRight : Command → Finding → Status → Output → Type 0
+IsRight c found status output =
+    ((status ≡ ReadFault) × IsUnread c found.contents found.looks_before found.looks_now × (output ≡ refusal_output status))
+    ⊎ ((IsRefused c found.contents status × (output ≡ refusal_output status)) ⊎ (IsDoneStatus c status × IsDone (HeldIn found.contents) c found.offered status output))
 
 -- and words that are no command are refused
-abbrev pub IsRightOf : Option Command → Finding → Status → Work → Type 0
-IsRightOf None found status work = (status ≡ BadUsage) × (work ≡ refusal_work status)
-IsRightOf (Some c) found status work = IsRight c found status work
+abbrev pub IsRightOf : Option Command → Finding → Status → Output → Type 0
+IsRightOf None found status output = (status ≡ BadUsage) × (output ≡ refusal_output status)
+IsRightOf (Some c) found status output = IsRight c found status output

@@ -12,7 +12,7 @@ use Rattle.instance_edits.specs.Edits.{edited}
 use Rattle.instance_edits.specs.Texts.{IsEditsText}
 use Rattle.command_words.specs.Commands.{Source, instance_at, certificate_at, edits_at}
 use Rattle.command_works.specs.Texts.{edit_text}
-use Rattle.command_works.specs.Works.{Work}
+use Rattle.command_works.specs.Outputs.{Output}
 
 -- three files are the texts of an instance, of a certificate that is good for it, and of edits of it
 pub record AreEdited (Reads : Source → (List ℕ → Type 0) → Type 0) (file cert edits : List ℕ) (instance : Problem) (certificate : Certificate) (changes : List Edit) : Type 0 where
@@ -24,7 +24,7 @@ pub record AreEdited (Reads : Source → (List ℕ → Type 0) → Type 0) (file
 -- Then one name is to hold the text of the edited instance, which is valid, and then another the text of a certificate: the old one, carried over, which is good for the
 -- edited instance, so that no lawful plan of that one costs less than its bound, and whose bound is no lower than the old one. How many edges there are and how many were closed, its cost, its bound and the gap
 -- between them are to be written.
-pub record IsCarriedAlong (Reads : Source → (List ℕ → Type 0) → Type 0) (file cert edits new_file new_cert : List ℕ) (work : Work) : Type 0 where
+pub record IsCarriedAlong (Reads : Source → (List ℕ → Type 0) → Type 0) (file cert edits new_file new_cert : List ℕ) (output : Output) : Type 0 where
   pub instance : Problem
   pub certificate : Certificate
   pub changes : List Edit
@@ -35,5 +35,5 @@ pub record IsCarriedAlong (Reads : Source → (List ℕ → Type 0) → Type 0) 
   pub proof : IsProof (edited instance changes) carried
   pub text : List ℕ
   pub text_is : certificates.IsTextOf text carried
-  pub keeps : work.kept ≡ record { name = new_file; bytes = dat_of (edited instance changes) } ∷ record { name = new_cert; bytes = text } ∷ []
-  pub writes : work.text ≡ edit_text (length (edited instance changes).edges) (length instance.edges - length (edited instance changes).edges) carried.cost carried.bound
+  pub keeps : output.kept ≡ record { name = new_file; bytes = dat_of (edited instance changes) } ∷ record { name = new_cert; bytes = text } ∷ []
+  pub writes : output.text ≡ edit_text (length (edited instance changes).edges) (length instance.edges - length (edited instance changes).edges) carried.cost carried.bound

@@ -6,11 +6,11 @@ use Rattle.command_words.specs.Commands.{Source}
 use Rattle.command_jobs.specs.Jobs.{AreCertified}
 use Rattle.command_jobs.specs.declared.status.Status.{Status}
 use Rattle.command_works.specs.Improving.{IsImprovedBy}
-use Rattle.command_works.specs.Works.{Work}
+use Rattle.command_works.specs.Outputs.{Output}
 
 -- the two files are the texts of an instance and of a certificate that is good for it, which is gone on with
-pub record IsImprovedFrom (Reads : Source → (List ℕ → Type 0) → Type 0) (file cert improved : List ℕ) (asked : ℕ) (offered : List (Option ℕ)) (status : Status) (work : Work) : Type 0 where
+pub record IsImprovedFrom (Reads : Source → (List ℕ → Type 0) → Type 0) (file cert improved : List ℕ) (asked : ℕ) (offered : List (Option ℕ)) (status : Status) (output : Output) : Type 0 where
   pub instance : Problem
   pub old : Certificate
   pub certified : AreCertified Reads file cert instance old
-  pub improvement : IsImprovedBy instance old improved asked offered status work
+  pub improvement : IsImprovedBy instance old improved asked offered status output

@@ -9,21 +9,21 @@ use Rattle.command_words.specs.Commands.{Source, instance_at}
 use Rattle.command_jobs.specs.declared.status.Status.{Status}
 use Rattle.command_works.specs.Fleets.{IsFleetFound}
 use Rattle.command_works.specs.Rounds.{round_text}
-use Rattle.command_works.specs.Works.{Work}
+use Rattle.command_works.specs.Outputs.{Output}
 
 -- the file is the text of an instance, and a least closed walk over its required edges is to be written: no other costs less
-pub record IsRoundFound (Reads : Source → (List ℕ → Type 0) → Type 0) (file : List ℕ) (work : Work) : Type 0 where
+pub record IsRoundFound (Reads : Source → (List ℕ → Type 0) → Type 0) (file : List ℕ) (output : Output) : Type 0 where
   pub instance : Problem
   pub read : Reads (instance_at file) (λ bytes. IsTextOf bytes instance)
   pub walk : List Step
   pub shores : List Weighted
   pub cost : ℕ
   pub round : IsShownRound instance walk shores cost
-  pub keeps : work.kept ≡ []
-  pub writes : work.text ≡ round_text instance walk cost
+  pub keeps : output.kept ≡ []
+  pub writes : output.text ≡ round_text instance walk cost
 
 -- the file is the text of an instance, whose vehicles are counted
-pub record IsFleetCounted (Reads : Source → (List ℕ → Type 0) → Type 0) (file : List ℕ) (asked : ℕ) (status : Status) (work : Work) : Type 0 where
+pub record IsFleetCounted (Reads : Source → (List ℕ → Type 0) → Type 0) (file : List ℕ) (asked : ℕ) (status : Status) (output : Output) : Type 0 where
   pub instance : Problem
   pub read : Reads (instance_at file) (λ bytes. IsTextOf bytes instance)
-  pub fleet : IsFleetFound instance asked status work
+  pub fleet : IsFleetFound instance asked status output

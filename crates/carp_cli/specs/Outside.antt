@@ -2,7 +2,7 @@
 use Rattle.std.specs.Prelude.{◌≡◌, ℕ, Bool, IsTrue, List, [], ◌∷◌, Option, ◌⊎◌}
 use Rattle.carp_outside.specs.Causes.{Rose}
 use Rattle.carp_outside.specs.Told.{HoldsExactly, HoldsFront, SameContents, WroteFront}
-use Rattle.command_works.specs.Works.{Kept, Work}
+use Rattle.command_works.specs.Outputs.{Kept, Output}
 
 -- what each name holds and what was written, as they are told, how many looks at each name, keeps and puts failed, how many bytes were
 -- given, and the least cost of the lawful plans that each helper offered
@@ -42,11 +42,11 @@ AreKeptInPart [] before now = ⊥
 AreKeptInPart (k ∷ ks) before now =
     HoldsFront k.name k.bytes before now ⊎ ((next : List ℕ → Option (List ℕ)) × HoldsExactly k.name k.bytes before next × AreKeptInPart ks next now)
 
--- A work was cut short by a call that failed: at a keep, with nothing written, or at the text, with all kept. `held` and `told` say whether contents and
--- what was written are told.
-abbrev pub IsLeftShort : (held told : Bool) → Work → (before now : Outside) → Type 0
-IsLeftShort held told work before now =
-    (Rose before.failed_keeps now.failed_keeps × (IsTrue held → AreKeptInPart work.kept before.contents now.contents)
-    × (IsTrue told → now.written ≡ before.written))
-    ⊎ (Rose before.failed_puts now.failed_puts × (IsTrue held → AreKept work.kept before.contents now.contents)
-    × (IsTrue told → WroteFront work.text before.written now.written))
+-- An output was cut short by a call that failed: at a keep, with nothing written, or at the text, with all kept. `contents_told`
+-- and `written_told` say whether contents and what was written are told.
+abbrev pub IsLeftShort : (contents_told written_told : Bool) → Output → (before now : Outside) → Type 0
+IsLeftShort contents_told written_told output before now =
+    (Rose before.failed_keeps now.failed_keeps × (IsTrue contents_told → AreKeptInPart output.kept before.contents now.contents)
+    × (IsTrue written_told → now.written ≡ before.written))
+    ⊎ (Rose before.failed_puts now.failed_puts × (IsTrue contents_told → AreKept output.kept before.contents now.contents)
+    × (IsTrue written_told → WroteFront output.text before.written now.written))

@@ -6,38 +6,38 @@ use Rattle.carp_outside.specs.Told.{SameContents}
 use Rattle.command_words.specs.Commands.{Command, asks_helpers, sources_of, kept_by}
 use Rattle.command_jobs.specs.Files.{RoseAtSome, HasLimit}
 use Rattle.command_jobs.specs.Inputs.{IsRefused, CanBeDone, IsUnread}
-use Rattle.command_works.specs.Works.{Work}
+use Rattle.command_works.specs.Outputs.{Output}
 use Rattle.carp_cli.specs.Outside.{Outside, found, AreKept, IsLeftShort}
-use Rattle.carp_cli.specs.Answers.{IsDoneStatus, IsKnown, IsRightOf, refusal_work}
+use Rattle.carp_cli.specs.Answers.{IsDoneStatus, IsKnown, IsRightOf, refusal_output}
 use Rattle.carp_cli.specs.Founded.{IsFoundedOf}
 use Rattle.carp_cli.specs.Refusals.{HasReport}
 use Rattle.command_jobs.specs.declared.status.Status.{Status}
 use Rattle.command_jobs.specs.declared.status.Status.TheVariants.{BadUsage, ReadFault, WriteFault, Memory, TooLong}
 
--- an answer with its work: it is founded, whatever is told; and if what the command reads is told, it is right for what was found
-pub record IsAnswer (held : Bool) (command : Option Command) (before now : Outside) (status : Status) (work : Work) : Type 0 where
-  pub right : IsKnown held command → IsRightOf command (found before now) status work
-  pub founded : IsFoundedOf command before.given now.given now.offered status work
-  pub refusal : ¬ (HasReport status) → work ≡ refusal_work status
+-- an answer with its output: it is founded, whatever is told; and if what the command reads is told, it is right for what was found
+pub record IsRunAnswer (contents_told : Bool) (command : Option Command) (before now : Outside) (status : Status) (output : Output) : Type 0 where
+  pub right : IsKnown contents_told command → IsRightOf command (found before now) status output
+  pub founded : IsFoundedOf command before.given now.given now.offered status output
+  pub refusal : ¬ (HasReport status) → output ≡ refusal_output status
 
 -- an answer was given whole: what it keeps is kept, and its text is written
-pub record IsWhole (held told : Bool) (command : Option Command) (before now : Outside) (status : Status) : Type 0 where
-  pub work : Work
-  pub answer : IsAnswer held command before now status work
-  pub kept : IsTrue held → AreKept work.kept before.contents now.contents
-  pub wrote : IsTrue told → now.written ≡ before.written ++ work.text
+pub record IsWhole (contents_told written_told : Bool) (command : Option Command) (before now : Outside) (status : Status) : Type 0 where
+  pub output : Output
+  pub answer : IsRunAnswer contents_told command before now status output
+  pub kept : IsTrue contents_told → AreKept output.kept before.contents now.contents
+  pub wrote : IsTrue written_told → now.written ≡ before.written ++ output.text
 
 -- an answer was cut short by a call that failed: at a keep, with nothing written, or at the text, with all kept
-pub record IsCutShort (held told : Bool) (command : Option Command) (before now : Outside) : Type 0 where
+pub record IsCutShort (contents_told written_told : Bool) (command : Option Command) (before now : Outside) : Type 0 where
   pub status : Status
-  pub work : Work
-  pub answer : IsAnswer held command before now status work
-  pub left : IsLeftShort held told work before now
+  pub output : Output
+  pub answer : IsRunAnswer contents_told command before now status output
+  pub left : IsLeftShort contents_told written_told output before now
 
 -- nothing is kept or written
-pub record IsUntouched (held told : Bool) (before now : Outside) : Type 0 where
-  pub kept : IsTrue held → SameContents before.contents now.contents
-  pub wrote : IsTrue told → now.written ≡ before.written
+pub record IsUntouched (contents_told written_told : Bool) (before now : Outside) : Type 0 where
+  pub kept : IsTrue contents_told → SameContents before.contents now.contents
+  pub wrote : IsTrue written_told → now.written ≡ before.written
 
 -- the helpers were asked: a command that asks them is done
 abbrev pub IsHelped : Option Command → Status → Type 0
@@ -48,14 +48,14 @@ IsHelped (Some c) status = IsTrue (asks_helpers c) × IsDoneStatus c status
 abbrev pub IsNoAnswer : Status → Type 0
 IsNoAnswer status = (status ≡ WriteFault) ⊎ (status ≡ Memory)
 
--- What a run leaves. `held` and `told` say whether contents and what was written are told.
-pub record Leaves (held told : Bool) (command : Option Command) (before now : Outside) (status : Status) : Type 0 where
+-- What a run leaves. `contents_told` and `written_told` say whether contents and what was written are told.
+pub record Leaves (contents_told written_told : Bool) (command : Option Command) (before now : Outside) (status : Status) : Type 0 where
   -- each answer is given whole, or cut short, or there was no memory and nothing was done
-  pub whole : status ≢ WriteFault → status ≢ Memory → IsWhole held told command before now status
-  pub cut : status ≡ WriteFault → IsCutShort held told command before now
-  pub untouched : status ≡ Memory → IsUntouched held told before now
+  pub whole : status ≢ WriteFault → status ≢ Memory → IsWhole contents_told written_told command before now status
+  pub cut : status ≡ WriteFault → IsCutShort contents_told written_told command before now
+  pub untouched : status ≡ Memory → IsUntouched contents_told written_told before now
   -- names that the command does not keep hold what they held
-  pub elsewhere : IsTrue held → (other : List ℕ) → AllByRecursion (λ name. other ≢ name) (kept_by command) → now.contents other ≡ before.contents other
+  pub elsewhere : IsTrue contents_told → (other : List ℕ) → AllByRecursion (λ name. other ≢ name) (kept_by command) → now.contents other ≡ before.contents other
   -- each refusal has its cause
   pub usage : status ≡ BadUsage → command ≡ None
   pub read : status ≡ ReadFault → RoseAtSome (sources_of command) before.failed_looks now.failed_looks
@@ -63,7 +63,7 @@ pub record Leaves (held told : Bool) (command : Option Command) (before now : Ou
   pub too_long : (limit : ℕ) → status ≡ TooLong limit → HasLimit limit (sources_of command) × RoseBy (limit + 1) before.given now.given
   -- and where no look failed at a file that the command had to look at, what the names hold decides
   pub no_command : command ≡ None → (status ≡ BadUsage) ⊎ IsNoAnswer status
-  pub refused : IsKnown held command → (c : Command) (wanted : Status) → command ≡ Some c → IsRefused c before.contents wanted
+  pub refused : IsKnown contents_told command → (c : Command) (wanted : Status) → command ≡ Some c → IsRefused c before.contents wanted
       → ¬ (IsUnread c before.contents before.failed_looks now.failed_looks) → (status ≡ wanted) ⊎ IsNoAnswer status
-  pub done : IsKnown held command → (c : Command) → command ≡ Some c → CanBeDone c before.contents
+  pub done : IsKnown contents_told command → (c : Command) → command ≡ Some c → CanBeDone c before.contents
       → ¬ (IsUnread c before.contents before.failed_looks now.failed_looks) → IsDoneStatus c status ⊎ IsNoAnswer status

@@ -2,7 +2,7 @@
 ghost use Rattle.std.specs.Prelude.{◌≡◌, ◌≢◌, ℕ, ◌++◌, ◌≤◌, List, [], map, IsTrue, OnOk, OnErr, ◌⊎◌};
 ghost use Rattle.carp_outside.specs.Causes.{HasCause};
 ghost use Rattle.carp_cli.specs.Outside.{AreKept, AreKeptInPart, IsLeftShort, Outside};
-ghost use Rattle.command_works.specs.Works.{kept_in, work_in};
+ghost use Rattle.command_works.specs.Outputs.{kept_in, output_in};
 
 use carp_outside::{Shelf, ShelfFault, Sink, put_all};
 use command_jobs::Status;
@@ -15,7 +15,7 @@ pub(crate) fn deliver<H: Shelf, O: Sink>(
     delivery: &Delivery<'_>,
 ) -> Status
     ensures answer { result ≡ delivery.now.status ⊎ (result ≡ Status.WriteFault) }
-    ensures kept { IsTrue H.tells → result ≢ Status.WriteFault → AreKept (work_in delivery.now).kept (H.contents shelf.old) (H.contents shelf.new) }
+    ensures kept { IsTrue H.tells → result ≢ Status.WriteFault → AreKept (output_in delivery.now).kept (H.contents shelf.old) (H.contents shelf.new) }
     ensures wrote { IsTrue O.tells → result ≢ Status.WriteFault → O.written out.new ≡ O.written out.old ++ delivery.now.text.items }
     ensures cut { let before : Outside = record {
       contents = H.contents shelf.old;
@@ -35,7 +35,7 @@ pub(crate) fn deliver<H: Shelf, O: Sink>(
           failed_puts = O.faults out.new;
           offered = [];
         } in
-        result ≡ Status.WriteFault → (delivery.now.status ≡ Status.WriteFault) ⊎ IsLeftShort H.tells O.tells (work_in delivery.now) before now }
+        result ≡ Status.WriteFault → (delivery.now.status ≡ Status.WriteFault) ⊎ IsLeftShort H.tells O.tells (output_in delivery.now) before now }
     ensures looks { (name : List ℕ) → H.failed_looks shelf.new name ≡ H.failed_looks shelf.old name }
     ensures given { H.given shelf.new ≡ H.given shelf.old }
 {

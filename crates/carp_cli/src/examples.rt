@@ -7,10 +7,10 @@ ghost use Rattle.command_jobs.specs.Inputs.{IsRefusalOf};
 ghost use Rattle.command_words.specs.Commands.{Drill, instance_at, reads};
 ghost use Rattle.command_words.specs.Laws.{HasBudget};
 ghost use Rattle.carp_cli.specs.Outside.{AreKept, AreKeptInPart};
-ghost use Rattle.carp_cli.specs.Answers.{IsDoneStatus, IsKnown, refusal_work};
+ghost use Rattle.carp_cli.specs.Answers.{IsDoneStatus, IsKnown, refusal_output};
 ghost use Rattle.carp_cli.specs.Founded.{IsFounded, IsFoundedOf};
 ghost use Rattle.command_works.specs.Solving.{IsEnding};
-ghost use Rattle.command_works.specs.Works.{Work};
+ghost use Rattle.command_works.specs.Outputs.{Output};
 ghost use Rattle.carp_cli.specs.Refusals.{HasReport};
 ghost use Rattle.carp_cli.specs.Runs.{IsHelped, Leaves};
 ghost use Rattle.carp_cli.specs.Examples.{idle, stating, solving, checking, making, touring, editing, improving, outside};
@@ -65,8 +65,8 @@ fn facts_of_answers_hold()
     ensures given { GivenIn 4 7 (instance_at []) (λ bytes. bytes ≡ codes "dat") }
     ensures told { IsKnown true (Some checking) }
     ensures reads_nothing { IsKnown false (Some making) }
-    ensures founded { IsFounded checking 0 0 [] Status.ReadFault (refusal_work Status.ReadFault) }
-    ensures usage { IsFoundedOf None 0 0 [] Status.BadUsage (refusal_work Status.BadUsage) }
+    ensures founded { IsFounded checking 0 0 [] Status.ReadFault (refusal_output Status.ReadFault) }
+    ensures usage { IsFoundedOf None 0 0 [] Status.BadUsage (refusal_output Status.BadUsage) }
 {}
 
 fn facts_of_answers_fail()
@@ -83,7 +83,7 @@ fn facts_of_answers_fail()
     ensures given { GivenIn 4 6 (instance_at []) (λ bytes. bytes ≡ codes "dat") → ⊥ }
     ensures none_given { GivenIn 4 7 (instance_at []) (λ bytes. ⊥) → ⊥ }
     ensures told { IsKnown false (Some checking) → ⊥ }
-    ensures never_unread { (work : Work) → IsFounded making 0 0 [] Status.ReadFault work → ⊥ }
-    ensures never_accepted { (work : Work) → IsFounded solving 0 0 [] Status.Accepted work → ⊥ }
-    ensures usage { (work : Work) → IsFoundedOf None 0 0 [] Status.Done work → ⊥ }
+    ensures never_unread { (output : Output) → IsFounded making 0 0 [] Status.ReadFault output → ⊥ }
+    ensures never_accepted { (output : Output) → IsFounded solving 0 0 [] Status.Accepted output → ⊥ }
+    ensures usage { (output : Output) → IsFoundedOf None 0 0 [] Status.Done output → ⊥ }
 {}

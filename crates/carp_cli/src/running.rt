@@ -4,11 +4,11 @@ ghost use Rattle.carp_outside.specs.Told.{SameContents};
 ghost use Rattle.command_words.specs.Commands.{asks_helpers, is_helped, seed_by, seed_of};
 ghost use Rattle.command_words.specs.Words.{command_of, texts_of};
 ghost use Rattle.carp_cli.specs.Outside.{Outside, Finding};
-ghost use Rattle.carp_cli.specs.Answers.{IsDoneStatus, refusal_work};
+ghost use Rattle.carp_cli.specs.Answers.{IsDoneStatus, refusal_output};
 ghost use Rattle.carp_cli.specs.Runs.{Leaves, IsHelped};
 ghost use Rattle.carp_cli.specs.Steps.{IsPrepared};
 ghost use Rattle.command_words.specs.Laws.{HasBudget};
-ghost use Rattle.command_works.specs.Works.{work_in};
+ghost use Rattle.command_works.specs.Outputs.{output_in};
 ghost use Rattle.command_words.specs.Forms.{command_in};
 
 use crate::delivering::deliver;
@@ -138,7 +138,7 @@ fn prepare<'a, H: Shelf, P: Proposer>(
       looks_now = H.failed_looks shelf.new;
       offered = map (λ helper. (P.tally helper).least) helpers.new.items;
     } in
-        IfOk result (λ d. IsPrepared H.tells (command_of (texts_of words.now)) finding (H.given shelf.old) (H.given shelf.new) d.status (work_in d)) }
+        IfOk result (λ d. IsPrepared H.tells (command_of (texts_of words.now)) finding (H.given shelf.old) (H.given shelf.new) d.status (output_in d)) }
     ensures contents { IsTrue H.tells → SameContents (H.contents shelf.old) (H.contents shelf.new) }
     ensures keeps { H.failed_keeps shelf.new ≡ H.failed_keeps shelf.old }
     ensures helpers { map P.id helpers.new.items ≡ map P.id helpers.old.items }
@@ -170,7 +170,7 @@ fn perform<'a, H: Shelf, P: Proposer>(
       looks_now = H.failed_looks shelf.new;
       offered = map (λ helper. (P.tally helper).least) helpers.new.items;
     } in
-        IfOk result (λ d. IsPrepared H.tells (Some (command_in command.entry)) finding (H.given shelf.old) (H.given shelf.new) d.status (work_in d)) }
+        IfOk result (λ d. IsPrepared H.tells (Some (command_in command.entry)) finding (H.given shelf.old) (H.given shelf.new) d.status (output_in d)) }
     ensures contents { IsTrue H.tells → SameContents (H.contents shelf.old) (H.contents shelf.new) }
     ensures keeps { H.failed_keeps shelf.new ≡ H.failed_keeps shelf.old }
     ensures helpers { map P.id helpers.new.items ≡ map P.id helpers.old.items }
@@ -189,7 +189,7 @@ fn perform<'a, H: Shelf, P: Proposer>(
 
 // An answer that keeps nothing, and writes its text.
 fn refuse<'a>(alloc: Global, status: Status) -> Result<Delivery<'a>, Memory>
-    ensures { IfOk result (λ d. (d.status ≡ status) × (work_in d ≡ refusal_work status)) }
+    ensures { IfOk result (λ d. (d.status ≡ status) × (output_in d ≡ refusal_output status)) }
 {
     let text = refusal(alloc, &status)?;
     Ok(Delivery {

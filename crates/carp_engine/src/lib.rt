@@ -1,5 +1,7 @@
 //! Finds plans with the aid of helpers, and a bound on all plans.
 //!
+//! In the field: an exact method: primal heuristics, and then branch and bound.
+//!
 //! [`solve`] starts with one tour for each required edge, asks helpers in rounds, each of which is any
 //! [`plan_model::Proposer`] (`helper_rounds`), and then searches a tree of decisions by turns (`branch_tree`). No
 //! helper need be trusted: each offer is judged. [`improve`] goes on from the plan and the tree of a good certificate

@@ -15,14 +15,14 @@ use Rattle.cert_lines.specs.Numerals.{numeral, signed_numeral}
 use Rattle.cert_lines.specs.Lines.{version, counts, cost, bound, tours, shores, sets, prices, weights, bonds, nodes, node, nothing, after_blank, step_word, weight_words, group_words}
 use Rattle.cert_lines.specs.Certificates.{Certificate, has_groups}
 use Rattle.cert_lines.specs.Spelling.{whole_line, version_lines, tour_line, shore_line, group_lines, set_lines, text_of}
-use Rattle.cert_format.specs.Pieces.{number_piece, price_piece, weight_piece, group_piece, number_line, pair_line, sizes_piece, loads_piece, counts_line, tour_text, shore_text, prices_head, prices_text, weights_text, bonds_text, groups_text, set_text, node_text, second_text, version_text, plan_text, pool_text, sets_text, nodes_text, values_text}
+use Rattle.cert_format.specs.Pieces.{number_piece, price_piece, weight_piece, group_piece, keyword_line, pair_line, sizes_piece, loads_piece, counts_line, tour_text, shore_text, prices_head, prices_text, weights_text, bonds_text, groups_text, set_text, node_text, second_text, version_text, plan_text, pool_text, sets_text, nodes_text, values_text}
 
 -- a word, a number and items, each after a blank, and the LF
 line_of_items : (word one items : List ℕ) → (word ++ (one ++ items)) ++ 10 ∷ [] ≡ word ++ (one ++ (items ++ 10 ∷ []))
 line_of_items word one items = append_assoc word (one ++ items) (10 ∷ []) ∙ ap (λ (bytes : List ℕ). word ++ bytes) (append_assoc one items (10 ∷ []))
 
-number_is : (word : List ℕ) (n : ℕ) → number_line word n ≡ (word ++ (number_piece n ++ [])) ++ 10 ∷ []
-unfolding number_line
+number_is : (word : List ℕ) (n : ℕ) → keyword_line word n ≡ (word ++ (number_piece n ++ [])) ++ 10 ∷ []
+unfolding keyword_line
 number_is word n = sym (line_of_items word (number_piece n) [])
 
 pair_is : (word : List ℕ) (a b : ℕ) → pair_line word a b ≡ (word ++ (number_piece a ++ (number_piece b ++ []))) ++ 10 ∷ []

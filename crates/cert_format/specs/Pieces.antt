@@ -28,8 +28,8 @@ unfoldable pub group_piece : GroupWeight → List ℕ
 group_piece w = price_piece w.weight ++ (number_piece (length w.edges) ++ flat_map number_piece w.edges)
 
 -- a line of a word and one number, and one of two numbers
-unfoldable pub number_line : List ℕ → ℕ → List ℕ
-number_line word n = word ++ (number_piece n ++ 10 ∷ [])
+unfoldable pub keyword_line : List ℕ → ℕ → List ℕ
+keyword_line word n = word ++ (number_piece n ++ 10 ∷ [])
 
 unfoldable pub pair_line : List ℕ → ℕ → ℕ → List ℕ
 pair_line word a b = word ++ (number_piece a ++ (number_piece b ++ 10 ∷ []))
@@ -75,13 +75,13 @@ set_text grouped set = prices_text set ++ (weights_text set ++ groups_text group
 unfoldable pub node_text : Node → List ℕ
 node_text (Pair a b) = pair_line (codes "pair") a b
 node_text (Cut border k) = pair_line (codes "cut") border k
-node_text (Price set) = number_line (codes "price") set
+node_text (Price set) = keyword_line (codes "price") set
 node_text Void = codes "void\n"
 node_text Fixed = codes "fixed\n"
 
 -- the version, with the numbers of the instance where they are known
 unfoldable pub second_text : (version : ℕ) → Counts → List ℕ
-second_text version c = number_line (codes "carp-certificate") version ++ counts_line c
+second_text version c = keyword_line (codes "carp-certificate") version ++ counts_line c
 
 -- the version of a certificate with the numbers of the instance
 abbrev pub version_with : (grouped : Bool) → ℕ
@@ -89,21 +89,21 @@ version_with false = 2
 version_with true = 4
 
 unfoldable pub version_text : Option Counts → (grouped : Bool) → List ℕ
-version_text None grouped = number_line (codes "carp-certificate") 1
+version_text None grouped = keyword_line (codes "carp-certificate") 1
 version_text (Some c) grouped = second_text (version_with grouped) c
 
 -- the groups of lines
 unfoldable pub plan_text : List (List Step) → List ℕ
-plan_text plan = number_line (codes "tours") (length plan) ++ flat_map tour_text plan
+plan_text plan = keyword_line (codes "tours") (length plan) ++ flat_map tour_text plan
 
 unfoldable pub pool_text : List (List ℕ) → List ℕ
-pool_text pool = number_line (codes "shores") (length pool) ++ flat_map shore_text pool
+pool_text pool = keyword_line (codes "shores") (length pool) ++ flat_map shore_text pool
 
 unfoldable pub sets_text : (grouped : Bool) → List Prices → List ℕ
-sets_text grouped sets = number_line (codes "sets") (length sets) ++ flat_map (set_text grouped) sets
+sets_text grouped sets = keyword_line (codes "sets") (length sets) ++ flat_map (set_text grouped) sets
 
 unfoldable pub nodes_text : List Node → List ℕ
-nodes_text nodes = number_line (codes "nodes") (length nodes) ++ (flat_map node_text nodes ++ codes "end\n")
+nodes_text nodes = keyword_line (codes "nodes") (length nodes) ++ (flat_map node_text nodes ++ codes "end\n")
 
 unfoldable pub values_text : (cost bound : ℕ) → List ℕ
-values_text cost bound = number_line (codes "cost") cost ++ number_line (codes "bound") bound
+values_text cost bound = keyword_line (codes "cost") cost ++ keyword_line (codes "bound") bound

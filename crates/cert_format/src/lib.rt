@@ -1,5 +1,7 @@
 //! The text of a certificate, both ways, in whole and in pieces.
 //!
+//! In the field: proof logging: certificates written and read.
+//!
 //! [`write_cert`] gives the one spelling of a certificate. [`CertReader`] takes a text in pieces, however it is cut, and gives the
 //! head, each node, and the end; it holds the head and no nodes. [`read_cert`] feeds it a whole text. What a text says, and the
 //! first fault of bytes that are none, is defined in `cert_lines`. What makes a certificate good for an instance stands in

@@ -3,7 +3,7 @@ ghost use Rattle.std.specs.Prelude.{◌≡◌, ◌++◌, ◌∷◌, [], codes, O
 ghost use Rattle.std.specs.List.{flat_map};
 ghost use Rattle.cert_lines.specs.Numerals.{numeral, signed_numeral};
 ghost use Rattle.cert_lines.specs.Lines.{mark_of};
-ghost use Rattle.cert_format.specs.Pieces.{number_piece, step_piece, price_piece, weight_piece, group_piece, number_line, pair_line, sizes_piece, loads_piece, counts_line};
+ghost use Rattle.cert_format.specs.Pieces.{number_piece, step_piece, price_piece, weight_piece, group_piece, keyword_line, pair_line, sizes_piece, loads_piece, counts_line};
 
 use branch_rules::{Weight, WeightedGroup};
 use carp_base::Memory;
@@ -102,9 +102,9 @@ pub(crate) fn push_group(text: &mut Vec<u8>, group: &WeightedGroup) -> Result<()
 }
 
 // Adds a line of a word and a number.
-#[tactic(auto, unfolding(crate::specs::Pieces::number_line))]
+#[tactic(auto, unfolding(crate::specs::Pieces::keyword_line))]
 pub(crate) fn push_line(text: &mut Vec<u8>, word: &[u8], number: u64) -> Result<(), Memory>
-    ensures { OnOk result (text.new.items ≡ text.old.items ++ number_line word.now number) }
+    ensures { OnOk result (text.new.items ≡ text.old.items ++ keyword_line word.now number) }
 {
     text.extend_from_slice(word)?;
     push_number(text, number)?;

@@ -12,7 +12,7 @@ use Rattle.std.proofs.lemmas.Int.Digits.{first_digits_of}
 use Rattle.plan_model.specs.declared.step.Step.{Step}
 use Rattle.cert_lines.specs.Lines.{step_word}
 use Rattle.cert_lines.specs.Numerals.{numeral, signed_numeral}
-use Rattle.cert_lines.specs.Numbers.{IsNumeral, IsNatural, IsNoNatural, IsMarked, IsNotMarked, IsWhole, IsNoWhole, IsStep, IsNoStep, mark_with, limit}
+use Rattle.cert_lines.specs.Numbers.{IsNumeral, IsNatural, IsNoNatural, IsMarkedNumber, IsNoMarkedNumber, IsWhole, IsNoWhole, IsStep, IsNoStep, mark_with, limit}
 use Rattle.cert_lines.specs.Words.{IsCut}
 use Rattle.cert_lines.proofs.Numerals.{digit_is, numeral_spells, natural_numeral, natural_short}
 
@@ -145,11 +145,11 @@ numeral_tested c cs = (
 )
 
 -- the number behind a mark
-pub marked_is : {mark told : ℕ} {text tail : List ℕ} → text ≡ mark ∷ tail → IsNatural tail told → IsMarked mark text told
+pub marked_is : {mark told : ℕ} {text tail : List ℕ} → text ≡ mark ∷ tail → IsNatural tail told → IsMarkedNumber mark text told
 marked_is {mark} {told} {text} {tail} parts natural = record { n = natural.n; spelled = parts ∙ ap (λ (x : List ℕ). mark ∷ x) natural.spelled; value = natural.value }
 
 pub marked_told : {mark c : ℕ} {cs text : List ℕ} {more digits : Bool} → (told : Option ℕ) → c ≡ mark → IsCut 20 (c ∷ cs) more digits text →
-    ((tail : List ℕ) → IsCut 19 cs more digits tail → MatchOption told (IsNoNatural tail) (IsNatural tail)) → MatchOption told (IsNotMarked mark text) (IsMarked mark text)
+    ((tail : List ℕ) → IsCut 19 cs more digits tail → MatchOption told (IsNoNatural tail) (IsNatural tail)) → MatchOption told (IsNoMarkedNumber mark text) (IsMarkedNumber mark text)
 marked_told {mark} {c} {cs} {text} {more} {digits} None same cut tells =
     let t = tail_of {least = 19} cut in
     λ n e. tells t.tail t.cut n (let both : c ∷ t.tail ≡ mark ∷ numeral n = sym t.parts ∙ e in cc)
@@ -157,7 +157,7 @@ marked_told {mark} {c} {cs} {text} {more} {digits} (Some k) same cut tells =
     let t = tail_of {least = 19} cut in
     marked_is (t.parts ∙ ap (λ (x : ℕ). x ∷ t.tail) same) (tells t.tail t.cut)
 
-pub marked_other : {mark c : ℕ} {cs text : List ℕ} {more digits : Bool} → c ≢ mark → IsCut 20 (c ∷ cs) more digits text → IsNotMarked mark text
+pub marked_other : {mark c : ℕ} {cs text : List ℕ} {more digits : Bool} → c ≢ mark → IsCut 20 (c ∷ cs) more digits text → IsNoMarkedNumber mark text
 marked_other {mark} {c} {cs} {text} {more} {digits} other cut = λ n e. other (let both : c ∷ (cs ++ cut.rest) ≡ mark ∷ numeral n = sym cut.parts ∙ e in cc)
 
 digit_at : (digits : List ℕ) (i : ℕ) → list_all is_ascii_digit digits ≡ true → i < length digits → is_ascii_digit (get_or digits i 0) ≡ true
@@ -191,11 +191,11 @@ none_tested (c ∷ cs) e = absurd (some_length c cs e)
 
 -- a text that is kept, behind its first byte
 pub marked_kept : {mark : ℕ} {text : List ℕ} {more digits : Bool} (kept : List ℕ) (told : Option ℕ) → eqb (length kept) 0 ≡ false → get_or kept 0 0 ≡ mark → IsCut 20 kept more digits text →
-    ((tail : List ℕ) → IsCut 19 (drop 1 kept) more digits tail → MatchOption told (IsNoNatural tail) (IsNatural tail)) → MatchOption told (IsNotMarked mark text) (IsMarked mark text)
+    ((tail : List ℕ) → IsCut 19 (drop 1 kept) more digits tail → MatchOption told (IsNoNatural tail) (IsNatural tail)) → MatchOption told (IsNoMarkedNumber mark text) (IsMarkedNumber mark text)
 marked_kept {mark} {text} {more} {digits} [] told some same cut tells = absurd (let both : true ≡ false = some in cc)
 marked_kept {mark} {text} {more} {digits} (c ∷ cs) told some same cut tells = marked_told told same cut tells
 
-pub unmarked : {mark : ℕ} {text : List ℕ} {more digits : Bool} (kept : List ℕ) → (eqb (length kept) 0 ≡ true) ⊎ (get_or kept 0 0 ≢ mark) → IsCut 20 kept more digits text → IsNotMarked mark text
+pub unmarked : {mark : ℕ} {text : List ℕ} {more digits : Bool} (kept : List ℕ) → (eqb (length kept) 0 ≡ true) ⊎ (get_or kept 0 0 ≢ mark) → IsCut 20 kept more digits text → IsNoMarkedNumber mark text
 unmarked {mark} {text} {more} {digits} [] why cut = λ n e. (let both : [] ≡ mark ∷ numeral n = sym (kept_none (lit< tt) cut) ∙ e in cc)
 unmarked {mark} {text} {more} {digits} (c ∷ cs) why cut = elim why [ inl e ↦ absurd (some_length c cs e) | inr other ↦ marked_other other cut ]
 
@@ -203,7 +203,7 @@ unmarked {mark} {text} {more} {digits} (c ∷ cs) why cut = elim why [ inl e ↦
 pub natural_is_whole : {text : List ℕ} (told : ℕ) → IsNatural text told → IsWhole text (pos told)
 natural_is_whole {text} told natural = record { z = pos natural.n; spelled = natural.spelled; value = ap pos natural.value }
 
-pub no_whole : {text : List ℕ} → IsNoNatural text → IsNotMarked 45 text → IsNoWhole text
+pub no_whole : {text : List ℕ} → IsNoNatural text → IsNoMarkedNumber 45 text → IsNoWhole text
 no_whole {text} no_natural no_mark = λ z. elim z as (λ w. text ≡ signed_numeral w → ⊥) [ pos n ↦ no_natural n | negsuc n ↦ no_mark (suc n) ]
 
 first_glyph : (ds : List ℕ) → map (λ d. 48 + d) ds ≡ 48 ∷ [] → 0 < get_or ds 0 0 → ⊥
@@ -214,7 +214,7 @@ some_word : (n : ℕ) → numeral (suc n) ≡ numeral 0 → ⊥
 unfolding numeral
 some_word n e = first_glyph (digits_of 10 (suc n)) e (first_digits_of 10 (suc n) (lit≤ tt) (omega arith))
 
-pub no_zero : {text : List ℕ} → IsNoNatural text → IsMarked 45 text 0 → IsNoWhole text
+pub no_zero : {text : List ℕ} → IsNoNatural text → IsMarkedNumber 45 text 0 → IsNoWhole text
 no_zero {text} no_natural marked = λ z. elim z as (λ w. text ≡ signed_numeral w → ⊥) [
   | pos n ↦ no_natural n
   | negsuc n ↦ λ e. (let zero_told : marked.n ≡ 0 = omega (arith, marked.value) in
@@ -230,14 +230,14 @@ marked_negative {text} (suc n) told spelled value some = record {
   value = ap (λ (k : ℕ). neg_ℤ (pos k)) (let e : told ≡ suc (min n (limit - 1)) = omega (arith, value) in e);
 }
 
-pub marked_whole : {text : List ℕ} (told : ℕ) → IsMarked 45 text told → 0 < told → IsWhole text (neg_ℤ (pos told))
+pub marked_whole : {text : List ℕ} (told : ℕ) → IsMarkedNumber 45 text told → 0 < told → IsWhole text (neg_ℤ (pos told))
 marked_whole {text} told marked some = marked_negative marked.n told marked.spelled marked.value some
 
 -- the step of a mark
 ap2_mark : (a b x y : Bool) → a ≡ b → x ≡ y → mark_with a x ≡ mark_with b y
 ap2_mark a b x y p q = ap (λ (k : Bool). mark_with k x) p ∙ ap (mark_with b) q
 
-pub marked_step : {text : List ℕ} (mark told : ℕ) (served forward : Bool) (edge : ℕ) → mark ≡ mark_with served forward → IsMarked mark text told → edge ≡ min told 1000000 → IsStep text (record { edge = edge; forward = forward; served = served })
+pub marked_step : {text : List ℕ} (mark told : ℕ) (served forward : Bool) (edge : ℕ) → mark ≡ mark_with served forward → IsMarkedNumber mark text told → edge ≡ min told 1000000 → IsStep text (record { edge = edge; forward = forward; served = served })
 marked_step {text} mark told served forward edge same marked small = record {
   step = record { edge = marked.n; forward = forward; served = served };
   spelled = marked.spelled ∙ ap (λ (k : ℕ). k ∷ numeral marked.n) same;
@@ -246,7 +246,7 @@ marked_step {text} mark told served forward edge same marked small = record {
   served = refl;
 }
 
-pub unmarked_step : {text : List ℕ} (mark : ℕ) (served forward : Bool) → mark ≡ mark_with served forward → IsNotMarked mark text → (s : Step) → s.served ≡ served → s.forward ≡ forward → text ≡ step_word s → ⊥
+pub unmarked_step : {text : List ℕ} (mark : ℕ) (served forward : Bool) → mark ≡ mark_with served forward → IsNoMarkedNumber mark text → (s : Step) → s.served ≡ served → s.forward ≡ forward → text ≡ step_word s → ⊥
 unmarked_step {text} mark served forward same unmarked s is_served is_forward e =
     unmarked s.edge (e ∙ ap (λ (k : ℕ). k ∷ numeral s.edge) (ap2_mark s.served served s.forward forward is_served is_forward ∙ sym same))
 

@@ -51,13 +51,13 @@ abbrev pub IsNoStep : List ℕ → Type 0
 IsNoStep text = (s : Step) → text ≡ step_word s → ⊥
 
 -- the text is a mark and a number, and this is the lesser of the number and the limit
-pub record IsMarked (mark : ℕ) (text : List ℕ) (told : ℕ) : Type 0 where
+pub record IsMarkedNumber (mark : ℕ) (text : List ℕ) (told : ℕ) : Type 0 where
   pub n : ℕ
   pub spelled : text ≡ mark ∷ numeral n
   pub value : told ≡ min n limit
 
-abbrev pub IsNotMarked : ℕ → List ℕ → Type 0
-IsNotMarked mark text = (n : ℕ) → text ≡ mark ∷ numeral n → ⊥
+abbrev pub IsNoMarkedNumber : ℕ → List ℕ → Type 0
+IsNoMarkedNumber mark text = (n : ℕ) → text ≡ mark ∷ numeral n → ⊥
 
 -- the mark of a step that is served, or not, and forward, or not
 abbrev pub mark_with : (served forward : Bool) → ℕ

@@ -1,5 +1,7 @@
 //! What the text of a certificate says, line by line, and how each line is spelled.
 //!
+//! In the field: the file format of proof logging.
+//!
 //! A certificate is written for people who do not trust its maker. So it has one spelling, and a
 //! text that is none has a first bad line. `specs/Lines.antt` defines what each line says and how
 //! it is spelled, `specs/Order.antt` which line may follow which, `specs/Ranges.antt` what numbers

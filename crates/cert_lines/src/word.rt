@@ -1,6 +1,6 @@
 // A word in pieces.
 ghost use Rattle.std.specs.Prelude.{◌≡◌, ℕ, List, [], ◌++◌, ◌∷◌, ◌<◌, ◌↔◌, IsTrue, length, MatchOption, IfSome, ◌≤◌};
-ghost use Rattle.cert_lines.specs.Numbers.{IsMarked, IsNatural, IsNoNatural, IsNoStep, IsNoWhole, IsNotMarked, IsStep, IsWhole, limit, mark_with};
+ghost use Rattle.cert_lines.specs.Numbers.{IsMarkedNumber, IsNatural, IsNoNatural, IsNoStep, IsNoWhole, IsNoMarkedNumber, IsStep, IsWhole, limit, mark_with};
 ghost use Rattle.cert_lines.specs.Lines.{step_word};
 ghost use Rattle.plan_model.specs.declared.step.Step.{Step};
 ghost use Rattle.cert_lines.specs.Words.{HoldsWord};
@@ -128,7 +128,7 @@ impl Word {
     // The number behind a mark.
     fn marked(&self, mark: u8) -> Option<u64>
         ensures small { IfSome result (λ told. told ≤ limit) }
-        ensures told { (text : List ℕ) → HoldsWord self.now text → MatchOption result (IsNotMarked mark text) (IsMarked mark text) }
+        ensures told { (text : List ℕ) → HoldsWord self.now text → MatchOption result (IsNoMarkedNumber mark text) (IsMarkedNumber mark text) }
     {
         let kept = self.kept.as_slice();
         if kept.is_empty() {

@@ -1,5 +1,7 @@
 //! Certificates that stay good when an instance is edited.
 //!
+//! In the field: reoptimization: a solution and its proof, reused for changed data.
+//!
 //! If costs, service costs and demands rise, and streets that need no service are closed, what
 //! showed that no plan costs less than a bound still shows it: each price set that fitted still
 //! fits, and what decisions excluded they still exclude. [`carry`] makes of a certificate that was

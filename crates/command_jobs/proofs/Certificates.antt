@@ -94,19 +94,19 @@ bad_instance apart unique bytes fault is = record {
 }
 
 -- the certificate of a file is bad
-pub file_faulty : {X : Type 0} {held : Bool} {source : Source} {contents : List ℕ → Option (List ℕ)} {lb ln : List ℕ → ℕ} {gb gn : ℕ} {p : Problem} {Is : List ℕ → X → Type 0}
-    → TextHasNoFault → FaultIsUnique → (fault : CertFault) → (IsTrue held → Holds source contents (λ bytes. IsFaultOf bytes fault))
-    → IsFileRead {X = X} (seen_by held contents lb ln gb gn) source IsOfCertificate Is (IsBadCertificate p) (IsGoodText p) (Err (Refused (BadCertificate fault)))
+pub file_faulty : {X : Type 0} {contents_told : Bool} {source : Source} {contents : List ℕ → Option (List ℕ)} {lb ln : List ℕ → ℕ} {gb gn : ℕ} {p : Problem} {Is : List ℕ → X → Type 0}
+    → TextHasNoFault → FaultIsUnique → (fault : CertFault) → (IsTrue contents_told → Holds source contents (λ bytes. IsFaultOf bytes fault))
+    → IsFileRead {X = X} (seen_by contents_told contents lb ln gb gn) source IsOfCertificate Is (IsBadCertificate p) (IsGoodText p) (Err (Refused (BadCertificate fault)))
 file_faulty {X} {source = source} {contents = contents} apart unique fault is =
     file_parsed (Err (Refused (BadCertificate fault))) (λ told. of_some (contents source.name) (is told) (λ bytes held. (held.0, faulty apart unique bytes fault held.1))) tt
     (λ status e. subst IsOfBytes (same_refusal e) tt) (λ status e. subst IsOfCertificate (same_refusal e) tt)
 
 -- the certificate of a file was checked
-pub file_checked : {held : Bool} {source : Source} {contents : List ℕ → Option (List ℕ)} {lb ln : List ℕ → ℕ} {gb gn : ℕ} {p : Problem} → AreApart → (checked : Checked)
-    (r : Result Stated (Fail Status)) → r ≡ accepted_of checked checked.answer → (IsTrue held → Holds source contents (λ bytes. IsChecked p bytes checked)) → IsCheckedGiven p gb gn checked
-    → IsFileRead (seen_by held contents lb ln gb gn) source IsOfCertificate (IsAcceptedText p) (IsBadCertificate p) (IsGoodText p) r
-file_checked {held} {source} {contents} {lb} {ln} {gb} {gn} {p} laws checked r is told given =
-    subst (IsFileRead (seen_by held contents lb ln gb gn) source IsOfCertificate (IsAcceptedText p) (IsBadCertificate p) (IsGoodText p)) (sym is)
+pub file_checked : {contents_told : Bool} {source : Source} {contents : List ℕ → Option (List ℕ)} {lb ln : List ℕ → ℕ} {gb gn : ℕ} {p : Problem} → AreApart → (checked : Checked)
+    (r : Result Stated (Fail Status)) → r ≡ accepted_of checked checked.answer → (IsTrue contents_told → Holds source contents (λ bytes. IsChecked p bytes checked)) → IsCheckedGiven p gb gn checked
+    → IsFileRead (seen_by contents_told contents lb ln gb gn) source IsOfCertificate (IsAcceptedText p) (IsBadCertificate p) (IsGoodText p) r
+file_checked {contents_told} {source} {contents} {lb} {ln} {gb} {gn} {p} laws checked r is told given =
+    subst (IsFileRead (seen_by contents_told contents lb ln gb gn) source IsOfCertificate (IsAcceptedText p) (IsBadCertificate p) (IsGoodText p)) (sym is)
     (file_parsed (accepted_of checked checked.answer) (λ tells. of_some (contents source.name) (told tells) (λ bytes held. (held.0, parsed bytes held.1)))
     (given_by checked.answer given.is.answer) (λ status. refusal checked.answer status) (λ status. kind checked.answer status)) where
       parsed : (bytes : List ℕ) → IsChecked p bytes checked → IsParsed bytes (IsAcceptedText p) (IsBadCertificate p) (IsGoodText p) (accepted_of checked checked.answer)

@@ -23,12 +23,12 @@ not_too_long source contents P R holds long =
     of_both (contents source.name) holds long (λ bytes held longer. absurd (omega (arith, held.0, longer)))
 
 -- what is made of the bytes that a file holds
-pub file_parsed : {X : Type 0} {held : Bool} {source : Source} {contents : List ℕ → Option (List ℕ)} {lb ln : List ℕ → ℕ} {gb gn : ℕ}
+pub file_parsed : {X : Type 0} {contents_told : Bool} {source : Source} {contents : List ℕ → Option (List ℕ)} {lb ln : List ℕ → ℕ} {gb gn : ℕ}
     {Of : Status → Type 0} {Is : List ℕ → X → Type 0} {Bad : List ℕ → Status → Type 0} {Good : List ℕ → Type 0} (r : Result X (Fail Status)) →
-    (IsTrue held → Holds source contents (λ bytes. IsParsed bytes Is Bad Good r)) → IfOk r (λ x. GivenIn gb gn source (λ bytes. Is bytes x)) →
+    (IsTrue contents_told → Holds source contents (λ bytes. IsParsed bytes Is Bad Good r)) → IfOk r (λ x. GivenIn gb gn source (λ bytes. Is bytes x)) →
     ((status : Status) → IsErrOf r (Refused status) → IsOfBytes status) → ((status : Status) → IsErrOf r (Refused status) → Of status) →
-    IsFileRead (seen_by held contents lb ln gb gn) source Of Is Bad Good r
-file_parsed {X} {held} {source} {contents} {lb} {ln} {gb} {gn} {Of} {Is} {Bad} {Good} r parsed founded refusal kind = record {
+    IsFileRead (seen_by contents_told contents lb ln gb gn) source Of Is Bad Good r
+file_parsed {X} {contents_told} {source} {contents} {lb} {ln} {gb} {gn} {Of} {Is} {Bad} {Good} r parsed founded refusal kind = record {
   made = λ told. made_of r (parsed told);
   founded = founded;
   tried = record {
@@ -49,21 +49,21 @@ file_parsed {X} {held} {source} {contents} {lb} {ln} {gb} {gn} {Of} {Is} {Bad} {
   made_of (Err e) parsed = tt
 
 -- all bytes of a file, and what is made of them
-pub read_then : {X : Type 0} {held : Bool} {source : Source} {contents : List ℕ → Option (List ℕ)} {lb ln : List ℕ → ℕ} {gb gn : ℕ}
+pub read_then : {X : Type 0} {contents_told : Bool} {source : Source} {contents : List ℕ → Option (List ℕ)} {lb ln : List ℕ → ℕ} {gb gn : ℕ}
     {Of : Status → Type 0} {Is : List ℕ → X → Type 0} {Bad : List ℕ → Status → Type 0} {Good : List ℕ → Type 0} → ((bytes : List ℕ) (status : Status) → Bad bytes status → Of status) →
     (v : Vec ℕ Global) (bytes : List ℕ) (r : Result X (Fail Status)) → bytes ≡ v.items →
-    IsFileRead (seen_by held contents lb ln gb gn) source IsOfNone AreBytes NoneIsBad EachIsGood (made (Vec ℕ Global) v) → IsParsed bytes Is Bad Good r →
-    IsFileRead (seen_by held contents lb ln gb gn) source Of Is Bad Good r
+    IsFileRead (seen_by contents_told contents lb ln gb gn) source IsOfNone AreBytes NoneIsBad EachIsGood (made (Vec ℕ Global) v) → IsParsed bytes Is Bad Good r →
+    IsFileRead (seen_by contents_told contents lb ln gb gn) source Of Is Bad Good r
 read_then {X = X} {source = source} {contents = contents} {gb = gb} {gn = gn} {Is = Is} {Bad = Bad} {Good = Good} kind v bytes r are whole parsed =
     file_parsed r (λ told. of_some (contents source.name) (whole.made told) (λ own held. (held.0, subst (λ b. IsParsed b Is Bad Good r) (are ∙ held.1) parsed)))
     (founded_by {P = Is} {Q = Is} source gb gn gn v r (omega arith) whole.founded (λ bytes x is. is) (subst (λ b. IfOk r (Is b)) are parsed.made))
     parsed.refusal (λ status e. kind bytes status (parsed.refused status e))
 
 -- the bytes of a file are not to be had
-pub read_stops : {X : Type 0} {held : Bool} {source : Source} {contents : List ℕ → Option (List ℕ)} {lb ln : List ℕ → ℕ} {gb gn : ℕ}
+pub read_stops : {X : Type 0} {contents_told : Bool} {source : Source} {contents : List ℕ → Option (List ℕ)} {lb ln : List ℕ → ℕ} {gb gn : ℕ}
     {Of : Status → Type 0} {Is : List ℕ → X → Type 0} {Bad : List ℕ → Status → Type 0} {Good : List ℕ → Type 0} (f : Fail Status) →
-    IsFileRead (seen_by held contents lb ln gb gn) source IsOfNone AreBytes NoneIsBad EachIsGood (failed (Vec ℕ Global) f) →
-    IsFileRead (seen_by held contents lb ln gb gn) source Of Is Bad Good (failed X f)
+    IsFileRead (seen_by contents_told contents lb ln gb gn) source IsOfNone AreBytes NoneIsBad EachIsGood (failed (Vec ℕ Global) f) →
+    IsFileRead (seen_by contents_told contents lb ln gb gn) source Of Is Bad Good (failed X f)
 read_stops {X} {source = source} {contents = contents} {Bad = Bad} f whole = record {
   made = λ told. tt;
   founded = tt;

@@ -17,9 +17,9 @@ use Rattle.command_jobs.proofs.Given.{rose_since, rose_until}
 use Rattle.command_jobs.proofs.Results.{again, failed, made, of_both, of_some, seen_by}
 
 -- the reading of a file by equal contents
-pub by_contents : {X : Type 0} {held : Bool} {source : Source} {c d : List ℕ → Option (List ℕ)} {lb ln : List ℕ → ℕ} {gb gn : ℕ}
-    {Of : Status → Type 0} {Is : List ℕ → X → Type 0} {Bad : List ℕ → Status → Type 0} {Good : List ℕ → Type 0} {r : Result X (Fail Status)} → (IsTrue held → c ≡ d) →
-    IsFileRead (seen_by held c lb ln gb gn) source Of Is Bad Good r → IsFileRead (seen_by held d lb ln gb gn) source Of Is Bad Good r
+pub by_contents : {X : Type 0} {contents_told : Bool} {source : Source} {c d : List ℕ → Option (List ℕ)} {lb ln : List ℕ → ℕ} {gb gn : ℕ}
+    {Of : Status → Type 0} {Is : List ℕ → X → Type 0} {Bad : List ℕ → Status → Type 0} {Good : List ℕ → Type 0} {r : Result X (Fail Status)} → (IsTrue contents_told → c ≡ d) →
+    IsFileRead (seen_by contents_told c lb ln gb gn) source Of Is Bad Good r → IsFileRead (seen_by contents_told d lb ln gb gn) source Of Is Bad Good r
 by_contents {source = source} {c = c} {d = d} {Is = Is} {Bad = Bad} {Good = Good} {r = r} same file = record {
   made = λ told. subst (λ e. IfOk r (λ x. HeldIn e source (λ bytes. Is bytes x))) (same told) (file.made told);
   founded = file.founded;
@@ -65,9 +65,9 @@ held_instance : (file : List ℕ) (contents : List ℕ → Option (List ℕ)) (p
 held_instance file contents p read = of_some (contents file) read (λ bytes held. (held.0, record { instance = p; text = held.1 }))
 
 -- the first of two files stops the command
-pub first_stops : {Y : Type 0} {held : Bool} {file cert : List ℕ} {contents : List ℕ → Option (List ℕ)} {lb ln : List ℕ → ℕ} {gb gn : ℕ} (f : Fail Status)
-    → IsFileRead {X = Problem} (seen_by held contents lb ln gb gn) (instance_at file) IsOfInstance IsTextOf IsBadInstance IsInstance (failed Problem f)
-    → IsTried (seen_by held contents lb ln gb gn) (instance_at file ∷ certificate_at cert ∷ []) (λ status. IsOfFile status ⊎ IsOfPair status) (IsUnreadPair file cert contents lb ln)
+pub first_stops : {Y : Type 0} {contents_told : Bool} {file cert : List ℕ} {contents : List ℕ → Option (List ℕ)} {lb ln : List ℕ → ℕ} {gb gn : ℕ} (f : Fail Status)
+    → IsFileRead {X = Problem} (seen_by contents_told contents lb ln gb gn) (instance_at file) IsOfInstance IsTextOf IsBadInstance IsInstance (failed Problem f)
+    → IsTried (seen_by contents_told contents lb ln gb gn) (instance_at file ∷ certificate_at cert ∷ []) (λ status. IsOfFile status ⊎ IsOfPair status) (IsUnreadPair file cert contents lb ln)
     (IsBadPair file cert contents) (IsGoodPair file cert contents) (failed Y f)
 first_stops {Y} {file = file} {cert = cert} {contents = contents} {lb = lb} {ln = ln} {gb = gb} {gn = gn} f first = record {
   refusal = λ status e. of_pair (first.tried.refusal status (again e));
@@ -102,14 +102,14 @@ first_stops {Y} {file = file} {cert = cert} {contents = contents} {lb = lb} {ln 
   out (inr e) = inr (again e)
 
 -- the first of two files is read, and the second decides
-pub second_decides : {X : Type 0} {held : Bool} {file cert : List ℕ} {contents : List ℕ → Option (List ℕ)} {lb lm ln : List ℕ → ℕ} {gb gm gn : ℕ}
+pub second_decides : {X : Type 0} {contents_told : Bool} {file cert : List ℕ} {contents : List ℕ → Option (List ℕ)} {lb lm ln : List ℕ → ℕ} {gb gm gn : ℕ}
     {Is : List ℕ → X → Type 0} → InstanceIsUnique → (p : Problem) (r : Result X (Fail Status))
-    → IsFileRead (seen_by held contents lb lm gb gm) (instance_at file) IsOfInstance IsTextOf IsBadInstance IsInstance (made Problem p)
-    → IsFileRead (seen_by held contents lm ln gm gn) (certificate_at cert) IsOfCertificate Is (IsBadCertificate p) (IsGoodText p) r
+    → IsFileRead (seen_by contents_told contents lb lm gb gm) (instance_at file) IsOfInstance IsTextOf IsBadInstance IsInstance (made Problem p)
+    → IsFileRead (seen_by contents_told contents lm ln gm gn) (certificate_at cert) IsOfCertificate Is (IsBadCertificate p) (IsGoodText p) r
     → ((name : List ℕ) → lb name ≤ lm name) → ((name : List ℕ) → lm name ≤ ln name) → gb ≤ gm
-    → IsTried (seen_by held contents lb ln gb gn) (instance_at file ∷ certificate_at cert ∷ []) (λ status. IsOfFile status ⊎ IsOfPair status) (IsUnreadPair file cert contents lb ln)
+    → IsTried (seen_by contents_told contents lb ln gb gn) (instance_at file ∷ certificate_at cert ∷ []) (λ status. IsOfFile status ⊎ IsOfPair status) (IsUnreadPair file cert contents lb ln)
     (IsBadPair file cert contents) (IsGoodPair file cert contents) r
-second_decides {X} {held} {file} {cert} {contents} {lb} {lm} {ln} {gb} {gm} {gn} unique p r first second risen rises given = record {
+second_decides {X} {contents_told} {file} {cert} {contents} {lb} {lm} {ln} {gb} {gm} {gn} unique p r first second risen rises given = record {
   refusal = λ status e. of_pair (second.tried.refusal status e);
   read = λ e. inr (at_second (second.tried.read e));
   order = λ told e. unread_second told (second.tried.order told e);
@@ -128,7 +128,7 @@ second_decides {X} {held} {file} {cert} {contents} {lb} {lm} {ln} {gb} {gm} {gn}
   of_pair (inl is) = inl is
   of_pair (inr is) = inr (inr is)
 
-  unread_second : IsTrue held → Rose (lm cert) (ln cert) → IsUnreadPair file cert contents lb ln
+  unread_second : IsTrue contents_told → Rose (lm cert) (ln cert) → IsUnreadPair file cert contents lb ln
   unread_second told rose = inr (held_instance file contents p (first.made told), rose_since 1 (lb cert) (lm cert) (ln cert) (risen cert) rose)
 
   at_second : Rose (lm cert) (ln cert) ⊎ ⊥ → Rose (lb cert) (ln cert) ⊎ ⊥
@@ -139,5 +139,5 @@ second_decides {X} {held} {file} {cert} {contents} {lb} {lm} {ln} {gb} {gm} {gn}
   limited {limit} (inl is, rose) = (inr (inl is), rose_since (limit + 1) gb gm gn given rose)
   limited (inr none, rose) = absurd none
 
-  one : IsTrue held → (q : Problem) → Holds (instance_at file) contents (λ bytes. IsTextOf bytes q) → q ≡ p
+  one : IsTrue contents_told → (q : Problem) → Holds (instance_at file) contents (λ bytes. IsTextOf bytes q) → q ≡ p
   one told q read = of_both (contents file) read (first.made told) (λ bytes other own. unique bytes q p other.1 own.1)

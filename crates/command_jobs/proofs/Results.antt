@@ -33,8 +33,8 @@ again {X} {Y} {f} {g} e = ap (failed Y) (inside e) where
 
 -- what a call saw, by its parts
 abbrev pub seen_by : Bool → (List ℕ → Option (List ℕ)) → (List ℕ → ℕ) → (List ℕ → ℕ) → ℕ → ℕ → Seen
-seen_by held contents before now given_before given_now = record {
-  held = held;
+seen_by contents_told contents before now given_before given_now = record {
+  contents_told = contents_told;
   contents = contents;
   looks_before = before;
   looks_now = now;

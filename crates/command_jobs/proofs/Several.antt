@@ -23,9 +23,9 @@ out (inl none) = cc
 out (inr e) = inr (again e)
 
 -- what is made of bytes reads no file
-pub tried_none : {X : Type 0} {held : Bool} {contents : List ℕ → Option (List ℕ)} {bytes : List ℕ} {l : List ℕ → ℕ} {g : ℕ} {Refuses : Status → Type 0} {Is : List ℕ → X → Type 0} {Bad : List ℕ → Status → Type 0} {Good : List ℕ → Type 0}
+pub tried_none : {X : Type 0} {contents_told : Bool} {contents : List ℕ → Option (List ℕ)} {bytes : List ℕ} {l : List ℕ → ℕ} {g : ℕ} {Refuses : Status → Type 0} {Is : List ℕ → X → Type 0} {Bad : List ℕ → Status → Type 0} {Good : List ℕ → Type 0}
     → ((status : Status) → Bad bytes status → Refuses status) → (r : Result X (Fail Status))
-    → IsParsed bytes Is Bad Good r → IsTried (seen_by held contents l l g g) [] Refuses ⊥ (Bad bytes) (Good bytes) r
+    → IsParsed bytes Is Bad Good r → IsTried (seen_by contents_told contents l l g g) [] Refuses ⊥ (Bad bytes) (Good bytes) r
 tried_none kind r parsed = record {
   refusal = λ status e. kind status (parsed.refused status e);
   read = λ e. parsed.refusal ReadFault e;
@@ -42,9 +42,9 @@ pub parsed_of : {X : Type 0} {b c : List ℕ} {Is : List ℕ → X → Type 0} {
 parsed_of {Is = Is} {Bad = Bad} {Good = Good} {r = r} same parsed = subst (λ (x : List ℕ). IsParsed x Is Bad Good r) same parsed
 
 -- by equal contents, and where more files may be unread
-pub same_tried : {X : Type 0} {held : Bool} {sources : List Source} {c d : List ℕ → Option (List ℕ)} {lb ln : List ℕ → ℕ} {gb gn : ℕ} {Refuses : Status → Type 0} {U V : Type 0}
-    (Bad : (List ℕ → Option (List ℕ)) → Status → Type 0) (Good : (List ℕ → Option (List ℕ)) → Type 0) (r : Result X (Fail Status)) → (IsTrue held → c ≡ d) → (IsTrue held → U → V)
-    → IsTried (seen_by held c lb ln gb gn) sources Refuses U (Bad c) (Good c) r → IsTried (seen_by held d lb ln gb gn) sources Refuses V (Bad d) (Good d) r
+pub same_tried : {X : Type 0} {contents_told : Bool} {sources : List Source} {c d : List ℕ → Option (List ℕ)} {lb ln : List ℕ → ℕ} {gb gn : ℕ} {Refuses : Status → Type 0} {U V : Type 0}
+    (Bad : (List ℕ → Option (List ℕ)) → Status → Type 0) (Good : (List ℕ → Option (List ℕ)) → Type 0) (r : Result X (Fail Status)) → (IsTrue contents_told → c ≡ d) → (IsTrue contents_told → U → V)
+    → IsTried (seen_by contents_told c lb ln gb gn) sources Refuses U (Bad c) (Good c) r → IsTried (seen_by contents_told d lb ln gb gn) sources Refuses V (Bad d) (Good d) r
 same_tried Bad Good r same more tried = record {
   refusal = tried.refusal;
   read = tried.read;
@@ -85,10 +85,10 @@ limited limit g h source sources (inl is, rose) = (inl is, rose)
 limited limit g h source sources (inr none, rose) = absurd none
 
 -- the first of some files is not to be had
-pub first_stops : {X : Type 0} {held : Bool} {source : Source} {sources : List Source} {contents : List ℕ → Option (List ℕ)} {lb ln : List ℕ → ℕ} {gb gn : ℕ} {Refuses : Status → Type 0} {Later : Type 0}
+pub first_stops : {X : Type 0} {contents_told : Bool} {source : Source} {sources : List Source} {contents : List ℕ → Option (List ℕ)} {lb ln : List ℕ → ℕ} {gb gn : ℕ} {Refuses : Status → Type 0} {Later : Type 0}
     (Bad : List ℕ → Status → Type 0) (Good : List ℕ → Type 0) → ((status : Status) → IsOfFile status → Refuses status) → (f : Fail Status)
-    → IsFileRead (seen_by held contents lb ln gb gn) source IsOfNone AreBytes NoneIsBad EachIsGood (failed (Vec ℕ Global) f)
-    → IsTried (seen_by held contents lb ln gb gn) (source ∷ sources) Refuses (Rose (lb source.name) (ln source.name) ⊎ Later)
+    → IsFileRead (seen_by contents_told contents lb ln gb gn) source IsOfNone AreBytes NoneIsBad EachIsGood (failed (Vec ℕ Global) f)
+    → IsTried (seen_by contents_told contents lb ln gb gn) (source ∷ sources) Refuses (Rose (lb source.name) (ln source.name) ⊎ Later)
     (IsBadFile Bad source contents) (Holds source contents Good) (failed X f)
 first_stops {source = source} {sources = sources} {contents = contents} {lb = lb} {ln = ln} {gb = gb} {gn = gn} {Refuses = Refuses} Bad Good kind f first = record {
   refusal = λ status e. of_file status (first.tried.refusal status (again e));
@@ -111,19 +111,19 @@ first_stops {source = source} {sources = sources} {contents = contents} {lb = lb
   of_file status (inr none) = absurd none
 
 -- a file that was read is held
-held_here : {held : Bool} {source : Source} {contents : List ℕ → Option (List ℕ)} {lb ln : List ℕ → ℕ} {gb gn : ℕ} (v : Vec ℕ Global)
-    → IsFileRead (seen_by held contents lb ln gb gn) source IsOfNone AreBytes NoneIsBad EachIsGood (made (Vec ℕ Global) v) → IsTrue held → Holds source contents EachIsGood
+held_here : {contents_told : Bool} {source : Source} {contents : List ℕ → Option (List ℕ)} {lb ln : List ℕ → ℕ} {gb gn : ℕ} (v : Vec ℕ Global)
+    → IsFileRead (seen_by contents_told contents lb ln gb gn) source IsOfNone AreBytes NoneIsBad EachIsGood (made (Vec ℕ Global) v) → IsTrue contents_told → Holds source contents EachIsGood
 held_here {source = source} {contents = contents} v file told = of_some (contents source.name) (file.made told) (λ bytes own. (own.0, tt))
 
 -- the first of some files is read, and the others decide
-pub others_decide : {X : Type 0} {held : Bool} {source : Source} {sources : List Source} {contents : List ℕ → Option (List ℕ)} {lb lm ln : List ℕ → ℕ} {gb gm gn : ℕ} {Refuses : Status → Type 0} {Later : Type 0}
+pub others_decide : {X : Type 0} {contents_told : Bool} {source : Source} {sources : List Source} {contents : List ℕ → Option (List ℕ)} {lb lm ln : List ℕ → ℕ} {gb gm gn : ℕ} {Refuses : Status → Type 0} {Later : Type 0}
     (Bad : List ℕ → Status → Type 0) (Good : List ℕ → Type 0) (v : Vec ℕ Global) (r : Result X (Fail Status))
-    → IsFileRead (seen_by held contents lb lm gb gm) source IsOfNone AreBytes NoneIsBad EachIsGood (made (Vec ℕ Global) v)
-    → IsTried (seen_by held contents lm ln gm gn) sources Refuses Later (Bad v.items) (Good v.items) r
+    → IsFileRead (seen_by contents_told contents lb lm gb gm) source IsOfNone AreBytes NoneIsBad EachIsGood (made (Vec ℕ Global) v)
+    → IsTried (seen_by contents_told contents lm ln gm gn) sources Refuses Later (Bad v.items) (Good v.items) r
     → ((name : List ℕ) → lb name ≤ lm name) → ((name : List ℕ) → lm name ≤ ln name) → gb ≤ gm
-    → IsTried (seen_by held contents lb ln gb gn) (source ∷ sources) Refuses (Rose (lb source.name) (ln source.name) ⊎ (Holds source contents EachIsGood × Later))
+    → IsTried (seen_by contents_told contents lb ln gb gn) (source ∷ sources) Refuses (Rose (lb source.name) (ln source.name) ⊎ (Holds source contents EachIsGood × Later))
     (IsBadFile Bad source contents) (Holds source contents Good) r
-others_decide {X} {held} {source} {sources} {contents} {lb} {lm} {ln} {gb} {gm} {gn} Bad Good v r first others risen rises given = record {
+others_decide {X} {contents_told} {source} {sources} {contents} {lb} {lm} {ln} {gb} {gm} {gn} Bad Good v r first others risen rises given = record {
   refusal = others.refusal;
   order = λ told e. inr (held_here v first told, others.order told e);
   read = λ e. inr (some_since sources lb lm ln risen (others.read e));
@@ -140,9 +140,9 @@ others_decide {X} {held} {source} {sources} {contents} {lb} {lm} {ln} {gb} {gm} 
 }
 
 -- what is made of the bytes is made of the file that holds them
-pub made_of : {X : Type 0} {held : Bool} {source : Source} {contents mid : List ℕ → Option (List ℕ)} {lb lm : List ℕ → ℕ} {gb gm : ℕ}
+pub made_of : {X : Type 0} {contents_told : Bool} {source : Source} {contents mid : List ℕ → Option (List ℕ)} {lb lm : List ℕ → ℕ} {gb gm : ℕ}
     (P : (List ℕ → Option (List ℕ)) → List ℕ → X → Type 0) (v : Vec ℕ Global) (r : Result X (Fail Status))
-    → IsFileRead (seen_by held contents lb lm gb gm) source IsOfNone AreBytes NoneIsBad EachIsGood (made (Vec ℕ Global) v) → IsTrue held → mid ≡ contents
+    → IsFileRead (seen_by contents_told contents lb lm gb gm) source IsOfNone AreBytes NoneIsBad EachIsGood (made (Vec ℕ Global) v) → IsTrue contents_told → mid ≡ contents
     → IfOk r (P mid v.items) → IfOk r (λ x. HeldIn contents source (λ bytes. P contents bytes x))
 made_of {X = X} {source = source} {contents = contents} P v r first told same is = by r (subst (λ held. IfOk r (P held v.items)) same is) where
   by : (r : Result X (Fail Status)) → IfOk r (P contents v.items) → IfOk r (λ x. HeldIn contents source (λ bytes. P contents bytes x))

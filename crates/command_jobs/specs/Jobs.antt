@@ -97,12 +97,12 @@ WasRead Reads (Improve file cert improved turns seed) (jobs.Improve inst c name 
 WasRead Reads _ _ = ⊥
 
 -- The job of a command: it rests on bytes that the files gave in this call, whether or not contents are told, and on those that the names hold where
--- contents are told (`held`).
-pub record IsJobOf (held : Bool) (c : Command) (contents : List ℕ → Option (List ℕ)) (given_before given_now : ℕ) (job : Job) : Type 0 where
+-- contents are told (`contents_told`).
+pub record IsJobOf (contents_told : Bool) (c : Command) (contents : List ℕ → Option (List ℕ)) (given_before given_now : ℕ) (job : Job) : Type 0 where
   pub is_for : IsFor c job
   pub sound : IsSoundJob job
   pub founded : WasRead (GivenIn given_before given_now) c job
-  pub was_read : IsTrue held → WasRead (HeldIn contents) c job
+  pub was_read : IsTrue contents_told → WasRead (HeldIn contents) c job
 
 -- what becomes of the files of a command, of which a call saw this: its job, or the status of the first bad one
 abbrev pub IsGathered : Command → Seen → Result Job (Fail Status) → Type 0

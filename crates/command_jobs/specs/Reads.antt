@@ -73,7 +73,7 @@ pub record IsParsed {X : Type 0} (bytes : List ℕ) (Is : List ℕ → X → Typ
 -- What a call saw of the files: whether what they hold is told, what they held at its beginning, and how many looks at each failed and how many bytes
 -- were given, at its beginning and at its end.
 pub record Seen : Type 0 where
-  pub held : Bool
+  pub contents_told : Bool
   pub contents : List ℕ → Option (List ℕ)
   pub looks_before : List ℕ → ℕ
   pub looks_now : List ℕ → ℕ
@@ -86,16 +86,16 @@ pub record IsTried {X : Type 0} (seen : Seen) (sources : List Source)
     (Refuses : Status → Type 0) (Unread : Type 0) (Bad : Status → Type 0) (Good : Type 0) (result : Result X (Fail Status)) : Type 0 where
   pub refusal : (status : Status) → IsErrOf result (Refused status) → Refuses status
   pub read : IsErrOf result (Refused ReadFault) → RoseAtSome sources seen.looks_before seen.looks_now
-  pub order : IsTrue seen.held → IsErrOf result (Refused ReadFault) → Unread
+  pub order : IsTrue seen.contents_told → IsErrOf result (Refused ReadFault) → Unread
   pub too_long : (limit : ℕ) → IsErrOf result (Refused (TooLong limit)) → HasLimit limit sources × RoseBy (limit + 1) seen.given_before seen.given_now
-  pub refused : IsTrue seen.held → (status : Status) → IsErrOf result (Refused status) → (status ≡ ReadFault) ⊎ Bad status
-  pub bad : IsTrue seen.held → (status : Status) → Bad status → ¬ (Unread) → IsErrOf result (Refused status) ⊎ IsErrOf result NoMemory
-  pub good : IsTrue seen.held → Good → ¬ (Unread) → IsOk result ⊎ IsErrOf result NoMemory
+  pub refused : IsTrue seen.contents_told → (status : Status) → IsErrOf result (Refused status) → (status ≡ ReadFault) ⊎ Bad status
+  pub bad : IsTrue seen.contents_told → (status : Status) → Bad status → ¬ (Unread) → IsErrOf result (Refused status) ⊎ IsErrOf result NoMemory
+  pub good : IsTrue seen.contents_told → Good → ¬ (Unread) → IsOk result ⊎ IsErrOf result NoMemory
 
 -- what the reading of a file gives. `Of` says by which answers its bytes can be refused
 pub record IsFileRead {X : Type 0} (seen : Seen) (source : Source)
     (Of : Status → Type 0) (Is : List ℕ → X → Type 0) (Bad : List ℕ → Status → Type 0) (Good : List ℕ → Type 0) (result : Result X (Fail Status)) : Type 0 where
-  pub made : IsTrue seen.held → IfOk result (λ x. HeldIn seen.contents source (λ bytes. Is bytes x))
+  pub made : IsTrue seen.contents_told → IfOk result (λ x. HeldIn seen.contents source (λ bytes. Is bytes x))
   pub founded : IfOk result (λ x. GivenIn seen.given_before seen.given_now source (λ bytes. Is bytes x))
   pub tried : IsTried seen (source ∷ []) (λ status. IsOfFile status ⊎ Of status) (Rose (seen.looks_before source.name) (seen.looks_now source.name))
       (IsBadFile Bad source seen.contents) (Holds source seen.contents Good) result

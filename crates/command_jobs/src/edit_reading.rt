@@ -38,7 +38,7 @@ pub fn read_edited<H: Shelf>(
     ensures founded { IfOk result (IsEditedFrom file.now cert.now edits.now (GivenIn (H.given shelf.old) (H.given shelf.new))) }
     ensures sound { IfOk result IsEdited }
     ensures tried { let seen : Seen = record {
-      held = H.tells;
+      contents_told = H.tells;
       contents = H.contents shelf.old;
       looks_before = H.failed_looks shelf.old;
       looks_now = H.failed_looks shelf.new;
@@ -68,7 +68,7 @@ fn read_two<H: Shelf>(
     ensures founded { IfOk result (AreOfTwo text.items cert.now edits.now (GivenIn (H.given shelf.old) (H.given shelf.new))) }
     ensures sound { IfOk result IsEdited }
     ensures tried { let seen : Seen = record {
-      held = H.tells;
+      contents_told = H.tells;
       contents = H.contents shelf.old;
       looks_before = H.failed_looks shelf.old;
       looks_now = H.failed_looks shelf.new;
@@ -100,7 +100,7 @@ fn read_third<H: Shelf>(
     ensures founded { IfOk result (AreOfThird text.items cert.items edits.now (GivenIn (H.given shelf.old) (H.given shelf.new))) }
     ensures sound { IfOk result IsEdited }
     ensures tried { let seen : Seen = record {
-      held = H.tells;
+      contents_told = H.tells;
       contents = H.contents shelf.old;
       looks_before = H.failed_looks shelf.old;
       looks_now = H.failed_looks shelf.new;

@@ -40,7 +40,7 @@ pub fn gather<'a, H: Shelf>(
     requires { HasBudget (command_in command) }
     ensures job { IfOk result (IsJobOf H.tells (command_in command.entry) (H.contents shelf.old) (H.given shelf.old) (H.given shelf.new)) }
     ensures tried { let seen : Seen = record {
-      held = H.tells;
+      contents_told = H.tells;
       contents = H.contents shelf.old;
       looks_before = H.failed_looks shelf.old;
       looks_now = H.failed_looks shelf.new;
@@ -99,7 +99,7 @@ fn gather_instance<'a, H: Shelf>(
     requires turns_in_range { turns ≤ 1048576 }
     ensures job { IfOk result (IsJobOf H.tells (Solve file.now cert.now turns seed) (H.contents shelf.old) (H.given shelf.old) (H.given shelf.new)) }
     ensures tried { let seen : Seen = record {
-      held = H.tells;
+      contents_told = H.tells;
       contents = H.contents shelf.old;
       looks_before = H.failed_looks shelf.old;
       looks_now = H.failed_looks shelf.new;
@@ -130,7 +130,7 @@ fn gather_checked<'a, H: Shelf>(
 ) -> Result<Job<'a>, Fail<Status>>
     ensures job { IfOk result (IsJobOf H.tells (Check file.now cert.now) (H.contents shelf.old) (H.given shelf.old) (H.given shelf.new)) }
     ensures tried { let seen : Seen = record {
-      held = H.tells;
+      contents_told = H.tells;
       contents = H.contents shelf.old;
       looks_before = H.failed_looks shelf.old;
       looks_now = H.failed_looks shelf.new;
@@ -164,7 +164,7 @@ fn gather_plan<'a, H: Shelf>(
 ) -> Result<Job<'a>, Fail<Status>>
     ensures job { IfOk result (IsJobOf H.tells (Sheet file.now cert.now) (H.contents shelf.old) (H.given shelf.old) (H.given shelf.new)) }
     ensures tried { let seen : Seen = record {
-      held = H.tells;
+      contents_told = H.tells;
       contents = H.contents shelf.old;
       looks_before = H.failed_looks shelf.old;
       looks_now = H.failed_looks shelf.new;
@@ -199,7 +199,7 @@ fn gather_renewed<'a, H: Shelf>(
 ) -> Result<Job<'a>, Fail<Status>>
     ensures job { IfOk result (IsJobOf H.tells (Upgrade file.now cert.now renewed.now) (H.contents shelf.old) (H.given shelf.old) (H.given shelf.new)) }
     ensures tried { let seen : Seen = record {
-      held = H.tells;
+      contents_told = H.tells;
       contents = H.contents shelf.old;
       looks_before = H.failed_looks shelf.old;
       looks_now = H.failed_looks shelf.new;
@@ -241,7 +241,7 @@ fn gather_round<'a, H: Shelf>(
 ) -> Result<Job<'a>, Fail<Status>>
     ensures job { IfOk result (IsJobOf H.tells (Postman file.now) (H.contents shelf.old) (H.given shelf.old) (H.given shelf.new)) }
     ensures tried { let seen : Seen = record {
-      held = H.tells;
+      contents_told = H.tells;
       contents = H.contents shelf.old;
       looks_before = H.failed_looks shelf.old;
       looks_now = H.failed_looks shelf.new;
@@ -269,7 +269,7 @@ fn gather_fleet<'a, H: Shelf>(
     requires turns_in_range { turns ≤ 1048576 }
     ensures job { IfOk result (IsJobOf H.tells (Fleet file.now turns) (H.contents shelf.old) (H.given shelf.old) (H.given shelf.new)) }
     ensures tried { let seen : Seen = record {
-      held = H.tells;
+      contents_told = H.tells;
       contents = H.contents shelf.old;
       looks_before = H.failed_looks shelf.old;
       looks_now = H.failed_looks shelf.new;
@@ -299,7 +299,7 @@ fn gather_edited<'a, H: Shelf>(
     ensures job { IfOk result (IsJobOf H.tells (Edit file.now cert.now edits.now edited.now carried.now) (H.contents shelf.old)
         (H.given shelf.old) (H.given shelf.new)) }
     ensures tried { let seen : Seen = record {
-      held = H.tells;
+      contents_told = H.tells;
       contents = H.contents shelf.old;
       looks_before = H.failed_looks shelf.old;
       looks_now = H.failed_looks shelf.new;
@@ -334,7 +334,7 @@ fn gather_held<'a, H: Shelf>(
     requires turns_in_range { turns ≤ 1048576 }
     ensures job { IfOk result (IsJobOf H.tells (Improve file.now cert.now improved.now turns seed) (H.contents shelf.old) (H.given shelf.old) (H.given shelf.new)) }
     ensures tried { let seen : Seen = record {
-      held = H.tells;
+      contents_told = H.tells;
       contents = H.contents shelf.old;
       looks_before = H.failed_looks shelf.old;
       looks_now = H.failed_looks shelf.new;

@@ -49,7 +49,7 @@ pub fn read_instance<H: Shelf>(
     file: &str,
 ) -> Result<Instance, Fail<Status>>
     ensures read { let seen : Seen = record {
-      held = H.tells;
+      contents_told = H.tells;
       contents = H.contents shelf.old;
       looks_before = H.failed_looks shelf.old;
       looks_now = H.failed_looks shelf.new;
@@ -80,7 +80,7 @@ pub fn check_file<H: Shelf>(
     file: &str,
 ) -> Result<Stated, Fail<Status>>
     ensures read { let seen : Seen = record {
-      held = H.tells;
+      contents_told = H.tells;
       contents = H.contents shelf.old;
       looks_before = H.failed_looks shelf.old;
       looks_now = H.failed_looks shelf.new;
@@ -134,7 +134,7 @@ pub fn read_good<H: Shelf>(
     file: &str,
 ) -> Result<Cert, Fail<Status>>
     ensures read { let seen : Seen = record {
-      held = H.tells;
+      contents_told = H.tells;
       contents = H.contents shelf.old;
       looks_before = H.failed_looks shelf.old;
       looks_now = H.failed_looks shelf.new;
@@ -165,7 +165,7 @@ pub(crate) fn read_file<H: Shelf>(
 ) -> Result<Vec<u8>, Fail<Status>>
     requires { limit < 2 ^ 32 }
     ensures read { let seen : Seen = record {
-      held = H.tells;
+      contents_told = H.tells;
       contents = H.contents shelf.old;
       looks_before = H.failed_looks shelf.old;
       looks_now = H.failed_looks shelf.new;

@@ -34,7 +34,7 @@ pub struct Laid {
 /// least paths between all vertices and of [`postman::postman`].
 pub fn read_round<H: Shelf>(alloc: Global, shelf: &mut H, file: &str) -> Result<Laid, Fail<Status>>
     ensures read { let seen : Seen = record {
-      held = H.tells;
+      contents_told = H.tells;
       contents = H.contents shelf.old;
       looks_before = H.failed_looks shelf.old;
       looks_now = H.failed_looks shelf.new;

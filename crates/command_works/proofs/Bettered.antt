@@ -11,14 +11,14 @@ use Rattle.command_jobs.specs.declared.status.Status.{Status}
 use Rattle.command_jobs.specs.declared.status.Status.TheVariants.{Proven, Gap}
 use Rattle.command_works.specs.Improving.{IsImprovedBy}
 use Rattle.command_works.specs.Solving.{IsEnding}
-use Rattle.command_works.specs.Works.{Work, work_in}
+use Rattle.command_works.specs.Outputs.{Output, output_in}
 use Rattle.command_works.specs.declared.delivery.Delivery.{Delivery}
 
 pub improved_by : {p : Problem} {old : Certificate} {improved : List ℕ} {offered : List (Option ℕ)} (c : Certificate) (asked turns : ℕ) (kept_text text : List ℕ) (status : Status)
     → (better : IsImproved p old c asked turns) → IsEnding c (min (better.before + asked) 1048576) turns status → (status ≡ Proven) ⊎ (status ≡ Gap)
     → All (IsAtMost c.cost) offered → certificates.IsTextOf kept_text c → text ≡ report_text p c turns
-    → (d : Delivery) → (work_in d ≡ record { kept = record { name = improved; bytes = kept_text } ∷ []; text = text }) × (d.status ≡ status)
-    → ((d.status ≡ Proven) ⊎ (d.status ≡ Gap)) × IsImprovedBy p old improved asked offered d.status (work_in d)
+    → (d : Delivery) → (output_in d ≡ record { kept = record { name = improved; bytes = kept_text } ∷ []; text = text }) × (d.status ≡ status)
+    → ((d.status ≡ Proven) ⊎ (d.status ≡ Gap)) × IsImprovedBy p old improved asked offered d.status (output_in d)
 improved_by c asked turns kept_text text status better ending ends helped kept_is text_is d made = (
   subst (λ s. (s ≡ Proven) ⊎ (s ≡ Gap)) (sym made.1) ends,
   record {
@@ -29,7 +29,7 @@ improved_by c asked turns kept_text text status better ending ends helped kept_i
     helped = helped;
     kept_text = kept_text;
     kept_is = kept_is;
-    keeps = ap (λ (w : Work). w.kept) made.0;
-    writes = ap (λ (w : Work). w.text) made.0 ∙ text_is;
+    keeps = ap (λ (w : Output). w.kept) made.0;
+    writes = ap (λ (w : Output). w.text) made.0 ∙ text_is;
   },
 )

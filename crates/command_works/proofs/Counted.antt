@@ -16,7 +16,7 @@ use Rattle.group_plans.specs.Laws.{PlansArePackings}
 use Rattle.command_jobs.specs.declared.status.Status.{Status}
 use Rattle.command_jobs.specs.declared.status.Status.TheVariants.{Proven, Gap}
 use Rattle.command_works.specs.Fleets.{IsCountEnding, IsFleetFound, fleet_text}
-use Rattle.command_works.specs.Works.{Work}
+use Rattle.command_works.specs.Outputs.{Output}
 
 abbrev served : Step → Bool
 served s = s.served
@@ -55,11 +55,11 @@ groups_serve p groups count plan packing serves_groups = all_serve plan each ∙
       walk_serves filled.0 (walk_at plan k) (omega (arith, times, own))
 
 -- what was counted
-pub counted : (p : Problem) (asked : ℕ) (found : Packing) (plan : List (List Step)) (status : Status) (work : Work) (bound count : ℕ) → bound ≡ found.bound → count ≡ found.count → PlansArePackings → IsValid p → IsPacked p asked found
+pub counted : (p : Problem) (asked : ℕ) (found : Packing) (plan : List (List Step)) (status : Status) (output : Output) (bound count : ℕ) → bound ≡ found.bound → count ≡ found.count → PlansArePackings → IsValid p → IsPacked p asked found
     → IsLawful p plan → ServesGroups p found.groups.items found.count plan → PlanGoesByLeastPaths p plan
     → (bound ≡ count → status ≡ Proven) → (bound ≢ count → status ≡ Gap) → (status ≡ Proven → bound ≡ count) → (status ≡ Gap → bound ≢ count)
-    → work.kept ≡ [] → work.text ≡ fleet_text p plan found → ((status ≡ Proven) ⊎ (status ≡ Gap)) × IsFleetFound p asked status work
-counted p asked found plan status work bound count bound_is count_is law valid packed lawful serves_groups by_least to_proven to_gap is_proven is_gap keeps writes = (
+    → output.kept ≡ [] → output.text ≡ fleet_text p plan found → ((status ≡ Proven) ⊎ (status ≡ Gap)) × IsFleetFound p asked status output
+counted p asked found plan status output bound count bound_is count_is law valid packed lawful serves_groups by_least to_proven to_gap is_proven is_gap keeps writes = (
   elim (cases_eq bound count) [ inl same ↦ inl (to_proven same) | inr other ↦ inr (to_gap other) ],
   record {
     found = found;

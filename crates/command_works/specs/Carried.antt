@@ -9,15 +9,15 @@ use Rattle.cert_format.specs.Good.{IsProof}
 use Rattle.cert_transfer.specs.Transfer.{IsCarriedOver}
 use Rattle.command_jobs.specs.declared.edited.Edited.{Edited}
 use Rattle.command_works.specs.Texts.{edit_text}
-use Rattle.command_works.specs.Works.{Work}
+use Rattle.command_works.specs.Outputs.{Output}
 
 -- the edited instance, which is valid, is to be kept under the first name, and then the carried certificate under the second; and a summary is to be written
-pub record AreBothKept (read : Edited) (edited carried : List ℕ) (work : Work) : Type 0 where
+pub record AreBothKept (read : Edited) (edited carried : List ℕ) (output : Output) : Type 0 where
   pub valid : IsValid read.after
   pub certificate : Certificate
   pub over : IsCarriedOver read.after (certificate_in read.cert) certificate
   pub proof : IsProof read.after certificate
   pub text : List ℕ
   pub text_is : certificates.IsTextOf text certificate
-  pub keeps : work.kept ≡ record { name = edited; bytes = dat_of read.after } ∷ record { name = carried; bytes = text } ∷ []
-  pub writes : work.text ≡ edit_text (length read.after.edges) (length read.before.edges - length read.after.edges) certificate.cost certificate.bound
+  pub keeps : output.kept ≡ record { name = edited; bytes = dat_of read.after } ∷ record { name = carried; bytes = text } ∷ []
+  pub writes : output.text ≡ edit_text (length read.after.edges) (length read.before.edges - length read.after.edges) certificate.cost certificate.bound

@@ -12,7 +12,7 @@ use Rattle.packing_trees.specs.declared.packing.Packing.{Packing}
 use Rattle.fleet_pack.specs.Packed.{IsPacked, all_turns}
 use Rattle.group_plans.specs.Groups.{ServesGroups, serving_walks}
 use Rattle.plan_print.specs.NumberLines.{number_line}
-use Rattle.command_works.specs.Works.{Work}
+use Rattle.command_works.specs.Outputs.{Output}
 use Rattle.command_jobs.specs.declared.status.Status.{Status}
 use Rattle.command_jobs.specs.declared.status.Status.TheVariants.{Proven, Gap}
 
@@ -41,7 +41,7 @@ pub record IsCountEnding (found : Packing) (asked : ℕ) (status : Status) : Typ
 
 -- A packing with a tree that proves its bound, and a lawful plan with a tour for each group: its tours, all of which serve and go by least paths, and the tree are to be written. Every lawful plan has
 -- at least as many walks that serve as the bound says; where enough turns were asked for, none has fewer than the plan.
-pub record IsFleetFound (p : Problem) (asked : ℕ) (status : Status) (work : Work) : Type 0 where
+pub record IsFleetFound (p : Problem) (asked : ℕ) (status : Status) (output : Output) : Type 0 where
   pub found : Packing
   pub packed : IsPacked p asked found
   pub plan : List (List Step)
@@ -52,5 +52,5 @@ pub record IsFleetFound (p : Problem) (asked : ℕ) (status : Status) (work : Wo
   pub least : (other : List (List Step)) → IsLawful p other → found.bound ≤ serving_walks other
   pub ending : IsCountEnding found asked status
   pub whole : all_turns p ≤ asked → status ≡ Proven
-  pub keeps : work.kept ≡ []
-  pub writes : work.text ≡ fleet_text p plan found
+  pub keeps : output.kept ≡ []
+  pub writes : output.text ≡ fleet_text p plan found

@@ -7,13 +7,13 @@ use Rattle.plan_print.specs.Report.{report_text}
 use Rattle.helper_rounds.specs.Helpers.{IsAtMost}
 use Rattle.carp_engine.specs.Improved.{IsImproved}
 use Rattle.command_works.specs.Solving.{IsEnding}
-use Rattle.command_works.specs.Works.{Work}
+use Rattle.command_works.specs.Outputs.{Output}
 use Rattle.command_jobs.specs.declared.status.Status.{Status}
 
 -- A name is to hold the text of a certificate of the instance, and its report is to be written: the certificate is good, costs no more than the
 -- old one and than what helpers offered, and its bound is no lower than the old one's. The turns are those of its tree; the bound is below the
 -- cost only where they are at least those of the old tree and so many more as were asked for, or 1,048,576.
-pub record IsImprovedBy (p : Problem) (old : Certificate) (improved : List ℕ) (asked : ℕ) (offered : List (Option ℕ)) (status : Status) (work : Work) : Type 0 where
+pub record IsImprovedBy (p : Problem) (old : Certificate) (improved : List ℕ) (asked : ℕ) (offered : List (Option ℕ)) (status : Status) (output : Output) : Type 0 where
   pub certificate : Certificate
   pub turns : ℕ
   pub better : IsImproved p old certificate asked turns
@@ -21,5 +21,5 @@ pub record IsImprovedBy (p : Problem) (old : Certificate) (improved : List ℕ) 
   pub helped : All (IsAtMost certificate.cost) offered
   pub kept_text : List ℕ
   pub kept_is : certificates.IsTextOf kept_text certificate
-  pub keeps : work.kept ≡ record { name = improved; bytes = kept_text } ∷ []
-  pub writes : work.text ≡ report_text p certificate turns
+  pub keeps : output.kept ≡ record { name = improved; bytes = kept_text } ∷ []
+  pub writes : output.text ≡ report_text p certificate turns

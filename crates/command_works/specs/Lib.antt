@@ -1,4 +1,4 @@
-pub mod Works
+pub mod Outputs
 pub mod Solving
 pub mod Improving
 pub mod Texts

@@ -10,7 +10,7 @@ use Rattle.command_jobs.specs.declared.job.Job.{Job}
 use Rattle.command_jobs.specs.declared.job.Job.TheVariants.{Solve, Check, Sheet, Make, Drill, Upgrade, Postman, Fleet, Edit, Improve}
 use Rattle.command_jobs.specs.declared.status.Status.{Status}
 use Rattle.command_jobs.specs.declared.status.Status.TheVariants.{Proven, Gap, Accepted, Done}
-use Rattle.command_works.specs.Works.{Work}
+use Rattle.command_works.specs.Outputs.{Output}
 use Rattle.command_works.specs.Solving.{IsSolvedBy}
 use Rattle.command_works.specs.Improving.{IsImprovedBy}
 use Rattle.command_works.specs.Drills.{IsDrilled}
@@ -20,26 +20,26 @@ use Rattle.command_works.specs.Rounds.{round_text}
 use Rattle.command_works.specs.Texts.{answer_text, made_text}
 
 -- a name is to hold the text of this certificate, and its cost and its bound are to be written
-pub record IsKeptAgain (c : Cert) (renewed : List ℕ) (work : Work) : Type 0 where
+pub record IsKeptAgain (c : Cert) (renewed : List ℕ) (output : Output) : Type 0 where
   pub kept_text : List ℕ
   pub kept_is : certificates.IsTextOf kept_text (certificate_in c)
-  pub keeps : work.kept ≡ record { name = renewed; bytes = kept_text } ∷ []
-  pub writes : work.text ≡ answer_text (codes "upgraded\n") c.cost c.bound
+  pub keeps : output.kept ≡ record { name = renewed; bytes = kept_text } ∷ []
+  pub writes : output.text ≡ answer_text (codes "upgraded\n") c.cost c.bound
 
--- a job is done with this answer and this work, where helpers offered such costs
-abbrev pub IsMade : Job → List (Option ℕ) → Status → Work → Type 0
-IsMade (Solve inst cert turns seed) offered status work = ((status ≡ Proven) ⊎ (status ≡ Gap)) × IsSolvedBy inst cert.now turns offered status work
-IsMade (Check cost bound) offered status work = (status ≡ Accepted) × (work ≡ record { kept = []; text = answer_text (codes "accepted\n") cost bound })
-IsMade (Sheet inst plan) offered status work = (status ≡ Done) × (work ≡ record { kept = []; text = sheet_text inst plan })
-IsMade (Make file seed) offered status work =
-    (status ≡ Done) × (work ≡ record { kept = record { name = file.now; bytes = dat_of (town_of seed) } ∷ []; text = made_text (town_of seed) })
-IsMade (Drill turns seed) offered status work = (status ≡ Done) × IsDrilled seed turns offered work
-IsMade (Upgrade c renewed) offered status work = (status ≡ Done) × IsKeptAgain c renewed.now work
-IsMade (Postman laid) offered status work = (status ≡ Done) × (work ≡ record { kept = []; text = round_text laid.inst laid.round.walk laid.round.cost })
-IsMade (Fleet inst turns) offered status work = ((status ≡ Proven) ⊎ (status ≡ Gap)) × IsFleetFound inst turns status work
-IsMade (Edit read edited carried) offered status work = (status ≡ Done) × AreBothKept read edited.now carried.now work
-IsMade (Improve inst c improved turns seed) offered status work =
-    ((status ≡ Proven) ⊎ (status ≡ Gap)) × IsImprovedBy inst (certificate_in c) improved.now turns offered status work
+-- a job is done with this answer and this output, where helpers offered such costs
+abbrev pub IsMade : Job → List (Option ℕ) → Status → Output → Type 0
+IsMade (Solve inst cert turns seed) offered status output = ((status ≡ Proven) ⊎ (status ≡ Gap)) × IsSolvedBy inst cert.now turns offered status output
+IsMade (Check cost bound) offered status output = (status ≡ Accepted) × (output ≡ record { kept = []; text = answer_text (codes "accepted\n") cost bound })
+IsMade (Sheet inst plan) offered status output = (status ≡ Done) × (output ≡ record { kept = []; text = sheet_text inst plan })
+IsMade (Make file seed) offered status output =
+    (status ≡ Done) × (output ≡ record { kept = record { name = file.now; bytes = dat_of (town_of seed) } ∷ []; text = made_text (town_of seed) })
+IsMade (Drill turns seed) offered status output = (status ≡ Done) × IsDrilled seed turns offered output
+IsMade (Upgrade c renewed) offered status output = (status ≡ Done) × IsKeptAgain c renewed.now output
+IsMade (Postman laid) offered status output = (status ≡ Done) × (output ≡ record { kept = []; text = round_text laid.inst laid.round.walk laid.round.cost })
+IsMade (Fleet inst turns) offered status output = ((status ≡ Proven) ⊎ (status ≡ Gap)) × IsFleetFound inst turns status output
+IsMade (Edit read edited carried) offered status output = (status ≡ Done) × AreBothKept read edited.now carried.now output
+IsMade (Improve inst c improved turns seed) offered status output =
+    ((status ≡ Proven) ⊎ (status ≡ Gap)) × IsImprovedBy inst (certificate_in c) improved.now turns offered status output
 
 -- a job only reads what was read for it; the certificate that is gone on from is used up
 abbrev pub IsLent : Job → Type 0

@@ -6,7 +6,7 @@ use Rattle.cert_lines.specs.Texts as certificates
 use Rattle.plan_print.specs.Report.{report_text}
 use Rattle.helper_rounds.specs.Helpers.{IsAtMost}
 use Rattle.carp_engine.specs.Solutions.{IsSound}
-use Rattle.command_works.specs.Works.{Work}
+use Rattle.command_works.specs.Outputs.{Output}
 use Rattle.command_jobs.specs.declared.status.Status.{Status}
 use Rattle.command_jobs.specs.declared.status.Status.TheVariants.{Proven, Gap}
 
@@ -20,7 +20,7 @@ pub record IsEnding (c : Certificate) (asked turns : ℕ) (status : Status) : Ty
 -- what is stated and no more than single tours or what helpers offered, and no lawful plan costs less than its bound. The turns are those
 -- of its tree; the bound is below the cost only where they are at least the turns asked for, and not at all where so many were asked for
 -- that no tree has them.
-pub record IsSolvedBy (p : Problem) (cert : List ℕ) (asked : ℕ) (offered : List (Option ℕ)) (status : Status) (work : Work) : Type 0 where
+pub record IsSolvedBy (p : Problem) (cert : List ℕ) (asked : ℕ) (offered : List (Option ℕ)) (status : Status) (output : Output) : Type 0 where
   pub certificate : Certificate
   pub turns : ℕ
   pub sound : IsSound p certificate turns
@@ -29,5 +29,5 @@ pub record IsSolvedBy (p : Problem) (cert : List ℕ) (asked : ℕ) (offered : L
   pub helped : All (IsAtMost certificate.cost) offered
   pub kept_text : List ℕ
   pub kept_is : certificates.IsTextOf kept_text certificate
-  pub keeps : work.kept ≡ record { name = cert; bytes = kept_text } ∷ []
-  pub writes : work.text ≡ report_text p certificate turns
+  pub keeps : output.kept ≡ record { name = cert; bytes = kept_text } ∷ []
+  pub writes : output.text ≡ report_text p certificate turns

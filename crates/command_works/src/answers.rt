@@ -8,7 +8,7 @@ ghost use Rattle.cert_lines.specs.Spelling.{IsSpellable};
 ghost use Rattle.cert_format.specs.Certs.{certificate_in};
 ghost use Rattle.command_works.specs.Made.{IsKeptAgain};
 ghost use Rattle.command_works.specs.Texts.{answer_text, made_text};
-ghost use Rattle.command_works.specs.Works.{work_in};
+ghost use Rattle.command_works.specs.Outputs.{output_in};
 
 use crate::delivery::Delivery;
 use crate::solving::deliver_one;
@@ -23,7 +23,7 @@ use town_maker::town;
 
 /// The answer for a good certificate of this cost and bound.
 pub(crate) fn accept<'a>(alloc: Global, cost: u64, bound: u64) -> Result<Delivery<'a>, Memory>
-    ensures { IfOk result (λ d. (d.status ≡ Status.Accepted) × (work_in d ≡ record { kept = []; text = answer_text (codes "accepted\n") cost bound })) }
+    ensures { IfOk result (λ d. (d.status ≡ Status.Accepted) × (output_in d ≡ record { kept = []; text = answer_text (codes "accepted\n") cost bound })) }
 {
     let text = answer(alloc, b"accepted\n", cost, bound)?;
     Ok(Delivery {
@@ -40,7 +40,7 @@ pub(crate) fn spell_sheet<'a>(
     plan: &Plan,
 ) -> Result<Delivery<'a>, Memory>
     requires { IsLawful inst.now plan.now }
-    ensures { IfOk result (λ d. (d.status ≡ Status.Done) × (work_in d ≡ record { kept = []; text = sheet_text inst.now plan.now })) }
+    ensures { IfOk result (λ d. (d.status ≡ Status.Done) × (output_in d ≡ record { kept = []; text = sheet_text inst.now plan.now })) }
 {
     let text = sheet(alloc, inst, plan)?;
     Ok(Delivery {
@@ -52,7 +52,7 @@ pub(crate) fn spell_sheet<'a>(
 
 /// The text of the town of a number, to be kept under this name.
 pub(crate) fn keep_town(alloc: Global, file: &str, seed: u64) -> Result<Delivery<'_>, Memory>
-    ensures { IfOk result (λ d. (d.status ≡ Status.Done) × (work_in d ≡ record { kept = record { name = file.now; bytes = dat_of (town_of seed) } ∷ []; text = made_text (town_of seed) })) }
+    ensures { IfOk result (λ d. (d.status ≡ Status.Done) × (output_in d ≡ record { kept = record { name = file.now; bytes = dat_of (town_of seed) } ∷ []; text = made_text (town_of seed) })) }
 {
     let inst = town(alloc, seed)?;
     let bytes = write_dat(alloc, &inst)?;
@@ -67,7 +67,7 @@ pub(crate) fn renew<'a>(
     renewed: &'a str,
 ) -> Result<Delivery<'a>, Memory>
     requires { IsSpellable (certificate_in cert.now) }
-    ensures { IfOk result (λ d. (d.status ≡ Status.Done) × IsKeptAgain cert.now renewed.now (work_in d)) }
+    ensures { IfOk result (λ d. (d.status ≡ Status.Done) × IsKeptAgain cert.now renewed.now (output_in d)) }
 {
     let bytes = write_cert(alloc, cert)?;
     let text = answer(alloc, b"upgraded\n", cert.cost, cert.bound)?;

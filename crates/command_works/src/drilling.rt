@@ -6,7 +6,7 @@ ghost use Rattle.cert_format.specs.Good.{IsGood};
 ghost use Rattle.town_maker.specs.Towns.{town_of};
 ghost use Rattle.command_works.specs.Drills.{IsDrilled};
 ghost use Rattle.command_works.specs.Texts.{drill_line, drill_text, result_text, town_line};
-ghost use Rattle.command_works.specs.Works.{work_in};
+ghost use Rattle.command_works.specs.Outputs.{output_in};
 
 use crate::delivery::Delivery;
 use carp_base::{Instance, Memory};
@@ -29,7 +29,7 @@ pub(crate) fn drill<'a, P: Proposer>(
 ) -> Result<Delivery<'a>, Memory>
     requires some_turns { 1 ≤ turns }
     requires turns_in_range { turns ≤ 1048576 }
-    ensures drilled { IfOk result (λ d. (d.status ≡ Status.Done) × IsDrilled seed turns (map (λ helper. (P.tally helper).least) helpers.new.items) (work_in d)) }
+    ensures drilled { IfOk result (λ d. (d.status ≡ Status.Done) × IsDrilled seed turns (map (λ helper. (P.tally helper).least) helpers.new.items) (output_in d)) }
     ensures same { map P.id helpers.new.items ≡ map P.id helpers.old.items }
     ensures seeds { OnOk result (EachIndex helpers.new.items (λ k. slice_index (map P.seed helpers.new.items) k ≡ (seed + k) % 2 ^ 64)) }
     ensures asked { OnOk result (All (λ helper. 1 ≤ P.asked helper) helpers.new.items) }

@@ -3,7 +3,7 @@ ghost use Rattle.std.specs.Prelude.{◌≡◌, ◌≤◌, ◌-◌, [], ◌∷◌
 ghost use Rattle.command_jobs.specs.Edited.{IsEdited};
 ghost use Rattle.command_works.specs.Carried.{AreBothKept};
 ghost use Rattle.command_works.specs.Texts.{edit_text, edited_line};
-ghost use Rattle.command_works.specs.Works.{work_in};
+ghost use Rattle.command_works.specs.Outputs.{output_in};
 
 use crate::answers::answer;
 use crate::delivery::{Delivery, Kept};
@@ -24,7 +24,7 @@ pub(crate) fn keep_edited<'a>(
     carried: &'a str,
 ) -> Result<Delivery<'a>, Memory>
     requires { IsEdited read.now }
-    ensures { IfOk result (λ d. (d.status ≡ Status.Done) × AreBothKept read.now edited.now carried.now (work_in d)) }
+    ensures { IfOk result (λ d. (d.status ≡ Status.Done) × AreBothKept read.now edited.now carried.now (output_in d)) }
 {
     good_is_proof();
     let cert = carry(alloc, &read.before, &read.edits, &read.after, &read.cert)?;

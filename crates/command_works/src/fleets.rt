@@ -6,7 +6,7 @@ ghost use Rattle.plan_model.specs.Plans.{IsLawful};
 ghost use Rattle.task_tours.specs.Tours.{PlanGoesByLeastPaths};
 ghost use Rattle.group_plans.specs.Groups.{ServesGroups};
 ghost use Rattle.command_works.specs.Fleets.{IsFleetFound, counts_text, fleet_text, node_line, nodes_text};
-ghost use Rattle.command_works.specs.Works.{work_in};
+ghost use Rattle.command_works.specs.Outputs.{output_in};
 
 use crate::delivery::Delivery;
 use crate::solving::ending;
@@ -28,7 +28,7 @@ pub(crate) fn count_fleet<'a>(
 ) -> Result<Delivery<'a>, Memory>
     requires some_turns { 1 ≤ turns }
     requires turns_in_range { turns ≤ 1048576 }
-    ensures { IfOk result (λ d. ((d.status ≡ Status.Proven) ⊎ (d.status ≡ Status.Gap)) × IsFleetFound inst.now turns d.status (work_in d)) }
+    ensures { IfOk result (λ d. ((d.status ≡ Status.Proven) ⊎ (d.status ≡ Status.Gap)) × IsFleetFound inst.now turns d.status (output_in d)) }
 {
     plans_are_packings();
     // A read of the instance says that it is valid.

@@ -4,7 +4,7 @@ ghost use Rattle.cert_lines.specs.Spelling.{IsSpellable};
 ghost use Rattle.cert_format.specs.Certs.{certificate_in};
 ghost use Rattle.cert_format.specs.Good.{IsGood};
 ghost use Rattle.command_works.specs.Improving.{IsImprovedBy};
-ghost use Rattle.command_works.specs.Works.{work_in};
+ghost use Rattle.command_works.specs.Outputs.{output_in};
 
 use crate::delivery::Delivery;
 use crate::solving::{deliver_one, ending};
@@ -32,7 +32,7 @@ pub(crate) fn improve_instance<'a, P: Proposer>(
     requires spellable { IsSpellable (certificate_in cert) }
     requires good { IsGood inst.now (certificate_in cert) }
     ensures improved { IfOk result (λ d. ((d.status ≡ Status.Proven) ⊎ (d.status ≡ Status.Gap))
-        × IsImprovedBy inst.now (certificate_in cert) improved.now turns (map (λ helper. (P.tally helper).least) helpers.new.items) d.status (work_in d)) }
+        × IsImprovedBy inst.now (certificate_in cert) improved.now turns (map (λ helper. (P.tally helper).least) helpers.new.items) d.status (output_in d)) }
     ensures same { map P.id helpers.new.items ≡ map P.id helpers.old.items }
     ensures seeds { OnOk result (EachIndex helpers.new.items (λ k. slice_index (map P.seed helpers.new.items) k ≡ (seed + k) % 2 ^ 64)) }
     ensures asked { OnOk result (All (λ helper. 1 ≤ P.asked helper) helpers.new.items) }

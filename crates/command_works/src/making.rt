@@ -2,7 +2,7 @@
 ghost use Rattle.std.specs.Prelude.{◌≡◌, ◌≤◌, ◌+◌, ◌%◌, ◌^◌, All, EachIndex, map, slice_index, false, true, IfOk, OnOk};
 ghost use Rattle.command_jobs.specs.Jobs.{IsSoundJob};
 ghost use Rattle.command_works.specs.Made.{IsLent, IsMade, job_asks, job_seed};
-ghost use Rattle.command_works.specs.Works.{work_in};
+ghost use Rattle.command_works.specs.Outputs.{output_in};
 
 use crate::answers::{accept, keep_town, renew, spell_sheet};
 use crate::delivery::Delivery;
@@ -29,7 +29,7 @@ pub fn make<'a, P: Proposer>(
     helpers: &mut Vec<P>,
 ) -> Result<Delivery<'a>, Memory>
     requires { IsSoundJob job }
-    ensures made { IfOk result (λ d. IsMade job.entry (map (λ helper. (P.tally helper).least) helpers.new.items) d.status (work_in d)) }
+    ensures made { IfOk result (λ d. IsMade job.entry (map (λ helper. (P.tally helper).least) helpers.new.items) d.status (output_in d)) }
     ensures same { map P.id helpers.new.items ≡ map P.id helpers.old.items }
     ensures unasked { job_asks job.entry ≡ false → helpers.new.items ≡ helpers.old.items }
     ensures seeds { job_asks job.entry ≡ true → OnOk result (EachIndex helpers.new.items (λ k. slice_index (map P.seed helpers.new.items) k ≡ (job_seed job.entry + k) % 2 ^ 64)) }
@@ -56,7 +56,7 @@ fn make_lent<'a, P: Proposer>(
 ) -> Result<Delivery<'a>, Memory>
     requires sound { IsSoundJob job.now }
     requires lent { IsLent job.now }
-    ensures made { IfOk result (λ d. IsMade job.now (map (λ helper. (P.tally helper).least) helpers.new.items) d.status (work_in d)) }
+    ensures made { IfOk result (λ d. IsMade job.now (map (λ helper. (P.tally helper).least) helpers.new.items) d.status (output_in d)) }
     ensures same { map P.id helpers.new.items ≡ map P.id helpers.old.items }
     ensures unasked { job_asks job.now ≡ false → helpers.new.items ≡ helpers.old.items }
     ensures seeds { job_asks job.now ≡ true → OnOk result (EachIndex helpers.new.items (λ k. slice_index (map P.seed helpers.new.items) k ≡ (job_seed job.now + k) % 2 ^ 64)) }

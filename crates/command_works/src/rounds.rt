@@ -3,7 +3,7 @@ ghost use Rattle.std.specs.Prelude.{◌≡◌, [], IfOk, count_by, not, take};
 ghost use Rattle.plan_model.specs.Plans.{IsOnEdges};
 ghost use Rattle.postman.specs.Rounds.{IsShownRound, deadheads_in};
 ghost use Rattle.command_works.specs.Rounds.{round_text};
-ghost use Rattle.command_works.specs.Works.{work_in};
+ghost use Rattle.command_works.specs.Outputs.{output_in};
 
 use crate::delivery::Delivery;
 use carp_base::{Instance, Memory};
@@ -15,7 +15,7 @@ use std::alloc::Global;
 /// A least closed walk over all required edges: its cost, its deadheads and its route.
 pub(crate) fn spell_round<'a>(alloc: Global, laid: &Laid) -> Result<Delivery<'a>, Memory>
     requires { IsShownRound laid.now.inst laid.now.round.walk laid.now.round.shores.items laid.now.round.cost }
-    ensures { IfOk result (λ d. (d.status ≡ Status.Done) × (work_in d ≡ record { kept = []; text = round_text laid.now.inst laid.now.round.walk laid.now.round.cost })) }
+    ensures { IfOk result (λ d. (d.status ≡ Status.Done) × (output_in d ≡ record { kept = []; text = round_text laid.now.inst laid.now.round.walk laid.now.round.cost })) }
 {
     let text = round_lines(alloc, &laid.inst, &laid.round.walk, laid.round.cost)?;
     Ok(Delivery {

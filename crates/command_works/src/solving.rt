@@ -1,7 +1,7 @@
 // Solves an instance.
 ghost use Rattle.std.specs.Prelude.{◌≡◌, ◌⊎◌, ◌≢◌, ◌≤◌, ◌^◌, ◌%◌, ◌+◌, [], ◌∷◌, All, EachIndex, map, slice_index, IfOk, OnOk};
 ghost use Rattle.command_works.specs.Solving.{IsSolvedBy};
-ghost use Rattle.command_works.specs.Works.{work_in};
+ghost use Rattle.command_works.specs.Outputs.{output_in};
 
 use crate::delivery::{Delivery, Kept};
 use carp_base::{Instance, Memory};
@@ -24,7 +24,7 @@ pub(crate) fn solve_instance<'a, P: Proposer>(
 ) -> Result<Delivery<'a>, Memory>
     requires some_turns { 1 ≤ turns }
     requires turns_in_range { turns ≤ 1048576 }
-    ensures solved { IfOk result (λ d. ((d.status ≡ Status.Proven) ⊎ (d.status ≡ Status.Gap)) × IsSolvedBy inst.now cert.now turns (map (λ helper. (P.tally helper).least) helpers.new.items) d.status (work_in d)) }
+    ensures solved { IfOk result (λ d. ((d.status ≡ Status.Proven) ⊎ (d.status ≡ Status.Gap)) × IsSolvedBy inst.now cert.now turns (map (λ helper. (P.tally helper).least) helpers.new.items) d.status (output_in d)) }
     ensures same { map P.id helpers.new.items ≡ map P.id helpers.old.items }
     ensures seeds { OnOk result (EachIndex helpers.new.items (λ k. slice_index (map P.seed helpers.new.items) k ≡ (seed + k) % 2 ^ 64)) }
     ensures asked { OnOk result (All (λ helper. 1 ≤ P.asked helper) helpers.new.items) }
@@ -60,7 +60,7 @@ pub(crate) fn deliver_one(
     text: Vec<u8>,
     status: Status,
 ) -> Result<Delivery<'_>, Memory>
-    ensures { IfOk result (λ d. (work_in d ≡ record { kept = record { name = name.now; bytes = bytes.items } ∷ []; text = text.items }) × (d.status ≡ status)) }
+    ensures { IfOk result (λ d. (output_in d ≡ record { kept = record { name = name.now; bytes = bytes.items } ∷ []; text = text.items }) × (d.status ≡ status)) }
 {
     let mut kept = Vec::with_capacity(alloc, 1)?;
     kept.push(Kept { name, bytes })?;

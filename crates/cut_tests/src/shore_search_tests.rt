@@ -3,7 +3,7 @@ use carp_base::{Instance, Memory, RawEdge};
 use cut_pool::Shore;
 use edge_components::are_parts;
 use road_network::Network;
-use shore_search::{Effort, Search, shortfall};
+use shore_search::{Effort, ShoreSearch, shortfall};
 use std::alloc::Global;
 use std::test::Fail;
 
@@ -32,7 +32,7 @@ fn find(
         return Ok(Vec::new(alloc));
     }
     let net = Network::new(alloc, inst)?;
-    Search::new().find(alloc, inst, &net, x, effort, most)
+    ShoreSearch::new().find(alloc, inst, &net, x, effort, most)
 }
 
 // The vertices of shores, with 0 behind each.

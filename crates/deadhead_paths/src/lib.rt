@@ -1,5 +1,7 @@
 //! Deadheads of least price between the vertices of an instance, and plans tidied by them.
 //!
+//! In the field: all-pairs shortest paths (Dijkstra 1959).
+//!
 //! [`distances`] makes a table of the least prices between all pairs of vertices, for any price per edge, from which
 //! [`Distances::get`] reads a price and [`Distances::path`] a list of steps. [`tidy`] joins the services of a plan by
 //! such paths, and [`single_tours`] serves each required edge in a tour of its own.

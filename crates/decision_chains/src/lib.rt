@@ -1,6 +1,8 @@
 //! Decisions on the way to a node of a tree, the chains that their yes pairs make, and plans that
 //! drive these chains.
 //!
+//! In the field: branching on followers and non-followers (Bode and Irnich 2012).
+//!
 //! A [`Decision`] is what a plan must do to meet a branch. [`Chains`] keeps which required edges
 //! the yes pairs of a list of decisions join. It answers which pairs are excluded, which are
 //! determined, and whether a chain is too heavy.

@@ -61,11 +61,11 @@ pub fn raise(
     ensures room { IsRoom inst.now table.new }
 {
     growth_keeps_sets();
-    let held = pool.len();
+    let known = pool.len();
     let better = by_program(alloc, inst, net, table, pool, branch, start, rounds)?;
     match better {
-        Some(set) => climb(alloc, inst, net, table, pool, branch, &set, rounds, held),
-        None => climb(alloc, inst, net, table, pool, branch, start, rounds, held),
+        Some(set) => climb(alloc, inst, net, table, pool, branch, &set, rounds, known),
+        None => climb(alloc, inst, net, table, pool, branch, start, rounds, known),
     }
 }
 
@@ -79,7 +79,7 @@ fn climb(
     branch: &Branch,
     start: &PriceSet,
     rounds: u32,
-    held: u32,
+    known: u32,
 ) -> Result<PriceSet, Memory>
     requires net { net.now ≡ inst.now }
     requires room { IsRoom inst.now table.old }
@@ -87,8 +87,8 @@ fn climb(
     requires belong { All (Belongs inst.now) pool.old }
     requires shores { All (λ w. IsShoreOf inst.now pool.old w.shore) start.now.weights }
     requires fits { FitsBranch inst.now pool.old branch.now start.now }
-    requires held { held ≤ length pool.old }
-    ensures tight { IfOk result (IsTight inst.now pool.new held branch.now) }
+    requires known { known ≤ length pool.old }
+    ensures tight { IfOk result (IsTight inst.now pool.new known branch.now) }
     ensures no_lower { IfOk result (IsNoLower inst.now branch.now pool.old start.now pool.new) }
     ensures groups { IfOk result (KeepsGroups start.now) }
     ensures shores { IfOk result (λ set. All (λ w. IsShoreOf inst.now pool.new w.shore) set.weights) }
@@ -99,8 +99,8 @@ fn climb(
     growth_keeps_sets();
     let better = by_ascent(alloc, inst, net, table, pool, branch, start, rounds)?;
     match better {
-        Some(set) => tighten(alloc, inst, net, table, pool, branch, &set, held),
-        None => tighten(alloc, inst, net, table, pool, branch, start, held),
+        Some(set) => tighten(alloc, inst, net, table, pool, branch, &set, known),
+        None => tighten(alloc, inst, net, table, pool, branch, start, known),
     }
 }
 

@@ -1,5 +1,7 @@
 //! Components of the edges of an instance with at least so many parts of deadheads, and what lies at their borders.
 //!
+//! In the field: connected components of the support graph of a fractional solution.
+//!
 //! Deadheads may be fractions: each edge has a whole number of parts of a unit. [`label_components`] gives each vertex
 //! the least vertex of its component. [`crossings_by_label`], [`demand_by_label`] and [`parts_by_label`] add up what
 //! the edges at the border of each component have. [`list_marked`] makes shores of some of them. Each takes time in

@@ -1,5 +1,7 @@
 //! Few vehicles: packings of the required edges, and trees that prove how many groups every packing takes at least.
 //!
+//! In the field: bin packing: the least number of vehicles by load alone, by branch and bound.
+//!
 //! - `item`, `first_fit`, `filling`, `grouping`, `judging`: packings by first fit, better ones, and whether groups are
 //!   a packing.
 //! - `share`, `pairs`: the best share at a leaf, and the heaviest open pair.

@@ -1,5 +1,7 @@
 //! Plans that are cut from one order of all tasks: route first, cluster second.
 //!
+//! In the field: route first, cluster second.
+//!
 //! [`split`] makes the cheapest plan that serves in an order, and [`Splitter`] is a helper that changes the order of
 //! the best plan by draws and offers such a plan.
 //!

@@ -1,5 +1,7 @@
 //! Trees of decisions that grow at their leaves.
 //!
+//! In the field: a branch-and-bound tree with its open nodes.
+//!
 //! A search holds the nodes of its tree in preorder, each with the greatest bound that it shows by itself
 //! ([`GrowingTree`]). It takes the leaf that shows least, and puts an inner node with two leaves, or another leaf, in
 //! its place.

@@ -1,5 +1,7 @@
 //! The frame that helpers share: what a helper keeps of itself and of an instance, and how it offers what it finds.
 //!
+//! In the field: what construction and improvement heuristics share.
+//!
 //! A [`Finder`] finds lawful plans by distances. [`Helper`] makes a [`plan_model::Proposer`] of it: it counts how often it is asked
 //! and what it offers ([`Standing`]), and keeps the distances of the instance that it was asked about last ([`KnownDistances`]).
 #![tactic(auto)]

@@ -1,5 +1,7 @@
 //! Asks helpers for better plans, and trusts none of them.
 //!
+//! In the field: a portfolio of heuristics, asked in turn.
+//!
 //! A helper is any [`plan_model::Proposer`]. [`consult`] asks one, and takes its offer if it is lawful and costs less.
 //! [`ask_all`] asks a list in rounds. [`dismiss`] drops those that offered an unlawful plan.
 //!

@@ -10,7 +10,7 @@ use Rattle.instance_edits.specs.declared.edit.Edit.{Edit}
 use Rattle.instance_edits.specs.declared.edit.Edit.TheVariants.{Cost, Service, Demand, Close}
 use Rattle.instance_edits.specs.declared.change.Change.{Change}
 use Rattle.instance_edits.specs.Edits.{AreKnown, IsKnown, cost_added, service_added, demand_added, changed_from, edited}
-use Rattle.instance_edits.specs.Texts.{IsShort}
+use Rattle.instance_edits.specs.Texts.{HasShortNumbers}
 use Rattle.instance_edits.specs.Changing.{IsApplied, IsAtMost, IsTable, change_by, nothing, kept, kept_from}
 
 -- what short edits add is small
@@ -53,19 +53,19 @@ change_small count xs i e change all few is = subst (λ (c : Change). IsAtMost (
 })
 
 -- edits that name edges that they may name are within the table
-one_applied : (p : Problem) (before : List Edit) (x : Edit) → p.required ≤ length p.edges → IsKnown p before x → IsShort x → IsApplied (length p.edges + 1) x
+one_applied : (p : Problem) (before : List Edit) (x : Edit) → p.required ≤ length p.edges → IsKnown p before x → HasShortNumbers x → IsApplied (length p.edges + 1) x
 one_applied p before (Cost e n) within known short = record { in_range = omega (arith, known.0.in_range); short = short.1 }
 one_applied p before (Service e n) within known short = record { in_range = omega (arith, known.in_range, within); short = short.1 }
 one_applied p before (Demand e n) within known short = record { in_range = omega (arith, known.in_range, within); short = short.1 }
 one_applied p before (Close e) within known short = omega (arith, known.0.in_range)
 
-applied_from : (p : Problem) (xs before : List Edit) → p.required ≤ length p.edges → AreKnown p before xs → AllByRecursion IsShort xs → AllByRecursion (IsApplied (length p.edges + 1)) xs
+applied_from : (p : Problem) (xs before : List Edit) → p.required ≤ length p.edges → AreKnown p before xs → AllByRecursion HasShortNumbers xs → AllByRecursion (IsApplied (length p.edges + 1)) xs
 applied_from p [] before within known short = tt
 applied_from p (x ∷ xs) before within known short = (one_applied p before x within known.0 short.0, applied_from p xs (before ++ x ∷ []) within known.1 short.1)
 
-pub all_applied : (p : Problem) (xs : List Edit) → IsValid p → AreKnown p [] xs → All IsShort xs → All (IsApplied (length p.edges + 1)) xs
+pub all_applied : (p : Problem) (xs : List Edit) → IsValid p → AreKnown p [] xs → All HasShortNumbers xs → All (IsApplied (length p.edges + 1)) xs
 all_applied p xs valid known short =
-    All-from_recursion (IsApplied (length p.edges + 1)) xs (applied_from p xs [] valid.required_in known (recursion_from_All IsShort xs short))
+    All-from_recursion (IsApplied (length p.edges + 1)) xs (applied_from p xs [] valid.required_in known (recursion_from_All HasShortNumbers xs short))
 
 -- the edges that are kept, by the table and by the edits
 pub kept_is : (p : Problem) (changes : List Change) (edits : List Edit) (first n : ℕ) → IsTable changes edits → length changes ≡ length p.edges + 1 → first + n ≤ length p.edges →

@@ -7,7 +7,7 @@ use Rattle.std.proofs.lemmas.List.Elements.{All-from_recursion}
 use Rattle.instance_edits.specs.declared.edit.Edit.TheVariants.{Cost, Close}
 use Rattle.instance_edits.specs.declared.edit.EditFault.TheVariants.{Syntax, Unknown}
 use Rattle.instance_edits.specs.Edits.{IsKnown}
-use Rattle.instance_edits.specs.Texts.{BeginsWith, IsEditsText, IsShort, IsUnknownAt, IsUnreadAt, NoEditBegins, edit_text, two_numbers}
+use Rattle.instance_edits.specs.Texts.{BeginsWith, IsEditsText, HasShortNumbers, IsUnknownAt, IsUnreadAt, NoEditBegins, edit_text, two_numbers}
 use Rattle.instance_edits.specs.Reading.{line_at, keyword_at}
 use Rattle.instance_edits.specs.Examples.{one_line, second_unknown, second_unread, three_streets, wrong_edge}
 use Rattle.instance_edits.proofs.Lines.{none_told}
@@ -21,7 +21,7 @@ one_text =
 pub close_text : edit_text (Close 1) ≡ wrong_edge
 close_text = ap (λ (x : List ℕ). codes "close " ++ x ++ codes "\n") (decimal_digit 1 (lit< tt))
 
-short : IsShort (Cost 1 4)
+short : HasShortNumbers (Cost 1 4)
 short = (lit< tt, lit< tt)
 
 known : IsKnown three_streets [] (Cost 1 4)
@@ -30,7 +30,7 @@ known = (record { from_one = omega arith; in_range = omega arith }, λ closed. o
 front : (bytes rest : List ℕ) → bytes ≡ (one_line ++ []) ++ rest → BeginsWith three_streets bytes (Cost 1 4 ∷ []) rest
 front bytes rest is = record {
   cut = is ∙ ap (λ (x : List ℕ). (x ++ []) ++ rest) (sym one_text);
-  short = All-from_recursion IsShort (Cost 1 4 ∷ []) (short, tt);
+  short = All-from_recursion HasShortNumbers (Cost 1 4 ∷ []) (short, tt);
   known = (known, tt);
 }
 

@@ -9,7 +9,7 @@ use Rattle.carp_base.specs.Problem.{Problem, IsEdgeNumber, IsRequired}
 use Rattle.instance_edits.specs.declared.edit.Edit.{Edit}
 use Rattle.instance_edits.specs.declared.edit.Edit.TheVariants.{Cost, Service, Demand, Close}
 use Rattle.instance_edits.specs.Edits.{closes, IsClosed, IsKnown}
-use Rattle.instance_edits.specs.Reading.{edit_of, is_open, is_required, is_known, line_at, IsMarked, IsNext, IsUnknown}
+use Rattle.instance_edits.specs.Reading.{edit_of, is_open, is_required, is_known, line_at, MarksClosedEdges, IsNext, IsUnknown}
 use Rattle.instance_edits.specs.declared.line.Line.{Line}
 use Rattle.instance_edits.proofs.Lines.{line_told}
 
@@ -54,7 +54,7 @@ required_parts p e is =
 required_from : (p : Problem) (e : ℕ) → IsRequired p e → is_required p e ≡ true
 required_from p e is = and_from (leb 1 e) (leb e p.required) (le-leb 1 e is.from_one) (le-leb e p.required is.in_range)
 
-module _ (p : Problem) (marks : List Bool) (before : List Edit) (all : length marks ≡ length p.edges + 1) (marked : IsMarked marks before) where
+module _ (p : Problem) (marks : List Bool) (before : List Edit) (all : length marks ≡ length p.edges + 1) (marked : MarksClosedEdges marks before) where
   open_told : (e : ℕ) → is_open p marks e ≡ true → IsEdgeNumber p e × ¬ (IsClosed before e)
   open_told e is =
       let parts = open_parts p marks e is in
@@ -85,7 +85,7 @@ module _ (p : Problem) (marks : List Bool) (before : List Edit) (all : length ma
       (not_from_false (leb e p.required) (false_from_ne_true (leb e p.required) (λ within. known.1 (record { from_one = known.0.from_one; in_range = leb-true e p.required within }))))
 
 -- what becomes of the next line
-module _ (p : Problem) (marks : List Bool) (before : List Edit) (all : length marks ≡ length p.edges + 1) (marked : IsMarked marks before)
+module _ (p : Problem) (marks : List Bool) (before : List Edit) (all : length marks ≡ length p.edges + 1) (marked : MarksClosedEdges marks before)
     (text : List ℕ) (edit : Edit) (rest : List ℕ) (read : line_at text ≡ Some (edit, rest)) where
   pub next_is : is_known p marks edit ≡ true → IsNext p before text edit rest
   next_is is =

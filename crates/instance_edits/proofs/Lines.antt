@@ -11,7 +11,7 @@ use Rattle.instance_edits.specs.declared.edit.Edit.{Edit}
 use Rattle.instance_edits.specs.declared.edit.Edit.TheVariants as edits
 use Rattle.instance_edits.specs.declared.line.Keyword.{Keyword}
 use Rattle.instance_edits.specs.declared.line.Keyword.TheVariants.{Cost, Service, Demand, Close}
-use Rattle.instance_edits.specs.Texts.{edit_text, IsShort, NoEditBegins}
+use Rattle.instance_edits.specs.Texts.{edit_text, HasShortNumbers, NoEditBegins}
 use Rattle.instance_edits.specs.Reading.{begins, keyword_at, number_before, numbers_at, adding_at, closing_at, edit_with, line_at}
 use Rattle.instance_edits.proofs.Pairs.{firsts, seconds}
 use Rattle.instance_edits.proofs.Numbers.{number_read, number_told}
@@ -85,7 +85,7 @@ line_from w e n rest read =
     ∙ read
 
 -- a line is read
-pub line_read : (edit : Edit) (rest : List ℕ) → IsShort edit → line_at (edit_text edit ++ rest) ≡ Some (edit, rest)
+pub line_read : (edit : Edit) (rest : List ℕ) → HasShortNumbers edit → line_at (edit_text edit ++ rest) ≡ Some (edit, rest)
 line_read (edits.Cost e n) rest short = line_from Cost e n rest (adding_read Cost e n rest short.0 short.1)
 line_read (edits.Service e n) rest short = line_from Service e n rest (adding_read Service e n rest short.0 short.1)
 line_read (edits.Demand e n) rest short = line_from Demand e n rest (adding_read Demand e n rest short.0 short.1)
@@ -94,7 +94,7 @@ line_read (edits.Close e) rest short = line_from Close e 0 rest (closing_read e 
 -- and what is read is a line
 pub record IsLine (text : List ℕ) (edit : Edit) (rest : List ℕ) : Type 0 where
   pub cut : text ≡ edit_text edit ++ rest
-  pub short : IsShort edit
+  pub short : HasShortNumbers edit
 
 abbrev is_adding : Keyword → Bool
 is_adding Close = false
@@ -102,7 +102,7 @@ is_adding Cost = true
 is_adding Service = true
 is_adding Demand = true
 
-both_short : (w : Keyword) (e n : ℕ) → e < 10 ^ 12 → n < 10 ^ 12 → IsShort (edit_with w e n)
+both_short : (w : Keyword) (e n : ℕ) → e < 10 ^ 12 → n < 10 ^ 12 → HasShortNumbers (edit_with w e n)
 both_short Cost e n small little = (small, little)
 both_short Service e n small little = (small, little)
 both_short Demand e n small little = (small, little)
@@ -166,7 +166,7 @@ pub record IsSameLine (a b : Edit) (r s : List ℕ) : Type 0 where
   pub edit : a ≡ b
   pub rest : r ≡ s
 
-pub line_same : (a b : Edit) (r s : List ℕ) → IsShort a → IsShort b → edit_text a ++ r ≡ edit_text b ++ s → IsSameLine a b r s
+pub line_same : (a b : Edit) (r s : List ℕ) → HasShortNumbers a → HasShortNumbers b → edit_text a ++ r ≡ edit_text b ++ s → IsSameLine a b r s
 line_same a b r s short other e =
     let both = sym (line_read a r short) ∙ ap line_at e ∙ line_read b s other in
     record { edit = firsts (a, r) (b, s) both; rest = seconds (a, r) (b, s) both }

@@ -10,12 +10,12 @@ use Rattle.instance_edits.specs.declared.edit.Edit.{Edit}
 use Rattle.instance_edits.specs.declared.edit.EditFault.{EditFault}
 use Rattle.instance_edits.specs.declared.edit.EditFault.TheVariants.{Syntax, Unknown, Refused}
 use Rattle.instance_edits.specs.Edits.{AreKnown, IsKnown}
-use Rattle.instance_edits.specs.Texts.{edit_text, IsShort, BeginsWith, IsFirstBad}
+use Rattle.instance_edits.specs.Texts.{edit_text, HasShortNumbers, BeginsWith, IsFirstBad}
 use Rattle.instance_edits.specs.Reading.{IsNext, IsBad}
 use Rattle.instance_edits.proofs.Lines.{line_some}
 
 pub nothing_yet : (p : Problem) (bytes : List ℕ) → BeginsWith p bytes [] bytes
-nothing_yet p bytes = record { cut = refl; short = All-nil IsShort; known = tt }
+nothing_yet p bytes = record { cut = refl; short = All-nil HasShortNumbers; known = tt }
 
 known_push : (p : Problem) (xs before : List Edit) (x : Edit) → AreKnown p before xs → IsKnown p (before ++ xs) x → AreKnown p before (xs ++ x ∷ [])
 known_push p [] before x known last = (subst (λ (b : List Edit). IsKnown p b x) (append-nil before) last, tt)
@@ -34,7 +34,7 @@ one_more p bytes edits text edit rest begun next = record {
       ∙ sym (append_assoc (flat_map edit_text edits) (edit_text edit) rest)
       ∙ ap (λ (x : List ℕ). (flat_map edit_text edits ++ x) ++ rest) (sym (one_text edit))
       ∙ ap (λ (x : List ℕ). x ++ rest) (sym (flat_map-append edit_text edits (edit ∷ [])));
-  short = All-push IsShort edits edit begun.short next.short;
+  short = All-push HasShortNumbers edits edit begun.short next.short;
   known = known_push p edits [] edit begun.known next.known;
 }
 

@@ -7,20 +7,20 @@ use Rattle.carp_base.specs.Problem.{Problem}
 use Rattle.instance_edits.specs.declared.edit.Edit.{Edit}
 use Rattle.instance_edits.specs.declared.edit.EditFault.TheVariants.{Syntax, Unknown, Refused}
 use Rattle.instance_edits.specs.Edits.{AreKnown, IsKnown}
-use Rattle.instance_edits.specs.Texts.{edit_text, IsShort, NoEditBegins, BeginsWith, IsUnreadAt, IsUnknownAt}
+use Rattle.instance_edits.specs.Texts.{edit_text, HasShortNumbers, NoEditBegins, BeginsWith, IsUnreadAt, IsUnknownAt}
 use Rattle.instance_edits.specs.Laws.{EditsAreUnique, EditsHaveNoFault, BadLineIsUnique}
 use Rattle.instance_edits.proofs.Lines.{line_same, line_some}
 
 -- no edit that may follow stands at the front of the rest
 abbrev Stops : Problem → List Edit → List ℕ → Type 0
-Stops p before rest = (edit : Edit) (after : List ℕ) → IsShort edit → rest ≡ edit_text edit ++ after → IsKnown p before edit → ⊥
+Stops p before rest = (edit : Edit) (after : List ℕ) → HasShortNumbers edit → rest ≡ edit_text edit ++ after → IsKnown p before edit → ⊥
 
 record IsSame (xs ys : List Edit) (r s : List ℕ) : Type 0 where
   pub edits : xs ≡ ys
   pub rest : r ≡ s
 
 abbrev AllShort : List Edit → Type 0
-AllShort xs = AllByRecursion IsShort xs
+AllShort xs = AllByRecursion HasShortNumbers xs
 
 same_from : (p : Problem) (xs ys : List Edit) (before : List Edit) (r s : List ℕ) → flat_map edit_text xs ++ r ≡ flat_map edit_text ys ++ s →
     AllShort xs → AllShort ys → AreKnown p before xs → AreKnown p before ys → Stops p (before ++ xs) r → Stops p (before ++ ys) s → IsSame xs ys r s
@@ -41,7 +41,7 @@ same_from p (x ∷ xs) (y ∷ ys) before r s e xshort yshort xknown yknown rstop
 
 same_begin : (p : Problem) (bytes : List ℕ) (xs ys : List Edit) (r s : List ℕ) → BeginsWith p bytes xs r → BeginsWith p bytes ys s → Stops p xs r → Stops p ys s → IsSame xs ys r s
 same_begin p bytes xs ys r s one other rstops sstops =
-    same_from p xs ys [] r s (sym one.cut ∙ other.cut) (recursion_from_All IsShort xs one.short) (recursion_from_All IsShort ys other.short) one.known other.known rstops sstops
+    same_from p xs ys [] r s (sym one.cut ∙ other.cut) (recursion_from_All HasShortNumbers xs one.short) (recursion_from_All HasShortNumbers ys other.short) one.known other.known rstops sstops
 
 -- nothing, no line, and a line that names a wrong edge
 none_stops : (p : Problem) (xs : List Edit) → Stops p xs []
@@ -50,7 +50,7 @@ none_stops p xs = λ edit after short e known. line_some edit after (sym e)
 unread_stops : (p : Problem) (xs : List Edit) (r : List ℕ) → NoEditBegins r → Stops p xs r
 unread_stops p xs r bad = λ edit after short e known. bad edit after short e
 
-unknown_stops : (p : Problem) (xs : List Edit) (x : Edit) (r : List ℕ) → IsShort x → ¬ (IsKnown p xs x) → Stops p xs (edit_text x ++ r)
+unknown_stops : (p : Problem) (xs : List Edit) (x : Edit) (r : List ℕ) → HasShortNumbers x → ¬ (IsKnown p xs x) → Stops p xs (edit_text x ++ r)
 unknown_stops p xs x r small unknown =
     λ edit after short e known. unknown (subst (λ (z : Edit). IsKnown p xs z) (sym (line_same x edit r after small short e).edit) known)
 

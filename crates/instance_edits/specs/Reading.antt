@@ -14,7 +14,7 @@ use Rattle.instance_edits.specs.declared.line.Keyword.{Keyword}
 use Rattle.instance_edits.specs.declared.line.Keyword.TheVariants.{Cost, Service, Demand, Close}
 use Rattle.instance_edits.specs.declared.line.Line.{Line}
 use Rattle.instance_edits.specs.Edits.{IsKnown, closes}
-use Rattle.instance_edits.specs.Texts.{edit_text, IsShort, NoEditBegins}
+use Rattle.instance_edits.specs.Texts.{edit_text, HasShortNumbers, NoEditBegins}
 
 -- the edit of a line
 abbrev pub edit_with : Keyword → ℕ → ℕ → Edit
@@ -78,8 +78,8 @@ unfoldable pub line_at : List ℕ → Option (Edit × List ℕ)
 line_at text = option_and_then (λ w. numbers_at w.0 w.1) (keyword_at text)
 
 -- each edge has a mark that says whether it is closed
-abbrev pub IsMarked : List Bool → List Edit → Type 0
-IsMarked marks before = (e : ℕ) → e < length marks → slice_index_or marks e false ≡ list_any (closes e) before
+abbrev pub MarksClosedEdges : List Bool → List Edit → Type 0
+MarksClosedEdges marks before = (e : ℕ) → e < length marks → slice_index_or marks e false ≡ list_any (closes e) before
 
 -- an edit that closes an edge closes one with a number below the limit
 abbrev pub IsWithin : ℕ → Edit → Type 0
@@ -104,7 +104,7 @@ is_known p marks (edits.Close e) = is_open p marks e && not (nat_le e p.required
 -- the next line is this edit, which names an edge that it may name, and this follows
 pub record IsNext (p : Problem) (before : List Edit) (text : List ℕ) (edit : Edit) (rest : List ℕ) : Type 0 where
   pub cut : text ≡ edit_text edit ++ rest
-  pub short : IsShort edit
+  pub short : HasShortNumbers edit
   pub known : IsKnown p before edit
 
 -- the next line is an edit that names an edge that it may not name
@@ -112,7 +112,7 @@ pub record IsUnknown (p : Problem) (before : List Edit) (text : List ℕ) : Type
   pub edit : Edit
   pub rest : List ℕ
   pub cut : text ≡ edit_text edit ++ rest
-  pub short : IsShort edit
+  pub short : HasShortNumbers edit
   pub unknown : ¬ (IsKnown p before edit)
 
 -- the next line, which has this number, is bad for this fault

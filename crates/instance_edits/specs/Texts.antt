@@ -21,16 +21,16 @@ edit_text (Demand e n) = two_numbers (codes "demand ") e n
 edit_text (Close e) = codes "close " ++ decimal e ++ codes "\n"
 
 -- its numbers have at most 12 digits
-abbrev pub IsShort : Edit → Type 0
-IsShort (Cost e n) = (e < 10 ^ 12) × (n < 10 ^ 12)
-IsShort (Service e n) = (e < 10 ^ 12) × (n < 10 ^ 12)
-IsShort (Demand e n) = (e < 10 ^ 12) × (n < 10 ^ 12)
-IsShort (Close e) = e < 10 ^ 12
+abbrev pub HasShortNumbers : Edit → Type 0
+HasShortNumbers (Cost e n) = (e < 10 ^ 12) × (n < 10 ^ 12)
+HasShortNumbers (Service e n) = (e < 10 ^ 12) × (n < 10 ^ 12)
+HasShortNumbers (Demand e n) = (e < 10 ^ 12) × (n < 10 ^ 12)
+HasShortNumbers (Close e) = e < 10 ^ 12
 
 -- the bytes begin with the lines of these edits, each of which names an edge that it may name
 pub record BeginsWith (p : Problem) (bytes : List ℕ) (edits : List Edit) (rest : List ℕ) : Type 0 where
   pub cut : bytes ≡ flat_map edit_text edits ++ rest
-  pub short : All IsShort edits
+  pub short : All HasShortNumbers edits
   pub known : AreKnown p [] edits
 
 -- the bytes are the text of these edits
@@ -39,7 +39,7 @@ IsEditsText p bytes edits = BeginsWith p bytes edits []
 
 -- the bytes do not begin with the line of an edit
 abbrev pub NoEditBegins : List ℕ → Type 0
-NoEditBegins bytes = (edit : Edit) (rest : List ℕ) → IsShort edit → bytes ≢ edit_text edit ++ rest
+NoEditBegins bytes = (edit : Edit) (rest : List ℕ) → HasShortNumbers edit → bytes ≢ edit_text edit ++ rest
 
 -- the line of this number is the first bad one: it is there, and cannot be read
 pub record IsUnreadAt (p : Problem) (bytes : List ℕ) (line : ℕ) : Type 0 where
@@ -56,7 +56,7 @@ pub record IsUnknownAt (p : Problem) (bytes : List ℕ) (line : ℕ) : Type 0 wh
   pub edit : Edit
   pub rest : List ℕ
   pub begins : BeginsWith p bytes edits (edit_text edit ++ rest)
-  pub short : IsShort edit
+  pub short : HasShortNumbers edit
   pub unknown : ¬ (IsKnown p edits edit)
   pub line_is : line ≡ length edits + 1
 

@@ -4,7 +4,7 @@ ghost use Rattle.std.specs.List.{All};
 ghost use Rattle.carp_base.specs.Problem.{IsValid};
 ghost use Rattle.carp_base.specs.Refusals.{RefusesFirstFault};
 ghost use Rattle.instance_edits.specs.Edits.{AreKnown, edited};
-ghost use Rattle.instance_edits.specs.Texts.{IsShort};
+ghost use Rattle.instance_edits.specs.Texts.{HasShortNumbers};
 ghost use Rattle.instance_edits.specs.Changing.{IsApplied, IsAtMost, IsTable, and_by, kept, kept_from, nothing};
 
 use crate::Edit;
@@ -36,7 +36,7 @@ pub fn edited(
     edits: &[Edit],
 ) -> Result<Instance, Fail<InstanceFault>>
     requires known { AreKnown inst.now [] edits.now }
-    requires short { All IsShort edits.now }
+    requires short { All HasShortNumbers edits.now }
     requires few { length edits.now ≤ 2 ^ 20 }
     ensures built { IfOk result (λ after. after ≡ edited inst.now edits.now) }
     ensures accepted { OnOk result (IsValid (edited inst.now edits.now)) }

@@ -4,7 +4,7 @@ ghost use Rattle.carp_base.specs.declared.fail.Fail.TheVariants as fails;
 ghost use Rattle.instance_edits.specs.declared.edit.Edit.TheVariants.{Cost, Service, Demand, Close};
 ghost use Rattle.instance_edits.specs.declared.edit.EditFault.TheVariants.{Syntax, Unknown};
 ghost use Rattle.instance_edits.specs.Edits.{AreKnown, IsClosed, IsKnown, changed, changed_from, closes, cost_added, demand_added, edited, service_added};
-ghost use Rattle.instance_edits.specs.Texts.{BeginsWith, IsEditsText, IsFirstBad, IsShort, IsUnknownAt, IsUnreadAt, NoEditBegins, RefusesFirstBad, edit_text, two_numbers};
+ghost use Rattle.instance_edits.specs.Texts.{BeginsWith, IsEditsText, IsFirstBad, HasShortNumbers, IsUnknownAt, IsUnreadAt, NoEditBegins, RefusesFirstBad, edit_text, two_numbers};
 ghost use Rattle.instance_edits.specs.Examples.{late_edits, one_line, second_unknown, second_unread, some_edits, three_streets, two_streets, unended, wrong_edge};
 
 fn a_closed_edge()
@@ -56,9 +56,9 @@ fn the_edited_instance()
 {}
 
 fn short_numbers()
-    ensures short { IsShort (Cost 3 (10 ^ 12 - 1)) }
-    ensures long { ¬ (IsShort (Cost 3 (10 ^ 12))) }
-    ensures long_edge { ¬ (IsShort (Close (10 ^ 12))) }
+    ensures short { HasShortNumbers (Cost 3 (10 ^ 12 - 1)) }
+    ensures long { ¬ (HasShortNumbers (Cost 3 (10 ^ 12))) }
+    ensures long_edge { ¬ (HasShortNumbers (Close (10 ^ 12))) }
 {}
 
 fn the_text_of_an_edit()

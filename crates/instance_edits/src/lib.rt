@@ -1,5 +1,7 @@
 //! Edits of an instance: their text, and the instance that they make.
 //!
+//! In the field: changes of the data of an instance, for reoptimization.
+//!
 //! [`read_edits`] reads edits from a text, or names its first bad line. [`edited`] makes the instance of edits, or
 //! names its first fault. [`edits_are_unique`] says that a text is of one list of edits, or has one first bad line.
 //!

@@ -2,7 +2,7 @@
 ghost use Rattle.std.specs.Prelude.{IsTrue, ◌≡◌, ◌+◌, ◌<◌, ◌^◌, List, [], ◌∷◌, ◌++◌, true, false, length, MatchResult, IfOk, IfErr};
 ghost use Rattle.instance_edits.specs.declared.edit.Edit.{Edit as AnyEdit};
 ghost use Rattle.instance_edits.specs.Texts.{IsEditsText, RefusesFirstBad};
-ghost use Rattle.instance_edits.specs.Reading.{IsBad, IsMarked, IsWithin, IsNext, edit_of, is_known, is_open, is_required};
+ghost use Rattle.instance_edits.specs.Reading.{IsBad, MarksClosedEdges, IsWithin, IsNext, edit_of, is_known, is_open, is_required};
 
 use crate::line::{Keyword, Line, line_at};
 use crate::{Edit, EditFault};
@@ -46,7 +46,7 @@ fn read_lines(
 ) -> Result<Vec<Edit>, Fail<EditFault>>
     requires few { length bytes.now < 2 ^ 32 }
     requires all { length closed.old ≡ length inst.now.edges + 1 }
-    requires none { IsMarked closed.old [] }
+    requires none { MarksClosedEdges closed.old [] }
     ensures edits { IfOk result (λ edits. IsEditsText inst.now bytes.now edits.items) }
     ensures refused { IfErr result (RefusesFirstBad inst.now bytes.now) }
 {
@@ -68,7 +68,7 @@ fn read_lines(
 // Marks what an edit closes.
 fn mark(closed: &mut [bool], edit: Edit)
     requires { IsWithin (length closed.old) edit }
-    ensures { (before : List AnyEdit) → IsMarked closed.old before → IsMarked closed.new (before ++ edit ∷ []) }
+    ensures { (before : List AnyEdit) → MarksClosedEdges closed.old before → MarksClosedEdges closed.new (before ++ edit ∷ []) }
 {
     if let Edit::Close { edge } = edit {
         closed[edge as usize] = true;
@@ -83,7 +83,7 @@ fn next_edit<'a>(
     at: u64,
 ) -> Result<(Edit, &'a [u8]), EditFault>
     requires { length closed.now ≡ length inst.now.edges + 1 }
-    ensures { (before : List AnyEdit) → IsMarked closed.now before → MatchResult result (λ p. IsNext inst.now before text.now p.0 p.1.now) (IsBad inst.now before text.now at) }
+    ensures { (before : List AnyEdit) → MarksClosedEdges closed.now before → MatchResult result (λ p. IsNext inst.now before text.now p.0 p.1.now) (IsBad inst.now before text.now at) }
 {
     let Some((line, rest)) = line_at(text) else {
         return Err(EditFault::Syntax(at));

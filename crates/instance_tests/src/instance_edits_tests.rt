@@ -2,7 +2,7 @@
 ghost use Rattle.std.specs.Prelude.{◌^◌, ◌<◌, ◌≤◌, [], length};
 ghost use Rattle.std.specs.List.{All};
 ghost use Rattle.instance_edits.specs.Edits.{AreKnown};
-ghost use Rattle.instance_edits.specs.Texts.{IsShort};
+ghost use Rattle.instance_edits.specs.Texts.{HasShortNumbers};
 
 use carp_base::{Fail as Refusal, Instance, InstanceFault, RawEdge};
 use instance_edits::{Edit, EditFault, edited, edits_are_unique, read_edits};
@@ -174,7 +174,7 @@ fn edges_of(alloc: Global, inst: &Instance) -> Result<String, Fail> {
 // What edits make of an instance: the edges, or the fault.
 fn made(alloc: Global, inst: &Instance, edits: &[Edit]) -> Result<String, Fail>
     requires known { AreKnown inst.now [] edits.now }
-    requires short { All IsShort edits.now }
+    requires short { All HasShortNumbers edits.now }
     requires few { length edits.now ≤ 2 ^ 20 }
 {
     match edited(alloc, inst, edits) {

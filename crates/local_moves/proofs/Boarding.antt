@@ -12,11 +12,11 @@ use Rattle.deadhead_paths.specs.Tours.{LeastDeadhead}
 use Rattle.task_tours.specs.Tours.{ToursDeadhead, all_tasks, tour_load}
 use Rattle.ruin_recreate.specs.declared.board.Board.{Board}
 use Rattle.ruin_recreate.specs.Boards.{IsBoardOf, demand_of, edge_of, end_of, is_forward, link, other_way, start_of, turned}
-use Rattle.local_moves.specs.Rounds.{fits, fits_from, links_from, links_of}
-use Rattle.local_moves.specs.Stops.{round_of, stop_of}
+use Rattle.local_moves.specs.Sequences.{fits, fits_from, links_from, links_of}
+use Rattle.local_moves.specs.Stops.{sequence_of, stop_of}
 use Rattle.local_moves.specs.Changes.{other_direction}
 use Rattle.local_moves.proofs.Rooms.{both, over_service}
-use Rattle.local_moves.proofs.Rounding.{all_left, all_right}
+use Rattle.local_moves.proofs.Sequencing.{all_left, all_right}
 
 pub edge_of_stop : (t : Task) → edge_of (stop_of t) ≡ t.edge
 edge_of_stop t = elim t.forward as (λ f. (2 * t.edge + cond f 0 1) / 2 ≡ t.edge) [ true ↦ omega arith | false ↦ omega arith ]
@@ -80,16 +80,16 @@ links_meet : (b : Board) (a : ℕ) (xs : List ℕ) (m : ℕ) (ys : List ℕ) →
 links_meet b a [] m ys = omega arith
 links_meet b a (x ∷ xs) m ys = omega (arith, links_meet b x xs m ys)
 
-tour_first : (b : Board) (tour : List Task) (tours : List (List Task)) → links_of b (round_of (tour ∷ tours)) ≡ links_from b 0 (map stop_of tour ++ (0 ∷ [])) + links_of b (round_of tours)
+tour_first : (b : Board) (tour : List Task) (tours : List (List Task)) → links_of b (sequence_of (tour ∷ tours)) ≡ links_from b 0 (map stop_of tour ++ (0 ∷ [])) + links_of b (sequence_of tours)
 tour_first b tour [] = links_meet b 0 (map stop_of tour) 0 []
-tour_first b tour (next ∷ tours) = links_meet b 0 (map stop_of tour) 0 (map stop_of next ++ round_of tours)
+tour_first b tour (next ∷ tours) = links_meet b 0 (map stop_of tour) 0 (map stop_of next ++ sequence_of tours)
 
 pub links_tours : (p : Problem) (b : Board) → IsBoardOf p b → (tours : List (List Task)) → AllByRecursion (λ t. IsRequired p t.edge) (all_tasks tours) →
-    ToursDeadhead p (price_of (costs_of p)) tours (links_of b (round_of tours))
+    ToursDeadhead p (price_of (costs_of p)) tours (links_of b (sequence_of tours))
 links_tours p b of [] all = refl
 links_tours p b of (tour ∷ tours) all = (
   links_from b 0 (map stop_of tour ++ (0 ∷ [])),
-  links_of b (round_of tours),
+  links_of b (sequence_of tours),
   links_deadhead p b of 0 tour (omega (arith, of.width)) (all_left (λ t. IsRequired p t.edge) tour (all_tasks tours) all),
   links_tours p b of tours (all_right (λ t. IsRequired p t.edge) tour (all_tasks tours) all),
   tour_first b tour tours,
@@ -112,7 +112,7 @@ nothing_fits n = le-leb 0 n (omega arith)
 
 -- behind the depot: the first tour, and the others
 over_first : (p : Problem) (b : Board) → IsBoardOf p b → (tour : List Task) (tours : List (List Task)) → AllByRecursion (λ t. IsRequired p t.edge) tour →
-    fits_from b 0 (map stop_of tour ++ round_of tours) ≡ (leb (tour_load p tour) p.capacity && fits b (round_of tours))
+    fits_from b 0 (map stop_of tour ++ sequence_of tours) ≡ (leb (tour_load p tour) p.capacity && fits b (sequence_of tours))
 over_first p b of tour [] all = over_next p b of tour [] all
   where
     over_next : (p : Problem) (b : Board) → IsBoardOf p b → (tour : List Task) (rest : List ℕ) → AllByRecursion (λ t. IsRequired p t.edge) tour →
@@ -122,25 +122,25 @@ over_first p b of tour [] all = over_next p b of tour [] all
         ∙ ap (λ n. leb n p.capacity && fits_from b 0 rest) (omega arith)
         ∙ ap (λ c. leb (tour_load p tour) p.capacity && (c && fits_from b 0 rest)) (sym (nothing_fits b.room))
 over_first p b of tour (next ∷ tours) all =
-    over_tour p b of 0 tour (map stop_of next ++ round_of tours) all
-    ∙ ap (λ n. leb n p.capacity && fits_from b 0 (map stop_of next ++ round_of tours)) (omega arith)
-    ∙ ap (λ c. leb (tour_load p tour) p.capacity && (c && fits_from b 0 (map stop_of next ++ round_of tours))) (sym (nothing_fits b.room))
+    over_tour p b of 0 tour (map stop_of next ++ sequence_of tours) all
+    ∙ ap (λ n. leb n p.capacity && fits_from b 0 (map stop_of next ++ sequence_of tours)) (omega arith)
+    ∙ ap (λ c. leb (tour_load p tour) p.capacity && (c && fits_from b 0 (map stop_of next ++ sequence_of tours))) (sym (nothing_fits b.room))
 
--- a round fits where each of its tours does, and only there
+-- a sequence fits where each of its tours does, and only there
 pub tours_fit : (p : Problem) (b : Board) → IsBoardOf p b → (tours : List (List Task)) → AllByRecursion (λ t. IsRequired p t.edge) (all_tasks tours) →
-    AllByRecursion (λ tour. tour_load p tour ≤ p.capacity) tours → IsTrue (fits b (round_of tours))
+    AllByRecursion (λ tour. tour_load p tour ≤ p.capacity) tours → IsTrue (fits b (sequence_of tours))
 tours_fit p b of [] all each = joined (leb 0 b.room) (leb 0 b.room) (nothing_fits b.room) (nothing_fits b.room)
 tours_fit p b of (tour ∷ tours) all each =
-    joined (leb 0 b.room) (fits_from b 0 (map stop_of tour ++ round_of tours)) (nothing_fits b.room)
+    joined (leb 0 b.room) (fits_from b 0 (map stop_of tour ++ sequence_of tours)) (nothing_fits b.room)
     (over_first p b of tour tours (all_left (λ t. IsRequired p t.edge) tour (all_tasks tours) all)
-    ∙ joined (leb (tour_load p tour) p.capacity) (fits b (round_of tours)) (le-leb (tour_load p tour) p.capacity each.0) (tours_fit p b of tours (all_right (λ t. IsRequired p t.edge) tour (all_tasks tours) all) each.1))
+    ∙ joined (leb (tour_load p tour) p.capacity) (fits b (sequence_of tours)) (le-leb (tour_load p tour) p.capacity each.0) (tours_fit p b of tours (all_right (λ t. IsRequired p t.edge) tour (all_tasks tours) all) each.1))
 
 pub fit_tours : (p : Problem) (b : Board) → IsBoardOf p b → (tours : List (List Task)) → AllByRecursion (λ t. IsRequired p t.edge) (all_tasks tours) →
-    fits b (round_of tours) ≡ true → AllByRecursion (λ tour. tour_load p tour ≤ p.capacity) tours
+    fits b (sequence_of tours) ≡ true → AllByRecursion (λ tour. tour_load p tour ≤ p.capacity) tours
 fit_tours p b of [] all fit = tt
 fit_tours p b of (tour ∷ tours) all fit =
-    let inner = both (leb 0 b.room) (fits_from b 0 (map stop_of tour ++ round_of tours)) fit in
-    let parts = both (leb (tour_load p tour) p.capacity) (fits b (round_of tours)) (sym (over_first p b of tour tours (all_left (λ t. IsRequired p t.edge) tour (all_tasks tours) all)) ∙ inner.1) in
+    let inner = both (leb 0 b.room) (fits_from b 0 (map stop_of tour ++ sequence_of tours)) fit in
+    let parts = both (leb (tour_load p tour) p.capacity) (fits b (sequence_of tours)) (sym (over_first p b of tour tours (all_left (λ t. IsRequired p t.edge) tour (all_tasks tours) all)) ∙ inner.1) in
     (leb-true (tour_load p tour) p.capacity parts.0, fit_tours p b of tours (all_right (λ t. IsRequired p t.edge) tour (all_tasks tours) all) parts.1)
 
 -- what is summed over the stops is summed over the tasks
@@ -148,15 +148,15 @@ tour_sum : (g : ℕ → ℕ) (tour : List Task) → sum_by (λ x. g (edge_of x))
 tour_sum g [] = refl
 tour_sum g (t ∷ ts) = omega (arith, ap g (edge_of_stop t), tour_sum g ts, sum_by-cons (λ x. g (edge_of x)) (stop_of t) (map stop_of ts), sum_by-cons (λ u. g u.edge) t ts)
 
-pub round_sum : (g : ℕ → ℕ) (tours : List (List Task)) → g 0 ≡ 0 → sum_by (λ x. g (edge_of x)) (round_of tours) ≡ sum_by (λ t. g t.edge) (all_tasks tours)
-round_sum g [] none = omega (arith, none, sum_by-cons (λ x. g (edge_of x)) 0 [])
-round_sum g (tour ∷ tours) none =
+pub sequence_sum : (g : ℕ → ℕ) (tours : List (List Task)) → g 0 ≡ 0 → sum_by (λ x. g (edge_of x)) (sequence_of tours) ≡ sum_by (λ t. g t.edge) (all_tasks tours)
+sequence_sum g [] none = omega (arith, none, sum_by-cons (λ x. g (edge_of x)) 0 [])
+sequence_sum g (tour ∷ tours) none =
     omega (
       arith,
       none,
-      sum_by-cons (λ x. g (edge_of x)) 0 (map stop_of tour ++ round_of tours),
-      sum_by-append (λ x. g (edge_of x)) (map stop_of tour) (round_of tours),
+      sum_by-cons (λ x. g (edge_of x)) 0 (map stop_of tour ++ sequence_of tours),
+      sum_by-append (λ x. g (edge_of x)) (map stop_of tour) (sequence_of tours),
       tour_sum g tour,
-      round_sum g tours none,
+      sequence_sum g tours none,
       sum_by-append (λ t. g t.edge) tour (all_tasks tours),
     )

@@ -1,4 +1,4 @@
--- A round without one of two depots that stand side by side.
+-- A sequence without one of two depots that stand side by side.
 use Rattle.std.proofs.Common.{◌≡◌, ◌≢◌, ℕ, zero, suc, ◌+◌, ◌-◌, ◌<◌, ◌≤◌, Bool, true, ◌&&◌, List, [], ◌∷◌, length, get_or, refl, sym, ap, ◌∙◌, inl, inr, arith, leb}
 use Rattle.std.specs.Prelude.{IsTrue}
 use Rattle.std.specs.List.{remove}
@@ -6,7 +6,7 @@ use Rattle.std.proofs.lemmas.Bool.{cases_lt}
 use Rattle.std.proofs.lemmas.List.Edits.{length-remove, get_or-remove_below, get_or-remove_above}
 use Rattle.ruin_recreate.specs.declared.board.Board.{Board}
 use Rattle.ruin_recreate.specs.Boards.{demand_of, link}
-use Rattle.local_moves.specs.Rounds.{IsNoDearer, IsRound, fits_from, links_of}
+use Rattle.local_moves.specs.Sequences.{IsNoDearer, IsSequence, fits_from, links_of}
 use Rattle.local_moves.proofs.Kept.{all_remove, remove_depot}
 use Rattle.local_moves.proofs.Rooms.{both, over_service}
 
@@ -50,12 +50,12 @@ close_last xs j short first last =
 
 close_at : (b : Board) (before xs : List ℕ) (j : ℕ) → suc j < length xs → get_or xs j 0 ≡ 0 → get_or xs (suc j) 0 ≡ 0 → IsNoDearer b before xs → IsNoDearer b before (remove xs (suc j))
 close_at b before xs j short first second own = record {
-  round = record {
+  sequence = record {
     some = omega (arith, length-remove xs (suc j) short, short);
-    within = all_remove (λ x. x < b.width) xs (suc j) own.round.within;
-    real = all_remove (λ x. x ≢ 1) xs (suc j) own.round.real;
-    first = get_or-remove_below xs (suc j) 0 0 (omega arith) short ∙ own.round.first;
-    last = close_last xs j short first own.round.last;
+    within = all_remove (λ x. x < b.width) xs (suc j) own.sequence.within;
+    real = all_remove (λ x. x ≢ 1) xs (suc j) own.sequence.real;
+    first = get_or-remove_below xs (suc j) 0 0 (omega arith) short ∙ own.sequence.first;
+    last = close_last xs j short first own.sequence.last;
   };
   loads = close_fits b 0 xs j short first second own.loads;
   cost = omega (arith, close_links b xs j short first second, own.cost);
@@ -68,8 +68,8 @@ close_one b before xs (suc j) one short first second own =
     let place : j ≡ suc j - 1 = omega arith in
     close_at b before xs j short (ap (λ i. get_or xs i 0) place ∙ first) second own
 
-pub start : (b : Board) (xs : List ℕ) → IsRound b xs → IsTrue (fits_from b 0 xs) → IsNoDearer b xs xs
-start b xs round fit = record { round = round; loads = fit; cost = omega arith; services = λ g none. refl }
+pub start : (b : Board) (xs : List ℕ) → IsSequence b xs → IsTrue (fits_from b 0 xs) → IsNoDearer b xs xs
+start b xs sequence fit = record { sequence = sequence; loads = fit; cost = omega arith; services = λ g none. refl }
 
 -- no two of the stops up to a place are depots that stand side by side
 abbrev pub ClosedBelow : List ℕ → ℕ → Type 0

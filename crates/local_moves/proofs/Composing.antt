@@ -1,4 +1,4 @@
--- From rounds to plans: lawful, no dearer, and settled.
+-- From sequences to plans: lawful, no dearer, and settled.
 use Rattle.std.proofs.Common.{◌≡◌, ◌≢◌, ℕ, zero, suc, ◌+◌, ◌-◌, ◌*◌, ◌<◌, ◌≤◌, true, false, cond, eqb, leb, List, [], ◌∷◌, ◌++◌, length, get_or, map, sum_by, refl, sym, ap, ◌∙◌, subst, inl, inr, arith, add-one}
 use Rattle.std.specs.Prelude.{count_by, if◌then◌else◌}
 use Rattle.std.specs.List.{AllByRecursion}
@@ -18,12 +18,12 @@ use Rattle.task_tours.specs.Tours.{AreLawfulTours, PlanGoesByLeastPaths, all_tas
 use Rattle.task_tours.specs.Laws.{JoinedPlanCosts, LawfulPlansHaveLawfulTours, LawfulToursMakeLawfulPlans, ToursCostAtLeast}
 use Rattle.ruin_recreate.specs.declared.board.Board.{Board}
 use Rattle.ruin_recreate.specs.Boards.{IsBoardOf, edge_of}
-use Rattle.local_moves.specs.Rounds.{IsNoDearer, IsRound, IsRoundChange, IsSettledRound, NoneEmpty, links_of}
-use Rattle.local_moves.specs.Stops.{IsFullRound, round_of, services_in, stop_of, visits}
+use Rattle.local_moves.specs.Sequences.{IsNoDearer, IsSequence, IsSequenceChange, IsSettledSequence, NoneEmpty, links_of}
+use Rattle.local_moves.specs.Stops.{IsFullSequence, sequence_of, services_in, stop_of, visits}
 use Rattle.local_moves.specs.Changes.{IsSettledPlan}
-use Rattle.local_moves.proofs.Boarding.{fit_tours, links_tours, round_sum, stop_some, stop_within, tours_fit}
-use Rattle.local_moves.proofs.Changing.{as_round_change}
-use Rattle.local_moves.proofs.Rounding.{all_append, all_left, all_right}
+use Rattle.local_moves.proofs.Boarding.{fit_tours, links_tours, sequence_sum, stop_some, stop_within, tours_fit}
+use Rattle.local_moves.proofs.Changing.{as_sequence_change}
+use Rattle.local_moves.proofs.Sequencing.{all_append, all_left, all_right}
 
 -- the stops of tours on required edges are stops of the board
 stops_within : (p : Problem) (b : Board) → IsBoardOf p b → (tour : List Task) → AllByRecursion (λ t. IsRequired p t.edge) tour → AllByRecursion (λ x. x < b.width) (map stop_of tour)
@@ -34,43 +34,43 @@ stops_real : (p : Problem) (tour : List Task) → AllByRecursion (λ t. IsRequir
 stops_real p [] all = tt
 stops_real p (t ∷ ts) all = (λ same. omega (arith, same, stop_some p t all.0), stops_real p ts all.1)
 
-over_round : (p : Problem) (P : ℕ → Type 0) → P 0 → ((tour : List Task) → AllByRecursion (λ t. IsRequired p t.edge) tour → AllByRecursion P (map stop_of tour)) →
-    (tours : List (List Task)) → AllByRecursion (λ t. IsRequired p t.edge) (all_tasks tours) → AllByRecursion P (round_of tours)
-over_round p P home each [] all = (home, tt)
-over_round p P home each (tour ∷ tours) all = (
+over_sequence : (p : Problem) (P : ℕ → Type 0) → P 0 → ((tour : List Task) → AllByRecursion (λ t. IsRequired p t.edge) tour → AllByRecursion P (map stop_of tour)) →
+    (tours : List (List Task)) → AllByRecursion (λ t. IsRequired p t.edge) (all_tasks tours) → AllByRecursion P (sequence_of tours)
+over_sequence p P home each [] all = (home, tt)
+over_sequence p P home each (tour ∷ tours) all = (
   home,
-  all_append P (map stop_of tour) (round_of tours) (each tour (all_left (λ t. IsRequired p t.edge) tour (all_tasks tours) all)) (over_round p P home each tours (all_right (λ t. IsRequired p t.edge) tour (all_tasks tours) all)),
+  all_append P (map stop_of tour) (sequence_of tours) (each tour (all_left (λ t. IsRequired p t.edge) tour (all_tasks tours) all)) (over_sequence p P home each tours (all_right (λ t. IsRequired p t.edge) tour (all_tasks tours) all)),
 )
 
--- a round ends at the depot
-ends_home : (tours : List (List Task)) → (ys : List ℕ) × (round_of tours ≡ ys ++ (0 ∷ []))
+-- a sequence ends at the depot
+ends_home : (tours : List (List Task)) → (ys : List ℕ) × (sequence_of tours ≡ ys ++ (0 ∷ []))
 ends_home [] = ([], refl)
 ends_home (tour ∷ tours) =
     let rest = ends_home tours in
     (0 ∷ (map stop_of tour ++ rest.0), ap (λ zs. 0 ∷ (map stop_of tour ++ zs)) rest.1 ∙ ap (λ zs. 0 ∷ zs) (sym (append_assoc (map stop_of tour) rest.0 (0 ∷ []))))
 
-pub starts_home : (tours : List (List Task)) → get_or (round_of tours) 0 0 ≡ 0
+pub starts_home : (tours : List (List Task)) → get_or (sequence_of tours) 0 0 ≡ 0
 starts_home [] = refl
 starts_home (tour ∷ tours) = refl
 
-pub round_some : (tours : List (List Task)) → 1 ≤ length (round_of tours)
-round_some [] = omega arith
-round_some (tour ∷ tours) = omega arith
+pub sequence_some : (tours : List (List Task)) → 1 ≤ length (sequence_of tours)
+sequence_some [] = omega arith
+sequence_some (tour ∷ tours) = omega arith
 
-is_round : (p : Problem) (b : Board) → IsBoardOf p b → (tours : List (List Task)) → AllByRecursion (λ t. IsRequired p t.edge) (all_tasks tours) → IsRound b (round_of tours)
-is_round p b of tours all =
+is_sequence : (p : Problem) (b : Board) → IsBoardOf p b → (tours : List (List Task)) → AllByRecursion (λ t. IsRequired p t.edge) (all_tasks tours) → IsSequence b (sequence_of tours)
+is_sequence p b of tours all =
     let home = ends_home tours in
-    let long : length home.0 ≡ length (round_of tours) - 1 = omega (arith, ap (length {A = ℕ}) home.1, length-append home.0 (0 ∷ [])) in
+    let long : length home.0 ≡ length (sequence_of tours) - 1 = omega (arith, ap (length {A = ℕ}) home.1, length-append home.0 (0 ∷ [])) in
     record {
-      some = round_some tours;
-      within = All-from_recursion (λ x. x < b.width) (round_of tours) (over_round p (λ x. x < b.width) (omega (arith, of.width)) (stops_within p b of) tours all);
-      real = All-from_recursion (λ x. x ≢ 1) (round_of tours) (over_round p (λ x. x ≢ 1) (λ same. omega (arith, same)) (stops_real p) tours all);
+      some = sequence_some tours;
+      within = All-from_recursion (λ x. x < b.width) (sequence_of tours) (over_sequence p (λ x. x < b.width) (omega (arith, of.width)) (stops_within p b of) tours all);
+      real = All-from_recursion (λ x. x ≢ 1) (sequence_of tours) (over_sequence p (λ x. x ≢ 1) (λ same. omega (arith, same)) (stops_real p) tours all);
       first = starts_home tours;
-      last = ap (λ zs. get_or zs (length (round_of tours) - 1) 0) home.1 ∙ get_or_at home.0 0 [] 0 (length (round_of tours) - 1) long;
+      last = ap (λ zs. get_or zs (length (sequence_of tours) - 1) 0) home.1 ∙ get_or_at home.0 0 [] 0 (length (sequence_of tours) - 1) long;
     }
 
-one_visit : (e : ℕ) (tours : List (List Task)) → 1 ≤ e → visits e (round_of tours) ≡ count_by (λ t. eqb t.edge e) (all_tasks tours)
-one_visit e tours some = round_sum (λ n. cond (eqb n e) 1 0) tours (ap (λ c. cond {A = ℕ} c 1 0) (ne_eqb 0 e (λ same. omega (arith, same, some))))
+one_visit : (e : ℕ) (tours : List (List Task)) → 1 ≤ e → visits e (sequence_of tours) ≡ count_by (λ t. eqb t.edge e) (all_tasks tours)
+one_visit e tours some = sequence_sum (λ n. cond (eqb n e) 1 0) tours (ap (λ c. cond {A = ℕ} c 1 0) (ne_eqb 0 e (λ same. omega (arith, same, some))))
 
 -- the services of a plan, counted by its steps
 walk_services : (g : ℕ → ℕ) (walk : List Step) → sum_by (λ t. g t.edge) (tasks_of walk) ≡ sum_by (λ s. if s.served then g s.edge else 0) walk
@@ -94,33 +94,33 @@ few_to : (m : ℕ) → sum_to m (λ n. cond (leb 1 n) 1 0) ≤ m
 few_to zero = omega arith
 few_to (suc m) = elim (leb 1 (suc m)) as (λ c. sum_to m (λ n. cond (leb 1 n) 1 0) + cond c 1 0 ≤ suc m) [ true ↦ omega (arith, few_to m) | false ↦ omega (arith, few_to m) ]
 
-few_services : ServedOnceByNumber → (p : Problem) (plan : List (List Step)) → IsLawful p plan → services_in (round_of (plan_tours plan)) ≤ p.required
+few_services : ServedOnceByNumber → (p : Problem) (plan : List (List Step)) → IsLawful p plan → services_in (sequence_of (plan_tours plan)) ≤ p.required
 few_services by_number p plan lawful =
     omega (
       arith,
-      round_sum (λ n. cond (leb 1 n) 1 0) (plan_tours plan) refl,
+      sequence_sum (λ n. cond (leb 1 n) 1 0) (plan_tours plan) refl,
       plan_services (λ n. cond (leb 1 n) 1 0) plan,
       by_number p plan (λ n. cond (leb 1 n) 1 0) lawful,
       few_to p.required,
     )
 
--- the round of a lawful plan
-pub full_round : LawfulPlansHaveLawfulTours → ServedOnceByNumber → (p : Problem) (b : Board) → IsValid p → IsBoardOf p b → (plan : List (List Step)) → IsLawful p plan → IsFullRound p b (round_of (plan_tours plan))
-full_round have by_number p b valid of plan lawful =
+-- the sequence of a lawful plan
+pub full_sequence : LawfulPlansHaveLawfulTours → ServedOnceByNumber → (p : Problem) (b : Board) → IsValid p → IsBoardOf p b → (plan : List (List Step)) → IsLawful p plan → IsFullSequence p b (sequence_of (plan_tours plan))
+full_sequence have by_number p b valid of plan lawful =
     let tours = plan_tours plan in
     let own = have p plan lawful in
     record {
-      round = is_round p b of tours own.served.required;
+      sequence = is_sequence p b of tours own.served.required;
       loads = tours_fit p b of tours own.served.required own.loads;
       once = λ e required. one_visit e tours required.from_one ∙ own.served.once e required;
       few = omega (arith, few_services by_number p plan lawful, valid.few_required);
     }
 
 pub costs_at_least : LawfulPlansHaveLawfulTours → ToursCostAtLeast → (p : Problem) (b : Board) → IsValid p → IsBoardOf p b → (plan : List (List Step)) → IsLawful p plan →
-    required_cost p + links_of b (round_of (plan_tours plan)) ≤ plan_cost p plan
-costs_at_least have least p b valid of plan lawful = least p valid plan (links_of b (round_of (plan_tours plan))) lawful (links_tours p b of (plan_tours plan) (have p plan lawful).served.required)
+    required_cost p + links_of b (sequence_of (plan_tours plan)) ≤ plan_cost p plan
+costs_at_least have least p b valid of plan lawful = least p valid plan (links_of b (sequence_of (plan_tours plan))) lawful (links_tours p b of (plan_tours plan) (have p plan lawful).served.required)
 
--- a round without empty tours is short
+-- a sequence without empty tours is short
 closed_short : (xs : List ℕ) → AllByRecursion (λ x. x ≢ 1) xs → ((k : ℕ) → suc k < length xs → get_or xs k 0 ≡ 0 → get_or xs (suc k) 0 ≡ 0 → ⊥) → length xs ≤ 2 * services_in xs + 1
 closed_short [] real closed = omega arith
 closed_short (x ∷ []) real closed = omega arith
@@ -144,17 +144,17 @@ closed_short (suc x ∷ (y ∷ xs)) real closed =
       ap (λ c. cond {A = ℕ} c 1 0) (le-leb 1 (edge_of (suc x)) (omega (arith, real.0))),
     )
 
-pub still_short : (p : Problem) (b : Board) (xs ys : List ℕ) → IsFullRound p b xs → IsNoDearer b xs ys → NoneEmpty ys → length ys ≤ 30000
+pub still_short : (p : Problem) (b : Board) (xs ys : List ℕ) → IsFullSequence p b xs → IsNoDearer b xs ys → NoneEmpty ys → length ys ≤ 30000
 still_short p b xs ys full own closed =
     omega (
       arith,
       full.few,
       own.services (λ n. cond (leb 1 n) 1 0) refl,
-      closed_short ys (recursion_from_All (λ x. x ≢ 1) ys own.round.real) (λ k short first second. closed k (omega (arith, short)) first (rw add-one second)),
+      closed_short ys (recursion_from_All (λ x. x ≢ 1) ys own.sequence.real) (λ k short first second. closed k (omega (arith, short)) first (rw add-one second)),
     )
 
--- the tours of a round without the costs
-pub lawful_tours : (p : Problem) (b : Board) → IsBoardOf p b → (xs : List ℕ) (tours : List (List Task)) → IsFullRound p b xs → IsNoDearer b xs (round_of tours) →
+-- the tours of a sequence without the costs
+pub lawful_tours : (p : Problem) (b : Board) → IsBoardOf p b → (xs : List ℕ) (tours : List (List Task)) → IsFullSequence p b xs → IsNoDearer b xs (sequence_of tours) →
     AllByRecursion (λ t. IsRequired p t.edge) (all_tasks tours) → AreLawfulTours p tours
 lawful_tours p b of xs tours full own all = record {
   served = record {
@@ -174,11 +174,11 @@ pub record Known : Type 0 where
   pub cost : JoinedPlanCosts
   pub least : ToursCostAtLeast
 
--- what came of a round
+-- what came of a sequence
 pub record IsMade (p : Problem) (b : Board) (xs ys : List ℕ) (plan : List (List Step)) : Type 0 where
-  pub full : IsFullRound p b xs
+  pub full : IsFullSequence p b xs
   pub own : IsNoDearer b xs ys
-  pub tours : round_of (plan_tours plan) ≡ ys
+  pub tours : sequence_of (plan_tours plan) ≡ ys
   pub paths : PlanGoesByLeastPaths p plan
   pub required : AllByRecursion (λ t. IsRequired p t.edge) (all_tasks (plan_tours plan))
 
@@ -188,20 +188,20 @@ made_lawful known p b valid of xs ys plan made =
 
 made_costs : Known → (p : Problem) (b : Board) → IsValid p → IsBoardOf p b → (xs ys : List ℕ) (plan : List (List Step)) → IsMade p b xs ys plan → plan_cost p plan ≡ required_cost p + links_of b ys
 made_costs known p b valid of xs ys plan made =
-    known.cost p valid plan (links_of b (round_of (plan_tours plan))) (made_lawful known p b valid of xs ys plan made) made.paths (links_tours p b of (plan_tours plan) made.required)
+    known.cost p valid plan (links_of b (sequence_of (plan_tours plan))) (made_lawful known p b valid of xs ys plan made) made.paths (links_tours p b of (plan_tours plan) made.required)
     ∙ ap (λ zs. required_cost p + links_of b zs) made.tours
 
 pub made_no_dearer : Known → (p : Problem) (b : Board) → IsValid p → IsBoardOf p b → (xs ys : List ℕ) (plan : List (List Step)) → IsMade p b xs ys plan → plan_cost p plan ≤ required_cost p + links_of b xs
 made_no_dearer known p b valid of xs ys plan made = omega (arith, made_costs known p b valid of xs ys plan made, made.own.cost)
 
-pub made_settled : Known → (p : Problem) (b : Board) → IsValid p → IsBoardOf p b → (xs ys : List ℕ) (plan : List (List Step)) → IsMade p b xs ys plan → IsSettledRound b ys → IsSettledPlan p plan
+pub made_settled : Known → (p : Problem) (b : Board) → IsValid p → IsBoardOf p b → (xs ys : List ℕ) (plan : List (List Step)) → IsMade p b xs ys plan → IsSettledSequence b ys → IsSettledPlan p plan
 made_settled known p b valid of xs ys plan made settled other lawful change =
     let tours = plan_tours other in
     let own = known.tours p other lawful in
-    let round_change = subst (λ zs. IsRoundChange b zs (round_of tours)) made.tours (as_round_change p b of (plan_tours plan) tours made.required change) in
+    let sequence_change = subst (λ zs. IsSequenceChange b zs (sequence_of tours)) made.tours (as_sequence_change p b of (plan_tours plan) tours made.required change) in
     let most = costs_at_least known.tours known.least p b valid of other lawful in
     let exact = made_costs known p b valid of xs ys plan made in
-    elim (cases_lt (links_of b (round_of tours)) (links_of b ys)) [
-      | inl fewer ↦ absurd (settled (round_of tours) round_change (record { loads = tours_fit p b of tours own.served.required own.loads; cheaper = fewer }))
+    elim (cases_lt (links_of b (sequence_of tours)) (links_of b ys)) [
+      | inl fewer ↦ absurd (settled (sequence_of tours) sequence_change (record { loads = tours_fit p b of tours own.served.required own.loads; cheaper = fewer }))
       | inr more ↦ omega (arith, more, most, exact)
     ]

@@ -1,11 +1,11 @@
--- What a change of a round costs, from a few links.
+-- What a change of a sequence costs, from a few links.
 use Rattle.std.proofs.Common.{◌≡◌, ℕ, zero, suc, ◌+◌, ◌-◌, ◌<◌, ◌≤◌, List, [], ◌∷◌, ◌++◌, length, get_or, set, refl, ap, ◌∙◌, arith, add-one}
 use Rattle.std.specs.List.{insert, remove}
 use Rattle.std.proofs.lemmas.List.{get_or-set_other, length-set}
 use Rattle.std.proofs.lemmas.List.Edits.{length-remove, get_or-remove_above}
 use Rattle.ruin_recreate.specs.declared.board.Board.{Board}
 use Rattle.ruin_recreate.specs.Boards.{link}
-use Rattle.local_moves.specs.Rounds.{links_of}
+use Rattle.local_moves.specs.Sequences.{links_of}
 
 -- one stop is put in place of another
 set_step : (b : Board) (xs : List ℕ) (j y : ℕ) → suc (suc j) < length xs →

@@ -1,4 +1,4 @@
--- What the changes of a round keep: that it is one, and its services.
+-- What the changes of a sequence keep: that it is one, and its services.
 use Rattle.std.proofs.Common.{◌≡◌, ◌≢◌, ℕ, suc, ◌+◌, ◌-◌, ◌<◌, ◌≤◌, List, [], ◌∷◌, ◌++◌, length, get_or, set, take, drop, ap, ◌∙◌, arith}
 use Rattle.std.specs.List.{All, insert, remove}
 use Rattle.std.proofs.lemmas.List.{get_or-set_other, length-set, length-append, get_or_append_left, get_or-append-add}
@@ -7,7 +7,7 @@ use Rattle.std.proofs.lemmas.List.Edits.{length-insert, length-remove, get_or-in
 use Rattle.std.proofs.lemmas.List.Sums.{sum_by-set, sum_by-remove, sum_by-insert, sum_by-append}
 use Rattle.ruin_recreate.specs.declared.board.Board.{Board}
 use Rattle.ruin_recreate.specs.Boards.{edge_of}
-use Rattle.local_moves.specs.Rounds.{IsRound, KeepsServices}
+use Rattle.local_moves.specs.Sequences.{IsSequence, KeepsServices}
 
 pub all_remove : (P : ℕ → Type 0) (xs : List ℕ) (k : ℕ) → All P xs → All P (remove xs k)
 all_remove P xs k all = All-append P (take k xs) (drop (suc k) xs) (All-take P k xs all) (All-drop P (suc k) xs all)
@@ -15,51 +15,51 @@ all_remove P xs k all = All-append P (take k xs) (drop (suc k) xs) (All-take P k
 all_insert : (P : ℕ → Type 0) (xs : List ℕ) (k x : ℕ) → P x → All P xs → All P (insert xs k x)
 all_insert P xs k x own all = All-append P (take k xs) (x ∷ drop k xs) (All-take P k xs all) (All-cons P x (drop k xs) own (All-drop P k xs all))
 
-pub set_round : (b : Board) (xs : List ℕ) (k y : ℕ) → IsRound b xs → 1 ≤ k → k + 1 < length xs → y < b.width → y ≢ 1 → IsRound b (set xs k y)
-set_round b xs k y round one short within real = record {
+pub set_sequence : (b : Board) (xs : List ℕ) (k y : ℕ) → IsSequence b xs → 1 ≤ k → k + 1 < length xs → y < b.width → y ≢ 1 → IsSequence b (set xs k y)
+set_sequence b xs k y sequence one short within real = record {
   some = omega (arith, length-set xs k y, short);
-  within = All-set (λ x. x < b.width) xs k y within round.within;
-  real = All-set (λ x. x ≢ 1) xs k y real round.real;
-  first = get_or-set_other xs k 0 y 0 (λ same. omega (arith, same, one)) ∙ round.first;
-  last = ap (λ n. get_or (set xs k y) (n - 1) 0) (length-set xs k y) ∙ get_or-set_other xs k (length xs - 1) y 0 (λ same. omega (arith, same, short)) ∙ round.last;
+  within = All-set (λ x. x < b.width) xs k y within sequence.within;
+  real = All-set (λ x. x ≢ 1) xs k y real sequence.real;
+  first = get_or-set_other xs k 0 y 0 (λ same. omega (arith, same, one)) ∙ sequence.first;
+  last = ap (λ n. get_or (set xs k y) (n - 1) 0) (length-set xs k y) ∙ get_or-set_other xs k (length xs - 1) y 0 (λ same. omega (arith, same, short)) ∙ sequence.last;
 }
 
-pub remove_round : (b : Board) (xs : List ℕ) (k : ℕ) → IsRound b xs → 1 ≤ k → k + 1 < length xs → IsRound b (remove xs k)
-remove_round b xs k round one short =
+pub remove_sequence : (b : Board) (xs : List ℕ) (k : ℕ) → IsSequence b xs → 1 ≤ k → k + 1 < length xs → IsSequence b (remove xs k)
+remove_sequence b xs k sequence one short =
     let long = length-remove xs k (omega (arith, short)) in
     let place : (length (remove xs k) - 1) + 1 ≡ length xs - 1 = omega (arith, long, short) in
     record {
       some = omega (arith, long, short);
-      within = all_remove (λ x. x < b.width) xs k round.within;
-      real = all_remove (λ x. x ≢ 1) xs k round.real;
-      first = get_or-remove_below xs k 0 0 (omega (arith, one)) (omega (arith, short)) ∙ round.first;
-      last = get_or-remove_above xs k 0 (length (remove xs k) - 1) (omega (arith, long, short)) (omega (arith, short)) ∙ ap (λ i. get_or xs i 0) place ∙ round.last;
+      within = all_remove (λ x. x < b.width) xs k sequence.within;
+      real = all_remove (λ x. x ≢ 1) xs k sequence.real;
+      first = get_or-remove_below xs k 0 0 (omega (arith, one)) (omega (arith, short)) ∙ sequence.first;
+      last = get_or-remove_above xs k 0 (length (remove xs k) - 1) (omega (arith, long, short)) (omega (arith, short)) ∙ ap (λ i. get_or xs i 0) place ∙ sequence.last;
     }
 
-pub insert_round : (b : Board) (xs : List ℕ) (k x : ℕ) → IsRound b xs → 1 ≤ k → k < length xs → x < b.width → x ≢ 1 → IsRound b (insert xs k x)
-insert_round b xs k x round one short within real =
+pub insert_sequence : (b : Board) (xs : List ℕ) (k x : ℕ) → IsSequence b xs → 1 ≤ k → k < length xs → x < b.width → x ≢ 1 → IsSequence b (insert xs k x)
+insert_sequence b xs k x sequence one short within real =
     let long = length-insert xs k x (omega (arith, short)) in
     let place : length (insert xs k x) - 1 ≡ (length xs - 1) + 1 = omega (arith, long, short) in
     record {
       some = omega (arith, long);
-      within = all_insert (λ y. y < b.width) xs k x within round.within;
-      real = all_insert (λ y. y ≢ 1) xs k x real round.real;
-      first = get_or-insert_below xs k x 0 0 (omega (arith, one)) (omega (arith, short)) ∙ round.first;
-      last = ap (λ i. get_or (insert xs k x) i 0) place ∙ get_or-insert_above xs k x 0 (length xs - 1) (omega (arith, short)) (omega (arith, short)) ∙ round.last;
+      within = all_insert (λ y. y < b.width) xs k x within sequence.within;
+      real = all_insert (λ y. y ≢ 1) xs k x real sequence.real;
+      first = get_or-insert_below xs k x 0 0 (omega (arith, one)) (omega (arith, short)) ∙ sequence.first;
+      last = ap (λ i. get_or (insert xs k x) i 0) place ∙ get_or-insert_above xs k x 0 (length xs - 1) (omega (arith, short)) (omega (arith, short)) ∙ sequence.last;
     }
 
 two_stops : (P : ℕ → Type 0) (x : ℕ) → P x → P 0 → All P (x ∷ (0 ∷ []))
 two_stops P x own end = All-cons P x (0 ∷ []) own (All-cons P 0 [] end (All-nil P))
 
-pub open_round : (b : Board) (xs : List ℕ) (x : ℕ) → IsRound b xs → x < b.width → x ≢ 1 → IsRound b (xs ++ (x ∷ (0 ∷ [])))
-open_round b xs x round within real =
+pub open_sequence : (b : Board) (xs : List ℕ) (x : ℕ) → IsSequence b xs → x < b.width → x ≢ 1 → IsSequence b (xs ++ (x ∷ (0 ∷ [])))
+open_sequence b xs x sequence within real =
     let long = length-append xs (x ∷ (0 ∷ [])) in
     let at_end : length (xs ++ (x ∷ (0 ∷ []))) - 1 ≡ length xs + 1 = omega (arith, long) in
     record {
       some = omega (arith, long);
-      within = All-append (λ y. y < b.width) xs (x ∷ (0 ∷ [])) round.within (two_stops (λ y. y < b.width) x within (omega (arith, within)));
-      real = All-append (λ y. y ≢ 1) xs (x ∷ (0 ∷ [])) round.real (two_stops (λ y. y ≢ 1) x real (λ same. omega (arith, same)));
-      first = get_or_append_left xs (x ∷ (0 ∷ [])) 0 0 round.some ∙ round.first;
+      within = All-append (λ y. y < b.width) xs (x ∷ (0 ∷ [])) sequence.within (two_stops (λ y. y < b.width) x within (omega (arith, within)));
+      real = All-append (λ y. y ≢ 1) xs (x ∷ (0 ∷ [])) sequence.real (two_stops (λ y. y ≢ 1) x real (λ same. omega (arith, same)));
+      first = get_or_append_left xs (x ∷ (0 ∷ [])) 0 0 sequence.some ∙ sequence.first;
       last = ap (λ i. get_or (xs ++ (x ∷ (0 ∷ []))) i 0) at_end ∙ get_or-append-add xs (x ∷ (0 ∷ [])) 1 0;
     }
 

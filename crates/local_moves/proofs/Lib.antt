@@ -4,7 +4,7 @@ mod Kept
 mod Rooms
 mod Quiet
 mod Closing
-mod Rounding
+mod Sequencing
 mod Boarding
 mod Changing
 mod Composing

@@ -6,7 +6,7 @@ use Rattle.std.proofs.lemmas.List.{take-append-drop, drop_more, take-set-le, dro
 use Rattle.ruin_recreate.specs.declared.board.Board.{Board}
 use Rattle.ruin_recreate.specs.Boards.{demand_of}
 use Rattle.local_moves.specs.declared.loads.Loads.{Loads}
-use Rattle.local_moves.specs.Rounds.{fits, fits_from}
+use Rattle.local_moves.specs.Sequences.{fits, fits_from}
 use Rattle.local_moves.specs.Loads.{load_with, load_behind, load_ahead, AreLoads, AreApart}
 
 pub both : (p q : Bool) → (p && q) ≡ true → (p ≡ true) × (q ≡ true)
@@ -31,7 +31,7 @@ ahead_fits b load (suc x ∷ xs) is =
       with_service b (load_ahead b xs) (suc x) (omega arith),
     )
 
--- where a round fits, a service fits beside the stops before it and after it
+-- where a sequence fits, a service fits beside the stops before it and after it
 room_there : (b : Board) (load : ℕ) (left : List ℕ) (x : ℕ) (right : List ℕ) → fits_from b load (left ++ (x ∷ right)) ≡ true → 1 ≤ x →
     load_behind b load left + demand_of b x + load_ahead b right ≤ b.room
 room_there b load [] x right is some = ahead_fits b (load + demand_of b x) right (sym (over_service b load x right some) ∙ is)

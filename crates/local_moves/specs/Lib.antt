@@ -1,4 +1,4 @@
-pub mod Rounds
+pub mod Sequences
 pub mod Loads
 pub mod Stops
 pub mod Changes

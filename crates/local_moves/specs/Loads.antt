@@ -1,4 +1,4 @@
--- What the tours of a round load beside a place. No public contract speaks of this.
+-- What the tours of a sequence load beside a place. No public contract speaks of this.
 use Rattle.std.specs.Prelude.{◌≡◌, ℕ, ◌+◌, ◌<◌, ◌≤◌, ◌==◌, List, [], ◌∷◌, length, take, drop, if◌then◌else◌, slice_index}
 use Rattle.std.specs.List.{All}
 use Rattle.ruin_recreate.specs.declared.board.Board.{Board}

@@ -1,5 +1,7 @@
 //! Plans that no small change makes cheaper.
 //!
+//! In the field: local search with the moves invert, relocate and exchange.
+//!
 //! [`settle`] turns, moves and swaps services of a lawful plan as long as that makes it cheaper. [`Mover`] is a helper that
 //! changes the best plan by ruin and recreate before it settles it.
 #![tactic(auto)]
@@ -9,10 +11,10 @@ mod loads;
 mod mover;
 mod moves;
 mod opening;
+mod perturbed;
 mod plans;
 mod searching;
 mod settling;
-mod stirred;
 mod swaps;
 mod tours;
 

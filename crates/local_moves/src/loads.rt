@@ -3,7 +3,7 @@ ghost use Rattle.std.specs.Prelude.{◌≡◌, ◌+◌, ◌<◌, ◌≤◌, ◌�
 ghost use Rattle.std.specs.List.{All};
 ghost use Rattle.ruin_recreate.specs.Boards.{IsBoard, demand_of};
 ghost use Rattle.local_moves.specs.Loads.{AreLoads, AreLoadsAhead, AreLoadsBehind, load_with};
-ghost use Rattle.local_moves.specs.Rounds.{fits};
+ghost use Rattle.local_moves.specs.Sequences.{fits};
 
 use carp_base::Memory;
 use ruin_recreate::Board;
@@ -12,7 +12,7 @@ use std::alloc::Global;
 // Loads are counted up to this number, which no room reaches.
 const MOST_LOAD: u32 = 60_000;
 
-// The loads of tours before and from each place of a round on, as far as they are counted.
+// The loads of tours before and from each place of a sequence on, as far as they are counted.
 #[derive(Drop)]
 pub(crate) struct Loads {
     pub(crate) behind: Vec<u32>,
@@ -64,7 +64,7 @@ fn loads_ahead(alloc: Global, board: &Board, stops: &[u32]) -> Result<Vec<u32>, 
 }
 
 impl Loads {
-    // The loads beside the places of a round.
+    // The loads beside the places of a sequence.
     pub(crate) fn of(alloc: Global, board: &Board, stops: &[u32]) -> Result<Loads, Memory>
         requires board { IsBoard board.now }
         requires within { All (λ x. x < board.now.width) stops.now }
@@ -90,15 +90,15 @@ impl Loads {
     }
 }
 
-// Whether no tour of a round loads more than the room.
-pub(crate) fn fits(board: &Board, round: &[u32]) -> bool
+// Whether no tour of a sequence loads more than the room.
+pub(crate) fn fits(board: &Board, sequence: &[u32]) -> bool
     requires board { IsBoard board.now }
-    requires within { All (λ x. x < board.now.width) round.now }
-    ensures { result ≡ fits board.now round.now }
+    requires within { All (λ x. x < board.now.width) sequence.now }
+    ensures { result ≡ fits board.now sequence.now }
 {
     let mut load: u128 = 0;
-    for i in 0..round.len() {
-        let x = round[i];
+    for i in 0..sequence.len() {
+        let x = sequence[i];
         if x == 0 {
             if load > u128::from(board.room) {
                 return false;
@@ -111,7 +111,7 @@ pub(crate) fn fits(board: &Board, round: &[u32]) -> bool
     load <= u128::from(board.room)
 }
 
-// The round, where no tour of it loads more than the room.
+// The sequence, where no tour of it loads more than the room.
 pub(crate) fn accept(board: &Board, next: Vec<u32>) -> Option<Vec<u32>>
     requires board { IsBoard board.now }
     requires within { All (λ x. x < board.now.width) next.items }

@@ -1,8 +1,8 @@
 // The helper that offers settled plans.
 ghost use Rattle.local_moves.specs.Offering.{IsSettledFrom};
 
+use crate::perturbed::perturbed;
 use crate::plans::settle_on;
-use crate::stirred::stirred;
 use carp_base::{Instance, Memory};
 use deadhead_paths::Distances;
 use helper_frame::{Finder, Helper};
@@ -39,7 +39,7 @@ impl Finder for MoveFinder {
         best: &Plan,
     ) -> Result<Plan, Memory> {
         let board = board_of(alloc, inst, dist)?;
-        let found = stirred(alloc, inst, dist, &board, best, &mut self.generator)?;
+        let found = perturbed(alloc, inst, dist, &board, best, &mut self.generator)?;
         settle_on(alloc, inst, dist, &board, found.as_ref().unwrap_or(best))
     }
 }

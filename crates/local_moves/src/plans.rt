@@ -7,11 +7,11 @@ ghost use Rattle.deadhead_paths.specs.Prices.{costs_of};
 ghost use Rattle.task_tours.specs.Tours.{PlanGoesByLeastPaths, plan_tours};
 ghost use Rattle.ruin_recreate.specs.Boards.{IsBoard, IsBoardOf};
 ghost use Rattle.local_moves.specs.Changes.{IsSettledPlan};
-ghost use Rattle.local_moves.specs.Rounds.{links_of};
-ghost use Rattle.local_moves.specs.Stops.{IsFullRound};
+ghost use Rattle.local_moves.specs.Sequences.{links_of};
+ghost use Rattle.local_moves.specs.Stops.{IsFullSequence};
 
-use crate::settling::settle_round;
-use crate::tours::{plan_of_round, round_of_plan};
+use crate::settling::settle_sequence;
+use crate::tours::{plan_of_sequence, sequence_of_plan};
 use carp_base::{Instance, Memory};
 use deadhead_paths::Distances;
 use plan_model::{Plan, required_edges_are_served_once};
@@ -19,21 +19,21 @@ use ruin_recreate::{Board, board_of};
 use std::alloc::Global;
 use task_tours::plans_are_tours;
 
-// The settled plan that comes of a round.
+// The settled plan that comes of a sequence.
 pub(crate) fn settle_from(
     alloc: Global,
     inst: &Instance,
     dist: &Distances,
     board: &Board,
-    round: Vec<u32>,
+    sequence: Vec<u32>,
 ) -> Result<Plan, Memory>
     requires problem { dist.now.problem ≡ inst.now }
     requires prices { dist.now.prices ≡ costs_of inst.now }
     requires board { IsBoard board.now }
     requires of { IsBoardOf inst.now board.now }
-    requires round { IsFullRound inst.now board.now round.items }
+    requires sequence { IsFullSequence inst.now board.now sequence.items }
     ensures lawful { IfOk result (IsLawful inst.now) }
-    ensures cost { IfOk result (λ plan. plan_cost inst.now plan ≤ required_cost inst.now + links_of board.now round.items) }
+    ensures cost { IfOk result (λ plan. plan_cost inst.now plan ≤ required_cost inst.now + links_of board.now sequence.items) }
     ensures settled { IfOk result (IsSettledPlan inst.now) }
     ensures paths { IfOk result (PlanGoesByLeastPaths inst.now) }
     ensures each_serves { IfOk result (λ after. AllByRecursion (λ tour. tour ≢ []) (plan_tours after)) }
@@ -41,8 +41,8 @@ pub(crate) fn settle_from(
     plans_are_tours();
     // What a read of the instance says of it is needed: that it is valid.
     let _ = inst.vertices();
-    let settled = settle_round(alloc, board, round)?;
-    plan_of_round(alloc, inst, dist, &settled)
+    let settled = settle_sequence(alloc, board, sequence)?;
+    plan_of_sequence(alloc, inst, dist, &settled)
 }
 
 // The same of a lawful plan, which it costs no more than.
@@ -68,8 +68,8 @@ pub(crate) fn settle_on(
     required_edges_are_served_once();
     // What a read of the instance says of it is needed: that it is valid.
     let _ = inst.vertices();
-    let round = round_of_plan(alloc, inst, plan)?;
-    settle_from(alloc, inst, dist, board, round)
+    let sequence = sequence_of_plan(alloc, inst, plan)?;
+    settle_from(alloc, inst, dist, board, sequence)
 }
 
 /// A plan that no small change makes cheaper, and that costs no more than a lawful plan from which it comes.

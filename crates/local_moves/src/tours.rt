@@ -1,4 +1,4 @@
-// Plans as rounds, and back.
+// Plans as sequences, and back.
 ghost use Rattle.std.specs.Prelude.{◌≡◌, ◌≢◌, ◌+◌, ◌*◌, ◌<◌, ◌≤◌, ◌++◌, IfOk, IsTrue, OnOk, length, map, slice_index, ◌-◌};
 ghost use Rattle.std.specs.List.{All, AllByRecursion};
 ghost use Rattle.carp_base.specs.Problem.{IsRequired};
@@ -6,7 +6,7 @@ ghost use Rattle.plan_model.specs.Plans.{IsLawful};
 ghost use Rattle.deadhead_paths.specs.Prices.{costs_of};
 ghost use Rattle.deadhead_paths.specs.Tours.{tasks_of};
 ghost use Rattle.task_tours.specs.Tours.{PlanGoesByLeastPaths, all_tasks, plan_tours};
-ghost use Rattle.local_moves.specs.Stops.{round_of, stop_of};
+ghost use Rattle.local_moves.specs.Stops.{sequence_of, stop_of};
 
 use carp_base::{Instance, Memory, Task};
 use deadhead_paths::Distances;
@@ -14,59 +14,63 @@ use plan_model::{Plan, Walk};
 use std::alloc::Global;
 use task_tours::add_tour;
 
-// Adds the services of a walk to a round.
-fn add_services(round: &mut Vec<u32>, walk: &Walk) -> Result<(), Memory>
+// Adds the services of a walk to a sequence.
+fn add_services(sequence: &mut Vec<u32>, walk: &Walk) -> Result<(), Memory>
     requires { AllByRecursion (λ s. IsTrue s.served → s.edge ≤ 600) walk.now }
-    ensures { OnOk result (round.new.items ≡ round.old.items ++ map stop_of (tasks_of walk.now)) }
+    ensures { OnOk result (sequence.new.items ≡ sequence.old.items ++ map stop_of (tasks_of walk.now)) }
 {
     for i in 0..walk.len() {
         let step = walk.step(i);
         if step.served {
-            round.push(2 * step.edge + u32::from(!step.forward))?;
+            sequence.push(2 * step.edge + u32::from(!step.forward))?;
         }
     }
     Ok(())
 }
 
-// The services of a lawful plan as a round.
-pub(crate) fn round_of_plan(alloc: Global, inst: &Instance, plan: &Plan) -> Result<Vec<u32>, Memory>
+// The services of a lawful plan as a sequence.
+pub(crate) fn sequence_of_plan(
+    alloc: Global,
+    inst: &Instance,
+    plan: &Plan,
+) -> Result<Vec<u32>, Memory>
     requires { IsLawful inst.now plan.now }
-    ensures { IfOk result (λ round. round.items ≡ round_of (plan_tours plan.now)) }
+    ensures { IfOk result (λ sequence. sequence.items ≡ sequence_of (plan_tours plan.now)) }
 {
     // What a read of the instance says of it is needed: that it is valid.
     let _ = inst.vertices();
-    let mut round = Vec::new(alloc);
-    round.push(0)?;
+    let mut sequence = Vec::new(alloc);
+    sequence.push(0)?;
     for i in 0..plan.len() {
-        add_services(&mut round, plan.walk(i))?;
-        round.push(0)?;
+        add_services(&mut sequence, plan.walk(i))?;
+        sequence.push(0)?;
     }
-    Ok(round)
+    Ok(sequence)
 }
 
-// The plan of a round, joined by least paths.
-pub(crate) fn plan_of_round(
+// The plan of a sequence, joined by least paths.
+pub(crate) fn plan_of_sequence(
     alloc: Global,
     inst: &Instance,
     dist: &Distances,
-    round: &[u32],
+    sequence: &[u32],
 ) -> Result<Plan, Memory>
     requires problem { dist.now.problem ≡ inst.now }
     requires prices { dist.now.prices ≡ costs_of inst.now }
-    requires some { 1 ≤ length round.now }
-    requires short { length round.now ≤ 30000 }
-    requires within { All (λ x. x < 2 * inst.now.required + 2) round.now }
-    requires real { All (λ x. x ≢ 1) round.now }
-    requires first { slice_index round.now 0 ≡ 0 }
-    requires last { slice_index round.now (length round.now - 1) ≡ 0 }
-    ensures tours { IfOk result (λ plan. round_of (plan_tours plan) ≡ round.now) }
+    requires some { 1 ≤ length sequence.now }
+    requires short { length sequence.now ≤ 30000 }
+    requires within { All (λ x. x < 2 * inst.now.required + 2) sequence.now }
+    requires real { All (λ x. x ≢ 1) sequence.now }
+    requires first { slice_index sequence.now 0 ≡ 0 }
+    requires last { slice_index sequence.now (length sequence.now - 1) ≡ 0 }
+    ensures tours { IfOk result (λ plan. sequence_of (plan_tours plan) ≡ sequence.now) }
     ensures paths { IfOk result (PlanGoesByLeastPaths inst.now) }
     ensures required { IfOk result (λ plan. AllByRecursion (λ t. IsRequired inst.now t.edge) (all_tasks (plan_tours plan))) }
 {
     let mut plan = Plan::new(alloc);
     let mut tour = Vec::new(alloc);
-    for i in 1..round.len() {
-        let x = round[i];
+    for i in 1..sequence.len() {
+        let x = sequence[i];
         if x == 0 {
             add_tour(alloc, inst, dist, &mut plan, &tour)?;
             tour.clear();

@@ -144,7 +144,7 @@ fn offers_a_settled_plan(rt: HostRuntime) -> Result<(), Fail> {
 // Three dead ends at 2 and three at 3, both far from the depot, of which one each takes half a vehicle. Each tour of the best plan
 // goes to both, and each change of one or two services loads a vehicle too much or saves nothing.
 #[test]
-fn stirs_what_is_settled(rt: HostRuntime) -> Result<(), Fail> {
+fn recreates_what_is_settled(rt: HostRuntime) -> Result<(), Fail> {
     let alloc = rt.alloc();
     let required = [
         street(2, 4, 1, 2),

@@ -5,7 +5,7 @@ ghost use Rattle.ruin_recreate.specs.Boards.{IsBoard};
 
 use carp_base::{Instance, Memory, RawEdge};
 use rand_pcg::Lcg64Xsh32;
-use ruin_recreate::{Board, board_of, stir};
+use ruin_recreate::{Board, board_of, ruin_and_recreate};
 use std::alloc::{AllocError, Global};
 use std::process::Abort;
 use std::test::Fail;
@@ -81,25 +81,25 @@ fn ring(alloc: Global) -> Result<Instance, Fail> {
 // A tour for each service.
 fn one_each(alloc: Global, board: &Board) -> Result<Vec<u32>, Memory>
     requires { IsBoard board.now }
-    ensures { IfOk result (λ round. All (λ x. x < board.now.width) round.items) }
+    ensures { IfOk result (λ sequence. All (λ x. x < board.now.width) sequence.items) }
 {
-    let mut round = Vec::new(alloc);
-    round.push(0)?;
+    let mut sequence = Vec::new(alloc);
+    sequence.push(0)?;
     for edge in 1..board.width as u32 / 2 {
-        round.push(2 * edge)?;
-        round.push(0)?;
+        sequence.push(2 * edge)?;
+        sequence.push(0)?;
     }
-    Ok(round)
+    Ok(sequence)
 }
 
-// The deadheads of a round.
-fn deadheads(board: &Board, round: &[u32]) -> u64
+// The deadheads of a sequence.
+fn deadheads(board: &Board, sequence: &[u32]) -> u64
     requires board { IsBoard board.now }
-    requires within { All (λ x. x < board.now.width) round.now }
+    requires within { All (λ x. x < board.now.width) sequence.now }
 {
     let mut sum: u64 = 0;
-    for k in 1..round.len() {
-        sum = sum.saturating_add(u64::from(board.between(round[k - 1], round[k])));
+    for k in 1..sequence.len() {
+        sum = sum.saturating_add(u64::from(board.between(sequence[k - 1], sequence[k])));
     }
     sum
 }
@@ -107,12 +107,12 @@ fn deadheads(board: &Board, round: &[u32]) -> u64
 // What is found from a tour for each service.
 fn search(alloc: Global, board: &Board, seed: u64) -> Result<Vec<u32>, Memory>
     requires { IsBoard board.now }
-    ensures { IfOk result (λ round. All (λ x. x < board.now.width) round.items) }
+    ensures { IfOk result (λ sequence. All (λ x. x < board.now.width) sequence.items) }
 {
     let costs = vec![in alloc; 3u32; board.width]?;
     let mut generator = Lcg64Xsh32::new(seed, 1);
     let start = one_each(alloc, board)?;
-    stir(alloc, board, &costs, start, &mut generator)
+    ruin_and_recreate(alloc, board, &costs, start, &mut generator)
 }
 
 #[test]

@@ -4,29 +4,29 @@ use Rattle.std.specs.Prelude.{if◌then◌else◌}
 use Rattle.std.specs.List.{list_any, AllByRecursion}
 use Rattle.std.proofs.lemmas.Bool.{cases_lt, or_cases, or_left, or_right, eqb-true, eq-eqb, le-leb, lt-leb, false≢true}
 use Rattle.std.proofs.Math.Nat.{min-le_left, min-le_right, min-eq_left, min-eq_right}
-use Rattle.matching_duals.specs.OddSets.{OddSet, holds, weight_round, weight_between, LiesIn, LiesOutside, AreNested, least_depth, depth, count_below}
+use Rattle.matching_duals.specs.OddSets.{OddSet, holds, enclosing_weight, weight_between, LiesIn, LiesOutside, AreNested, least_depth, depth, count_below}
 
 module _ (d : ℕ → ℕ → ℕ) (smaller : List OddSet) (x : ℕ) where
   least_depth-most : (most : ℕ) (members : List ℕ) → least_depth d smaller x most members ≤ most
   least_depth-most most [] = omega arith
-  least_depth-most most (v ∷ vs) = omega (arith, min-le_right (2 * d v x - weight_round smaller v) (least_depth d smaller x most vs), least_depth-most most vs)
+  least_depth-most most (v ∷ vs) = omega (arith, min-le_right (2 * d v x - enclosing_weight smaller v) (least_depth d smaller x most vs), least_depth-most most vs)
 
   least_depth-least : (most v : ℕ) (members : List ℕ) → list_any (λ w. w == v) members ≡ true →
-      least_depth d smaller x most members ≤ 2 * d v x - weight_round smaller v
+      least_depth d smaller x most members ≤ 2 * d v x - enclosing_weight smaller v
   least_depth-least most v [] there = absurd (false≢true there)
   least_depth-least most v (w ∷ ws) there =
       elim (or_cases (w == v) (list_any (λ w. w == v) ws) there) [
         | inl here ↦ let same : w ≡ v = eqb-true w v here in
-            rw (← same) (min-le_left (2 * d w x - weight_round smaller w) (least_depth d smaller x most ws))
-        | inr later ↦ omega (arith, min-le_right (2 * d w x - weight_round smaller w) (least_depth d smaller x most ws), least_depth-least most v ws later)
+            rw (← same) (min-le_left (2 * d w x - enclosing_weight smaller w) (least_depth d smaller x most ws))
+        | inr later ↦ omega (arith, min-le_right (2 * d w x - enclosing_weight smaller w) (least_depth d smaller x most ws), least_depth-least most v ws later)
       ]
 
   -- a depth below the weight is that of some member
   least_depth-reached : (most : ℕ) (members : List ℕ) → least_depth d smaller x most members < most →
-      (v : ℕ) × (list_any (λ w. w == v) members ≡ true) × (2 * d v x - weight_round smaller v ≤ least_depth d smaller x most members)
+      (v : ℕ) × (list_any (λ w. w == v) members ≡ true) × (2 * d v x - enclosing_weight smaller v ≤ least_depth d smaller x most members)
   least_depth-reached most [] less = absurd (omega (arith, less))
   least_depth-reached most (w ∷ ws) less =
-      let own : ℕ = 2 * d w x - weight_round smaller w in
+      let own : ℕ = 2 * d w x - enclosing_weight smaller w in
       let rest : ℕ = least_depth d smaller x most ws in
       elim (cases_lt rest own) [
         | inl below ↦
@@ -42,18 +42,18 @@ module _ (d : ℕ → ℕ → ℕ) (s : OddSet) (smaller : List OddSet) (x : ℕ
   pub depth-most : depth d s smaller x ≤ s.halves
   depth-most = least_depth-most d smaller x s.halves s.members
 
-  pub depth-least : (v : ℕ) → holds s v ≡ true → depth d s smaller x ≤ 2 * d v x - weight_round smaller v
+  pub depth-least : (v : ℕ) → holds s v ≡ true → depth d s smaller x ≤ 2 * d v x - enclosing_weight smaller v
   depth-least v there = least_depth-least d smaller x s.halves v s.members there
 
-  pub depth-reached : depth d s smaller x < s.halves → (v : ℕ) × (holds s v ≡ true) × (2 * d v x - weight_round smaller v ≤ depth d s smaller x)
+  pub depth-reached : depth d s smaller x < s.halves → (v : ℕ) × (holds s v ≡ true) × (2 * d v x - enclosing_weight smaller v ≤ depth d s smaller x)
   depth-reached less = least_depth-reached d smaller x s.halves s.members less
 
 -- the weights round a member, where a set comes before the others
-pub round-in : (s : OddSet) (sets : List OddSet) (v : ℕ) → holds s v ≡ true → weight_round (s ∷ sets) v ≡ s.halves + weight_round sets v
-round-in s sets v there = rw there refl
+pub enclosing-in : (s : OddSet) (sets : List OddSet) (v : ℕ) → holds s v ≡ true → enclosing_weight (s ∷ sets) v ≡ s.halves + enclosing_weight sets v
+enclosing-in s sets v there = rw there refl
 
-pub round-more : (s : OddSet) (sets : List OddSet) (v : ℕ) → weight_round sets v ≤ weight_round (s ∷ sets) v
-round-more s sets v = omega arith
+pub enclosing-more : (s : OddSet) (sets : List OddSet) (v : ℕ) → enclosing_weight sets v ≤ enclosing_weight (s ∷ sets) v
+enclosing-more s sets v = omega arith
 
 -- a set of which u is no member separates it from each member
 one_in : (b c : Bool) (n : ℕ) → (b ≡ true → c ≡ true → ⊥) → (if (if b then not c else c) then n else 0) ≡ (if b then n else 0) + (if c then n else 0)
@@ -64,7 +64,7 @@ one_in false false n apart = omega arith
 
 -- where no set holds both, the weights between are those round the two
 apart_weights : (sets : List OddSet) (u v : ℕ) → AllByRecursion (λ r. holds r u ≡ true → holds r v ≡ true → ⊥) sets →
-    weight_between sets u v ≡ weight_round sets u + weight_round sets v
+    weight_between sets u v ≡ enclosing_weight sets u + enclosing_weight sets v
 apart_weights [] u v none = refl
 apart_weights (s ∷ sets) u v none = omega (arith, one_in (holds s u) (holds s v) s.halves none.0, apart_weights sets u v none.1)
 
@@ -84,7 +84,7 @@ split_apart false false n out there = cc
 
 -- between a member of the first set and another vertex stand the weight of the set and the weights round the two
 pub between : (s : OddSet) (sets : List OddSet) (u v : ℕ) → AreNested (s ∷ sets) → holds s u ≡ false → holds s v ≡ true →
-    weight_between (s ∷ sets) u v ≡ s.halves + (weight_round sets u + weight_round sets v)
+    weight_between (s ∷ sets) u v ≡ s.halves + (enclosing_weight sets u + enclosing_weight sets v)
 between s sets u v nested out there =
     omega (arith, split_apart (holds s u) (holds s v) s.halves out there, apart_weights sets u v (none_holds_both s sets u v nested.0 out there))
 

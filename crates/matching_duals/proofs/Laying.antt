@@ -15,7 +15,7 @@ use Rattle.cut_pool.specs.Shores.{is_in, required_crossings}
 use Rattle.edge_components.specs.Listing.{vertices_where}
 use Rattle.edge_components.specs.Laws.{VerticesAreListed}
 use Rattle.matching_duals.specs.Joins.{all_halves}
-use Rattle.matching_duals.specs.OddSets.{OddSet, AreDistinct, IsFamily, IsOddSized, count_below, depth, holds, level, set_halves, side_of, weight_round}
+use Rattle.matching_duals.specs.OddSets.{OddSet, AreDistinct, IsFamily, IsOddSized, count_below, depth, holds, level, set_halves, side_of, enclosing_weight}
 use Rattle.matching_duals.specs.Levels.{Adds, AreLevels, AreSides, IsLevel, IsSide, on_side, side_list}
 use Rattle.matching_duals.specs.Paths.{reach}
 use Rattle.blossom_match.specs.declared.least.Matching.{Matching}
@@ -47,9 +47,9 @@ below_same : (n : ℕ) (f g : ℕ → Bool) → ((t : ℕ) → f t ≡ g t) → 
 below_same zero f g same = refl
 below_same (suc n) f g same = omega (arith, below_same n f g same, ap (λ b. part b 1) (same n))
 
-pub round_most : (sets : List OddSet) (v : ℕ) → weight_round sets v ≤ set_halves sets
-round_most [] v = omega arith
-round_most (s ∷ sets) v = omega (arith, round_most sets v, sum_by-cons (λ x. x.halves) s sets, part_le (holds s v) s.halves)
+pub enclosing_most : (sets : List OddSet) (v : ℕ) → enclosing_weight sets v ≤ set_halves sets
+enclosing_most [] v = omega arith
+enclosing_most (s ∷ sets) v = omega (arith, enclosing_most sets v, sum_by-cons (λ x. x.halves) s sets, part_le (holds s v) s.halves)
   where
     part_le : (b : Bool) (n : ℕ) → part b n ≤ n
     part_le true n = omega arith
@@ -118,7 +118,7 @@ pub laid_more : (p : Problem) (table : List ℕ) (s : OddSet) (smaller : List Od
     length now ≡ length before → ((v : ℕ) → get_or now v 0 ≡ get_or before v 0 + (if holds s v then s.halves else 0)) → AreLaid p table (s ∷ smaller) now after
 laid_more p table s smaller before now depths shores after valid laid are adds long added = record {
   long = long ∙ laid.long;
-  rounds = λ v vertex. omega (arith, added v, laid.rounds v vertex);
+  each_enclosing = λ v vertex. omega (arith, added v, laid.each_enclosing v vertex);
   levels = levels_more p (reach p table) s smaller depths valid are shores after laid.levels adds;
   joined = adds.joined;
 }
@@ -133,41 +133,41 @@ pub own_bounded : (p : Problem) (odd table : List ℕ) (m : Matching) (i : ℕ) 
 own_bounded p odd table m i sets below = subst (IsBounded p table) (own_list odd m i) (sets.bounded (len_in m i) (suc i) (omega (arith, below)))
 
 -- the next set is of this size, or of another one
-pub next_there : (p : Problem) (odd table : List ℕ) (m : Matching) (size i : ℕ) (round : List ℕ) (shores : List Weighted) → len_in m i ≡ size →
-    AreLaid p table (set_of odd m i ∷ sets_to odd m (len_in m i) i) round shores → AreLaid p table (sets_to odd m size (i + 1)) round shores
-next_there p odd table m size i round shores same laid =
-    rw add-one (subst (λ n. AreLaid p table (sets_to odd m n (suc i)) round shores) same (subst (λ sets. AreLaid p table sets round shores) (sym (own_list odd m i)) laid))
+pub next_there : (p : Problem) (odd table : List ℕ) (m : Matching) (size i : ℕ) (enclosing : List ℕ) (shores : List Weighted) → len_in m i ≡ size →
+    AreLaid p table (set_of odd m i ∷ sets_to odd m (len_in m i) i) enclosing shores → AreLaid p table (sets_to odd m size (i + 1)) enclosing shores
+next_there p odd table m size i enclosing shores same laid =
+    rw add-one (subst (λ n. AreLaid p table (sets_to odd m n (suc i)) enclosing shores) same (subst (λ sets. AreLaid p table sets enclosing shores) (sym (own_list odd m i)) laid))
 
-pub next_other : (p : Problem) (odd table : List ℕ) (m : Matching) (size i : ℕ) (round : List ℕ) (shores : List Weighted) → (len_in m i ≡ size → ⊥) →
-    AreLaid p table (sets_to odd m size i) round shores → AreLaid p table (sets_to odd m size (i + 1)) round shores
-next_other p odd table m size i round shores other laid =
-    rw add-one (subst (λ b. AreLaid p table (if b then set_of odd m i ∷ sets_to odd m size i else sets_to odd m size i) round shores) (sym (ne_eqb (len_in m i) size other)) laid)
+pub next_other : (p : Problem) (odd table : List ℕ) (m : Matching) (size i : ℕ) (enclosing : List ℕ) (shores : List Weighted) → (len_in m i ≡ size → ⊥) →
+    AreLaid p table (sets_to odd m size i) enclosing shores → AreLaid p table (sets_to odd m size (i + 1)) enclosing shores
+next_other p odd table m size i enclosing shores other laid =
+    rw add-one (subst (λ b. AreLaid p table (if b then set_of odd m i ∷ sets_to odd m size i else sets_to odd m size i) enclosing shores) (sym (ne_eqb (len_in m i) size other)) laid)
 
 -- the weights round each vertex
-module _ (p : Problem) (table : List ℕ) (s : OddSet) (smaller : List OddSet) (round : List ℕ) (shores : List Weighted)
-    (laid : AreLaid p table smaller round shores) (bounded : IsBounded p table (s ∷ smaller)) where
+module _ (p : Problem) (table : List ℕ) (s : OddSet) (smaller : List OddSet) (enclosing : List ℕ) (shores : List Weighted)
+    (laid : AreLaid p table smaller enclosing shores) (bounded : IsBounded p table (s ∷ smaller)) where
   all_map : (P Q : ℕ → Type 0) (xs : List ℕ) → ((x : ℕ) → P x → Q x) → AllByRecursion P xs → AllByRecursion Q xs
   all_map P Q [] turn all = tt
   all_map P Q (x ∷ xs) turn all = (turn x all.0, all_map P Q xs turn all.1)
 
-  pub depths_are : (depths : List ℕ) → AreDepths p table round s.members s.halves depths → (v : ℕ) → IsVertex p v → get_or depths v 0 ≡ depth (reach p table) s smaller v
+  pub depths_are : (depths : List ℕ) → AreDepths p table enclosing s.members s.halves depths → (v : ℕ) → IsVertex p v → get_or depths v 0 ≡ depth (reach p table) s smaller v
   depths_are depths are v vertex =
       are.each v vertex
-      ∙ depth_is p table round smaller v s.halves s.members
-      (all_map (IsVertex p) (λ w. get_or round w 0 ≡ weight_round smaller w) s.members (λ w. laid.rounds w) bounded.sized.0.vertices)
+      ∙ depth_is p table enclosing smaller v s.halves s.members
+      (all_map (IsVertex p) (λ w. get_or enclosing w 0 ≡ enclosing_weight smaller w) s.members (λ w. laid.each_enclosing w) bounded.sized.0.vertices)
 
   pub members_in : All (IsVertex p) s.members
   members_in = All-from_recursion (IsVertex p) s.members bounded.sized.0.vertices
 
-  pub members_placed : All (λ v. v < length round) s.members
+  pub members_placed : All (λ v. v < length enclosing) s.members
   members_placed k e below = omega (arith, (members_in k e below).in_range, laid.long)
 
-  pub round_small : All (λ v. get_or round v 0 + s.halves ≤ 4000000000000000) s.members
-  round_small k e below =
+  pub enclosing_small : All (λ v. get_or enclosing v 0 + s.halves ≤ 4000000000000000) s.members
+  enclosing_small k e below =
       omega (
         arith,
-        laid.rounds (get_or s.members k e) (members_in k e below),
-        round_most smaller (get_or s.members k e),
+        laid.each_enclosing (get_or s.members k e) (members_in k e below),
+        enclosing_most smaller (get_or s.members k e),
         bounded.small,
         sum_by-cons (λ x. x.halves) s smaller,
       )
@@ -196,11 +196,11 @@ any_push v xs m = list_any-append (λ x. x == v) xs (m ∷ []) ∙ ap (λ b. lis
     or_nil true = refl
     or_nil false = refl
 
-pub round_more : (before now members : List ℕ) (more i : ℕ) → AreDistinct members → i < length members → get_or members i 0 < length now →
+pub enclosing_more : (before now members : List ℕ) (more i : ℕ) → AreDistinct members → i < length members → get_or members i 0 < length now →
     ((v : ℕ) → get_or now v 0 ≡ get_or before v 0 + (if list_any (λ x. x == v) (take i members) then more else 0)) →
     (v : ℕ) → get_or (set now (get_or members i 0) (get_or now (get_or members i 0) 0 + more)) v 0
     ≡ get_or before v 0 + (if list_any (λ x. x == v) (take (i + 1) members) then more else 0)
-round_more before now members more i distinct below placed is v =
+enclosing_more before now members more i distinct below placed is v =
     let m : ℕ = get_or members i 0 in
     let grown : list_any (λ x. x == v) (take (i + 1) members) ≡ (list_any (λ x. x == v) (take i members) || (m == v)) =
     ap (λ (l : List ℕ). list_any (λ x. x == v) l) (take_more members i 0 below) ∙ any_push v (take i members) m in
@@ -224,8 +224,8 @@ round_more before now members more i distinct below placed is v =
     or_last false c none = none
 
 -- what the steps for one set are asked of, and what they give; each list is told by an equation
-module _ (listed : VerticesAreListed) (p : Problem) (odd table : List ℕ) (m : Matching) (i : ℕ) (round : List ℕ) (shores : List Weighted) (valid : IsValid p)
-    (sets : AreSets p odd table m) (below : i < sets_in m) (laid : AreLaid p table (sets_to odd m (len_in m i) i) round shores) where
+module _ (listed : VerticesAreListed) (p : Problem) (odd table : List ℕ) (m : Matching) (i : ℕ) (enclosing : List ℕ) (shores : List Weighted) (valid : IsValid p)
+    (sets : AreSets p odd table m) (below : i < sets_in m) (laid : AreLaid p table (sets_to odd m (len_in m i) i) enclosing shores) where
   abbrev s : OddSet
   s = set_of odd m i
 
@@ -236,45 +236,45 @@ module _ (listed : VerticesAreListed) (p : Problem) (odd table : List ℕ) (m : 
   bounded = own_bounded p odd table m i sets below
 
   pub set_members_in : (ms : List ℕ) → ms ≡ s.members → All (IsVertex p) ms
-  set_members_in ms is = subst (λ (l : List ℕ). All (IsVertex p) l) (sym is) (members_in p table s smaller round shores laid bounded)
+  set_members_in ms is = subst (λ (l : List ℕ). All (IsVertex p) l) (sym is) (members_in p table s smaller enclosing shores laid bounded)
 
   pub set_distinct : (ms : List ℕ) → ms ≡ s.members → AreDistinct ms
   set_distinct ms is = subst AreDistinct (sym is) bounded.sized.0.distinct
 
-  pub set_placed : (ms r : List ℕ) → ms ≡ s.members → r ≡ round → All (λ v. v < length r) ms
+  pub set_placed : (ms r : List ℕ) → ms ≡ s.members → r ≡ enclosing → All (λ v. v < length r) ms
   set_placed ms r is r_is =
       subst (λ (l : List ℕ). All (λ v. v < length r) l) (sym is)
-      (subst (λ (l : List ℕ). All (λ v. v < length l) s.members) (sym r_is) (members_placed p table s smaller round shores laid bounded))
+      (subst (λ (l : List ℕ). All (λ v. v < length l) s.members) (sym r_is) (members_placed p table s smaller enclosing shores laid bounded))
 
-  pub set_small : (ms r : List ℕ) (w : ℕ) → ms ≡ s.members → r ≡ round → w ≡ s.halves → All (λ v. get_or r v 0 + w ≤ 4000000000000000) ms
+  pub set_small : (ms r : List ℕ) (w : ℕ) → ms ≡ s.members → r ≡ enclosing → w ≡ s.halves → All (λ v. get_or r v 0 + w ≤ 4000000000000000) ms
   set_small ms r w is r_is w_is =
       subst (λ (l : List ℕ). All (λ v. get_or r v 0 + w ≤ 4000000000000000) l) (sym is)
       (subst (λ (l : List ℕ). All (λ v. get_or l v 0 + w ≤ 4000000000000000) s.members) (sym r_is)
-      (subst (λ n. All (λ v. get_or round v 0 + n ≤ 4000000000000000) s.members) (sym w_is) (round_small p table s smaller round shores laid bounded)))
+      (subst (λ n. All (λ v. get_or enclosing v 0 + n ≤ 4000000000000000) s.members) (sym w_is) (enclosing_small p table s smaller enclosing shores laid bounded)))
 
   pub set_fits : (w : ℕ) → w ≡ s.halves → all_halves shores + w ≤ 4000000000000000
-  set_fits w w_is = omega (arith, halves_small p table s smaller round shores laid bounded, w_is)
+  set_fits w w_is = omega (arith, halves_small p table s smaller enclosing shores laid bounded, w_is)
 
-  depths_known : (t r ms depths : List ℕ) (w : ℕ) → AreDepths p t r ms w depths → t ≡ table → r ≡ round → ms ≡ s.members → w ≡ s.halves →
+  depths_known : (t r ms depths : List ℕ) (w : ℕ) → AreDepths p t r ms w depths → t ≡ table → r ≡ enclosing → ms ≡ s.members → w ≡ s.halves →
       (v : ℕ) → IsVertex p v → get_or depths v 0 ≡ depth (reach p table) s smaller v
   depths_known t r ms depths w are t_is r_is is w_is =
-      depths_are p table s smaller round shores laid bounded depths
-      (subst (λ (l : List ℕ). AreDepths p l round s.members s.halves depths) t_is
+      depths_are p table s smaller enclosing shores laid bounded depths
+      (subst (λ (l : List ℕ). AreDepths p l enclosing s.members s.halves depths) t_is
       (subst (λ (l : List ℕ). AreDepths p t l s.members s.halves depths) r_is
       (subst (λ (l : List ℕ). AreDepths p t r l s.halves depths) is (subst (λ n. AreDepths p t r ms n depths) w_is are))))
 
-  pub set_sides : (t r ms depths lent : List ℕ) (w : ℕ) → AreDepths p t r ms w depths → t ≡ table → r ≡ round → ms ≡ s.members → w ≡ s.halves → lent ≡ depths →
+  pub set_sides : (t r ms depths lent : List ℕ) (w : ℕ) → AreDepths p t r ms w depths → t ≡ table → r ≡ enclosing → ms ≡ s.members → w ≡ s.halves → lent ≡ depths →
       AreSides p lent w
   set_sides t r ms depths lent w are t_is r_is is w_is lent_is =
       subst (λ (l : List ℕ). AreSides p l w) (sym lent_is)
       (subst (AreSides p depths) (sym w_is)
       (sides_are p (reach p table) s smaller depths valid (depths_known t r ms depths w are t_is r_is is w_is) listed bounded.family bounded.sized))
 
-  pub set_laid : (t r ms depths lent : List ℕ) (w : ℕ) → AreDepths p t r ms w depths → t ≡ table → r ≡ round → ms ≡ s.members → w ≡ s.halves → lent ≡ depths →
-      (after : List Weighted) → Adds p lent 0 w shores after → (now r' ms' : List ℕ) → r' ≡ round → ms' ≡ s.members → length now ≡ length round →
+  pub set_laid : (t r ms depths lent : List ℕ) (w : ℕ) → AreDepths p t r ms w depths → t ≡ table → r ≡ enclosing → ms ≡ s.members → w ≡ s.halves → lent ≡ depths →
+      (after : List Weighted) → Adds p lent 0 w shores after → (now r' ms' : List ℕ) → r' ≡ enclosing → ms' ≡ s.members → length now ≡ length enclosing →
       ((v : ℕ) → get_or now v 0 ≡ get_or r' v 0 + (if list_any (λ x. x == v) ms' then w else 0)) → AreLaid p table (s ∷ smaller) now after
   set_laid t r ms depths lent w are t_is r_is is w_is lent_is after adds now r' ms' r'_is is' long added =
-      laid_more p table s smaller round now depths shores after valid laid (depths_known t r ms depths w are t_is r_is is w_is)
+      laid_more p table s smaller enclosing now depths shores after valid laid (depths_known t r ms depths w are t_is r_is is w_is)
       (subst (λ n. Adds p depths 0 n shores after) w_is (subst (λ (l : List ℕ). Adds p l 0 w shores after) lent_is adds)) long
       (λ v.
       omega (

@@ -3,8 +3,8 @@ use Rattle.std.proofs.Common.{◌≡◌, ℕ, ◌*◌, ◌<◌, ◌≤◌, Bool,
 use Rattle.std.specs.List.{AllByRecursion}
 use Rattle.std.proofs.lemmas.Bool.{cases_lt, cases_Bool, le-leb, lt-leb, leb-true, false≢true}
 use Rattle.carp_base.specs.Problem.{Problem, IsVertex}
-use Rattle.matching_duals.specs.OddSets.{OddSet, holds, weight_round, LiesIn, LiesOutside, IsFamily, StandsIn, is_odd, depth, level}
-use Rattle.matching_duals.proofs.Deep.{depth-least, depth-reached, round-in, between}
+use Rattle.matching_duals.specs.OddSets.{OddSet, holds, enclosing_weight, LiesIn, LiesOutside, IsFamily, StandsIn, is_odd, depth, level}
+use Rattle.matching_duals.proofs.Deep.{depth-least, depth-reached, enclosing-in, between}
 use Rattle.matching_duals.proofs.Packing.{family_rest, near_member}
 
 -- one set of vertices lies in the other, or they share none
@@ -17,9 +17,9 @@ pub all_after : {X : Type 0} (P : X → Type 0) (before rest : List X) (x : X) �
 all_after P [] rest x all = all.0
 all_after P (y ∷ before) rest x all = all_after P before rest x all.1
 
-round_after : (before rest : List OddSet) (v : ℕ) → weight_round rest v ≤ weight_round (before ++ rest) v
-round_after [] rest v = omega arith
-round_after (s ∷ before) rest v = omega (arith, round_after before rest v)
+enclosing_after : (before rest : List OddSet) (v : ℕ) → enclosing_weight rest v ≤ enclosing_weight (before ++ rest) v
+enclosing_after [] rest v = omega arith
+enclosing_after (s ∷ before) rest v = omega (arith, enclosing_after before rest v)
 
 cons_tail : {X : Type 0} (x y : X) (xs ys : List X) → x ∷ xs ≡ y ∷ ys → xs ≡ ys
 cons_tail x y xs ys same = ap (drop 1) same
@@ -64,7 +64,7 @@ module _ (p : Problem) (d : ℕ → ℕ → ℕ) where
 
   -- a vertex in a level of a later set lies near one of that set's members, by the weights of the sets up to it
   inner : (s r : OddSet) (before others : List OddSet) (q x : ℕ) → IsFamily p d (s ∷ (before ++ (r ∷ others))) → q < r.halves → level d r others q x ≡ true →
-      (v : ℕ) × (holds r v ≡ true) × (is_odd p v ≡ true) × (2 * d v x ≤ weight_round (before ++ (r ∷ others)) v)
+      (v : ℕ) × (holds r v ≡ true) × (is_odd p v ≡ true) × (2 * d v x ≤ enclosing_weight (before ++ (r ∷ others)) v)
   inner s r before others q x family below within =
       let low = leb-true (depth d r others x) q within in
       let found = depth-reached d r others x (omega (arith, low, below)) in
@@ -72,7 +72,7 @@ module _ (p : Problem) (d : ℕ → ℕ → ℕ) where
         found.0,
         found.1,
         own.odd.0.each found.0 found.1,
-        omega (arith, low, below, found.2, round_after before (r ∷ others) found.0, round-in r others found.0 found.1),
+        omega (arith, low, below, found.2, enclosing_after before (r ∷ others) found.0, enclosing-in r others found.0 found.1),
       )
 
   lies_within : (s r : OddSet) (before others : List OddSet) (t q x : ℕ) → IsFamily p d (s ∷ (before ++ (r ∷ others))) → LiesIn s r →

@@ -3,8 +3,8 @@ use Rattle.std.proofs.Common.{◌≡◌, ℕ, ◌+◌, ◌-◌, ◌*◌, ◌<◌
 use Rattle.std.proofs.lemmas.Bool.{cases_lt, cases_Bool}
 use Rattle.std.proofs.Math.Nat.{min-eq_left}
 use Rattle.carp_base.specs.Problem.{Problem, IsValid, IsVertex, IsEdgeNumber, edge_at}
-use Rattle.matching_duals.specs.OddSets.{OddSet, holds, weight_round, PackSets, IsFamily, is_odd, depth, levels_over}
-use Rattle.matching_duals.proofs.Deep.{depth-most, depth-least, depth-reached, round-in, round-more, between, between-more, crossed_levels}
+use Rattle.matching_duals.specs.OddSets.{OddSet, holds, enclosing_weight, PackSets, IsFamily, is_odd, depth, levels_over}
+use Rattle.matching_duals.proofs.Deep.{depth-most, depth-least, depth-reached, enclosing-in, enclosing-more, between, between-more, crossed_levels}
 
 -- how far inside the sets a vertex lies, over all sets
 abbrev pub inward : (ℕ → ℕ → ℕ) → List OddSet → ℕ → ℕ
@@ -32,11 +32,11 @@ module _ (p : Problem) (d : ℕ → ℕ → ℕ) where
   pub record HasAnchor (sets : List OddSet) (x : ℕ) : Type 0 where
     pub member : ℕ
     pub is_odd : is_odd p member ≡ true
-    pub near : inward d sets x + 2 * d member x ≤ weight_round sets member
+    pub near : inward d sets x + 2 * d member x ≤ enclosing_weight sets member
 
   -- where x lies within the first set, a member that is near to x by the smaller sets is one of the first set
   pub near_member : (s : OddSet) (sets : List OddSet) (x u : ℕ) → IsVertex p x → IsFamily p d (s ∷ sets) → is_odd p u ≡ true →
-      2 * d u x ≤ weight_round sets u → depth d s sets x < s.halves → holds s u ≡ true
+      2 * d u x ≤ enclosing_weight sets u → depth d s sets x < s.halves → holds s u ≡ true
   near_member s sets x u x_in family u_odd near less =
       elim (cases_Bool (holds s u)) [
         | inl there ↦ there
@@ -67,18 +67,18 @@ module _ (p : Problem) (d : ℕ → ℕ → ℕ) where
       within : depth d s sets x < s.halves → (inward d sets x ≡ 0) ⊎ HasAnchor sets x → (inward d (s ∷ sets) x ≡ 0) ⊎ HasAnchor (s ∷ sets) x
       within less (inl none) =
           let found = depth-reached d s sets x less in
-          inr record { member = found.0; is_odd = family.odd.0.each found.0 found.1; near = omega (arith, none, found.2, less, round-in s sets found.0 found.1) }
+          inr record { member = found.0; is_odd = family.odd.0.each found.0 found.1; near = omega (arith, none, found.2, less, enclosing-in s sets found.0 found.1) }
       within less (inr anchor) =
           let there = near_member s sets x anchor.member x_in family anchor.is_odd (omega (arith, anchor.near)) less in
           inr record {
             member = anchor.member;
             is_odd = anchor.is_odd;
-            near = omega (arith, anchor.near, round-in s sets anchor.member there);
+            near = omega (arith, anchor.near, enclosing-in s sets anchor.member there);
           }
 
       without : s.halves ≤ depth d s sets x → (inward d sets x ≡ 0) ⊎ HasAnchor sets x → (inward d (s ∷ sets) x ≡ 0) ⊎ HasAnchor (s ∷ sets) x
       without all (inl none) = inl (omega (arith, none, all))
-      without all (inr anchor) = inr record { member = anchor.member; is_odd = anchor.is_odd; near = omega (arith, anchor.near, all, round-more s sets anchor.member) }
+      without all (inr anchor) = inr record { member = anchor.member; is_odd = anchor.is_odd; near = omega (arith, anchor.near, all, enclosing-more s sets anchor.member) }
 
   -- two vertices differ by no more than both lie inside
   pub apart-inward : (sets : List OddSet) (a b : ℕ) → apart d sets a b ≤ inward d sets a + inward d sets b

@@ -74,8 +74,8 @@ module _ (listed : VerticesAreListed) (p : Problem) (odd table : List ℕ) (cost
   pub sets_are : AreSets p odd table m
   sets_are = are_sets p odd table costs m valid distances places are least (λ v is. odd_vertex p v valid is)
 
-  module _ (counts round : List ℕ) (shores : List Weighted) (paired : ArePaired p odd table (mate_in m) (length odd) counts)
-      (laid : AreLaid p table (sets_below odd m (length odd + 1)) round shores) where
+  module _ (counts enclosing : List ℕ) (shores : List Weighted) (paired : ArePaired p odd table (mate_in m) (length odd) counts)
+      (laid : AreLaid p table (sets_below odd m (length odd + 1)) enclosing shores) where
     abbrev sets : List OddSet
     sets = sets_below odd m (length odd + 1)
 

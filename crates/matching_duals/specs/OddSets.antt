@@ -28,9 +28,9 @@ abbrev pub separates : OddSet → ℕ → ℕ → Bool
 separates s u v = if holds s u then not (holds s v) else holds s v
 
 -- the weights of the sets that hold the vertex
-abbrev pub weight_round : List OddSet → ℕ → ℕ
-weight_round [] v = 0
-weight_round (s ∷ sets) v = (if holds s v then s.halves else 0) + weight_round sets v
+abbrev pub enclosing_weight : List OddSet → ℕ → ℕ
+enclosing_weight [] v = 0
+enclosing_weight (s ∷ sets) v = (if holds s v then s.halves else 0) + enclosing_weight sets v
 
 -- the weights of the sets that separate the two
 abbrev pub weight_between : List OddSet → ℕ → ℕ → ℕ
@@ -88,7 +88,7 @@ pub record IsOddSized (p : Problem) (s : OddSet) : Type 0 where
 -- the depth of a vertex for a set, cut off below at 0 and above at the weight; `smaller` are the sets after it
 abbrev pub least_depth : (ℕ → ℕ → ℕ) → List OddSet → ℕ → ℕ → List ℕ → ℕ
 least_depth d smaller x most [] = most
-least_depth d smaller x most (v ∷ members) = min (2 * d v x - weight_round smaller v) (least_depth d smaller x most members)
+least_depth d smaller x most (v ∷ members) = min (2 * d v x - enclosing_weight smaller v) (least_depth d smaller x most members)
 
 abbrev pub depth : (ℕ → ℕ → ℕ) → OddSet → List OddSet → ℕ → ℕ
 depth d s smaller x = least_depth d smaller x s.halves s.members

@@ -7,7 +7,7 @@ use Rattle.blossom_match.specs.declared.costs.Costs.{Costs}
 use Rattle.blossom_match.specs.declared.least.Matching.{Matching}
 use Rattle.blossom_match.specs.Answer.{IsListed, IsMatching, halves_in, len_in, member_in, sets_in}
 use Rattle.blossom_match.specs.Table.{IsTable, cost}
-use Rattle.matching_duals.specs.OddSets.{OddSet, IsFamily, IsOddSized, weight_round, set_halves}
+use Rattle.matching_duals.specs.OddSets.{OddSet, IsFamily, IsOddSized, enclosing_weight, set_halves}
 use Rattle.matching_duals.specs.Levels.{AreLevels, AreJoined}
 use Rattle.matching_duals.specs.Paths.{reach}
 
@@ -66,19 +66,19 @@ pub record AreSets (p : Problem) (odd table : List ℕ) (m : Matching) : Type 0 
   pub bounded : (size i : ℕ) → i ≤ sets_in m → IsBounded p table (sets_to odd m size i)
 
 -- the levels of these sets are laid, and the weights round each vertex are known
-pub record AreLaid (p : Problem) (table : List ℕ) (sets : List OddSet) (round : List ℕ) (shores : List Weighted) : Type 0 where
-  pub long : length round ≡ p.vertices + 1
-  pub rounds : (v : ℕ) → IsVertex p v → slice_index round v ≡ weight_round sets v
+pub record AreLaid (p : Problem) (table : List ℕ) (sets : List OddSet) (enclosing : List ℕ) (shores : List Weighted) : Type 0 where
+  pub long : length enclosing ≡ p.vertices + 1
+  pub each_enclosing : (v : ℕ) → IsVertex p v → slice_index enclosing v ≡ enclosing_weight sets v
   pub levels : AreLevels p (reach p table) sets shores
   pub joined : AreJoined shores
 
 -- the least over the members of twice the distance of the vertex whose row starts here, less the weights round the member
 abbrev pub depth_by : List ℕ → ℕ → List ℕ → ℕ → List ℕ → ℕ
-depth_by table start round most [] = most
-depth_by table start round most (v ∷ members) = min (2 * slice_index table (start + v) - slice_index round v) (depth_by table start round most members)
+depth_by table start enclosing most [] = most
+depth_by table start enclosing most (v ∷ members) = min (2 * slice_index table (start + v) - slice_index enclosing v) (depth_by table start enclosing most members)
 
 -- the depth of each vertex for a set
-pub record AreDepths (p : Problem) (table round members : List ℕ) (most : ℕ) (depths : List ℕ) : Type 0 where
+pub record AreDepths (p : Problem) (table enclosing members : List ℕ) (most : ℕ) (depths : List ℕ) : Type 0 where
   pub long : length depths ≡ p.vertices + 1
-  pub each : (x : ℕ) → IsVertex p x → slice_index depths x ≡ depth_by table (x * (p.vertices + 1)) round most members
+  pub each : (x : ℕ) → IsVertex p x → slice_index depths x ≡ depth_by table (x * (p.vertices + 1)) enclosing most members
   pub low : (k : ℕ) → slice_index depths k ≤ most

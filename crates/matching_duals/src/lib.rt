@@ -1,5 +1,7 @@
 //! The least cost of making every vertex even, and sets of vertices that show it (Edmonds and Johnson 1973).
 //!
+//! In the field: a least T-join, with a dual solution of odd cuts (Edmonds and Johnson 1973).
+//!
 //! The deadheads of a lawful plan, with the required edges, end an even number of times at each vertex. So each plan
 //! pays at least the least cost of deadheads that do so ([`plans_pay_joins`]). [`join_bound`] gives this cost, such
 //! deadheads, and sets of vertices with weights that show that no others cost less ([`shores_bound_joins`]).

@@ -18,7 +18,7 @@ use std::alloc::Global;
 // The weights of the sets laid so far that hold each vertex, and the shores of their levels.
 #[derive(Drop)]
 pub(crate) struct Laying {
-    round: Vec<u64>,
+    enclosing: Vec<u64>,
     pub(crate) shores: Vec<Weighted>,
 }
 
@@ -42,14 +42,14 @@ fn list_members(
 }
 
 // Adds a weight round each of some vertices.
-fn add_round(round: &mut [u64], members: &[u32], more: u64)
+fn add_enclosing(enclosing: &mut [u64], members: &[u32], more: u64)
     requires distinct { AreDistinct members.now }
-    requires members { All (λ v. v < length round.old) members.now }
-    requires small { All (λ v. slice_index round.old v + more ≤ 4000000000000000) members.now }
-    ensures { (v : ℕ) → slice_index round.new v ≡ slice_index round.old v + (if list_any (λ x. x == v) members.now then more else 0) }
+    requires members { All (λ v. v < length enclosing.old) members.now }
+    requires small { All (λ v. slice_index enclosing.old v + more ≤ 4000000000000000) members.now }
+    ensures { (v : ℕ) → slice_index enclosing.new v ≡ slice_index enclosing.old v + (if list_any (λ x. x == v) members.now then more else 0) }
 {
     for i in 0..members.len() {
-        round[members[i] as usize] += more;
+        enclosing[members[i] as usize] += more;
     }
 }
 
@@ -65,16 +65,23 @@ fn lay_set(
     requires set { i < sets_in matching.now }
     requires reaches { AreReaches inst.now ground.now.table.items }
     requires sets { AreSets inst.now ground.now.odd.items ground.now.table.items matching.now }
-    requires laid { AreLaid inst.now ground.now.table.items (sets_to ground.now.odd.items matching.now (len_in matching.now i) i) laying.old.round.items laying.old.shores.items }
-    ensures { OnOk result (AreLaid inst.now ground.now.table.items (set_of ground.now.odd.items matching.now i ∷ sets_to ground.now.odd.items matching.now (len_in matching.now i) i) laying.new.round.items laying.new.shores.items) }
+    requires laid { AreLaid inst.now ground.now.table.items (sets_to ground.now.odd.items matching.now (len_in matching.now i) i) laying.old.enclosing.items laying.old.shores.items }
+    ensures { OnOk result (AreLaid inst.now ground.now.table.items (set_of ground.now.odd.items matching.now i ∷ sets_to ground.now.odd.items matching.now (len_in matching.now i) i) laying.new.enclosing.items laying.new.shores.items) }
 {
     vertices_are_listed();
     let _ = inst.vertices();
     let weight = matching.halves(i);
     let members = list_members(alloc, &ground.odd, matching, i)?;
-    let depths = depths_of(alloc, inst, &ground.table, &laying.round, weight, &members)?;
+    let depths = depths_of(
+        alloc,
+        inst,
+        &ground.table,
+        &laying.enclosing,
+        weight,
+        &members,
+    )?;
     add_levels(alloc, inst, &depths, weight, &mut laying.shores)?;
-    add_round(&mut laying.round, &members, weight);
+    add_enclosing(&mut laying.enclosing, &members, weight);
     Ok(())
 }
 
@@ -91,8 +98,8 @@ fn lay_where(
     requires set { i < sets_in matching.now }
     requires reaches { AreReaches inst.now ground.now.table.items }
     requires sets { AreSets inst.now ground.now.odd.items ground.now.table.items matching.now }
-    requires laid { AreLaid inst.now ground.now.table.items (sets_to ground.now.odd.items matching.now size i) laying.old.round.items laying.old.shores.items }
-    ensures { OnOk result (AreLaid inst.now ground.now.table.items (sets_to ground.now.odd.items matching.now size (i + 1)) laying.new.round.items laying.new.shores.items) }
+    requires laid { AreLaid inst.now ground.now.table.items (sets_to ground.now.odd.items matching.now size i) laying.old.enclosing.items laying.old.shores.items }
+    ensures { OnOk result (AreLaid inst.now ground.now.table.items (sets_to ground.now.odd.items matching.now size (i + 1)) laying.new.enclosing.items laying.new.shores.items) }
 {
     if matching.set_len(i) == size {
         lay_set(alloc, inst, ground, matching, i, laying)?;
@@ -111,8 +118,8 @@ fn lay_size(
 ) -> Result<(), Memory>
     requires reaches { AreReaches inst.now ground.now.table.items }
     requires sets { AreSets inst.now ground.now.odd.items ground.now.table.items matching.now }
-    requires laid { AreLaid inst.now ground.now.table.items (sets_below ground.now.odd.items matching.now size) laying.old.round.items laying.old.shores.items }
-    ensures { OnOk result (AreLaid inst.now ground.now.table.items (sets_below ground.now.odd.items matching.now (size + 1)) laying.new.round.items laying.new.shores.items) }
+    requires laid { AreLaid inst.now ground.now.table.items (sets_below ground.now.odd.items matching.now size) laying.old.enclosing.items laying.old.shores.items }
+    ensures { OnOk result (AreLaid inst.now ground.now.table.items (sets_below ground.now.odd.items matching.now (size + 1)) laying.new.enclosing.items laying.new.shores.items) }
 {
     for i in 0..matching.sets() {
         lay_where(alloc, inst, ground, matching, size, i, laying)?;
@@ -129,10 +136,10 @@ pub(crate) fn lay_sets(
 ) -> Result<Laying, Memory>
     requires reaches { AreReaches inst.now ground.now.table.items }
     requires sets { AreSets inst.now ground.now.odd.items ground.now.table.items matching.now }
-    ensures { IfOk result (λ laying. AreLaid inst.now ground.now.table.items (sets_below ground.now.odd.items matching.now (length ground.now.odd.items + 1)) laying.round.items laying.shores.items) }
+    ensures { IfOk result (λ laying. AreLaid inst.now ground.now.table.items (sets_below ground.now.odd.items matching.now (length ground.now.odd.items + 1)) laying.enclosing.items laying.shores.items) }
 {
     let mut laying = Laying {
-        round: vec![in alloc; 0; inst.vertices() as usize + 1]?,
+        enclosing: vec![in alloc; 0; inst.vertices() as usize + 1]?,
         shores: Vec::new(alloc),
     };
     for size in 0..ground.odd.len() + 1 {

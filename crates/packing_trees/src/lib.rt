@@ -1,5 +1,8 @@
 //! Trees that prove how many groups every packing of the required edges takes at least.
 //!
+//! In the field: branch-and-bound trees of bin packing, which branch on two items together or apart (Ryan and
+//! Foster 1981).
+//!
 //! A packing gives each required edge a group that one vehicle carries. A tree splits all packings by whether two edges
 //! lie in one group ([`PackNode`], [`PackChoice`]). At each leaf the edges that are together make bundles
 //! ([`Bundles`]), whose weights bound the number of groups from below. [`check_pack`] checks a packing with such a

@@ -1,5 +1,7 @@
 //! Walks and plans of an instance, what makes a plan lawful, and what it costs.
 //!
+//! In the field: solutions, which are lists of routes, and the test that a solution is feasible.
+//!
 //! A [`Plan`] is a list of [`Walk`]s, and a walk is a list of [`Step`]s. Contracts see plain lists. [`judge`] tells
 //! what is first wrong with a plan, or what it costs if it is lawful. [`Proposer`] is the interface of a helper that
 //! offers plans.

@@ -9,15 +9,15 @@ ghost use Rattle.price_ascent.specs.Points.{AreServicePrices, IsActive, IsPoint,
 
 use crate::active::{Active, is_among};
 use crate::numbers::number_at;
-use crate::pace::{Pace, Turn};
 use crate::scoring::{Point, Scored, Town, score};
 use crate::setting_out::first_point;
 use crate::slopes::{Slopes, Step, mixed};
+use crate::step_size::{StepSize, Turn};
 use crate::touring::Cover;
 use carp_base::{Instance, Memory};
 use cut_pool::Shore;
 use route_pricing::Table;
-use shore_search::{Effort, Search};
+use shore_search::{Effort, ShoreSearch};
 use std::alloc::Global;
 
 // Shores are searched for once in so many steps, so many at most, of which so many new ones are added.
@@ -37,11 +37,11 @@ pub(crate) struct Ascent {
     value: i128,
     point: Point,
     summit: Point,
-    pace: Pace,
+    step_size: StepSize,
     slopes: Slopes,
     // The deadheads of the tours so far, of which later ones count for more.
     deadheads: Vec<i64>,
-    search: Search,
+    search: ShoreSearch,
 }
 
 impl Ascent {
@@ -76,10 +76,10 @@ impl Ascent {
             value,
             point,
             summit,
-            pace: Pace::new(),
+            step_size: StepSize::new(),
             slopes: Slopes::new(alloc),
             deadheads: Vec::new(alloc),
-            search: Search::new(),
+            search: ShoreSearch::new(),
         }))
     }
 
@@ -128,7 +128,7 @@ impl Ascent {
             cover,
         } = scored;
         self.keep(town.inst, point, value);
-        match self.pace.take(value) {
+        match self.step_size.take(value) {
             Turn::End => Ok(false),
             Turn::Back => self.go_back(alloc, town.inst),
             Turn::Record => {
@@ -203,7 +203,7 @@ impl Ascent {
         let latest = Slopes::of(alloc, inst, &self.actives, weights, cover)?;
         let slopes = self.slopes.turned(alloc, &latest)?;
         let step = Step::new(
-            self.pace.gap(value),
+            self.step_size.next_length(value),
             slopes.squares(weights),
             latest.squares(weights),
         );

@@ -1,11 +1,13 @@
 //! Price sets that an ascent along relaxed tours proposes.
 //!
+//! In the field: the subgradient method on the Lagrangian dual (Held and Karp 1971).
+//!
 //! The price of a service and the weights of shores are multipliers of the two kinds of constraints that tours meet
 //! together: each required edge is served once, and over each shore there are as many deadheads as it needs. [`ascend`]
 //! moves both at once along what relaxed tours serve and cross. It only proposes: the pricing table says whether a set
 //! fits.
 //!
-//! - `climbing`: the steps, with `pace` (their length, and when the ascent turns back or ends) and `slopes` (their
+//! - `climbing`: the steps, with `step_size` (their length, and when the ascent turns back or ends) and `slopes` (their
 //!   direction).
 //! - `scoring`: a point made one that pays, with `scaling` (weights that no street is overloaded by) and `touring`
 //!   (what tours cross).
@@ -18,12 +20,12 @@ mod active;
 mod ascending;
 mod climbing;
 mod numbers;
-mod pace;
 mod placing;
 mod scaling;
 mod scoring;
 mod setting_out;
 mod slopes;
+mod step_size;
 mod touring;
 
 pub use ascending::ascend;

@@ -12,7 +12,7 @@ pub(crate) const PARTS: i64 = 1 << 20;
 const MOST: i128 = 1_000_000_000_000_000;
 
 /// The number itself if it is within the range, and else the border of the range.
-pub(crate) fn held(number: i128) -> i64
+pub(crate) fn clamped(number: i128) -> i64
     ensures { IsServicePrice result }
 {
     number.clamp(-MOST, MOST) as i64

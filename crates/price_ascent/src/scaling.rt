@@ -4,7 +4,7 @@ ghost use Rattle.deadhead_paths.specs.Prices.{ArePrices};
 ghost use Rattle.route_pricing.specs.Pricing.{IsServicePrice};
 
 use crate::active::Active;
-use crate::numbers::{UNIT, held, number_at};
+use crate::numbers::{UNIT, clamped, number_at};
 use carp_base::{Edge, Instance, Memory};
 use std::alloc::Global;
 
@@ -43,7 +43,9 @@ impl Strain {
         if self.load <= self.room {
             weight
         } else {
-            held(i128::from(weight).saturating_mul(i128::from(self.room)) / i128::from(self.load))
+            clamped(
+                i128::from(weight).saturating_mul(i128::from(self.room)) / i128::from(self.load),
+            )
         }
     }
 }

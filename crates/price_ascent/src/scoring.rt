@@ -7,7 +7,7 @@ ghost use Rattle.route_pricing.specs.Values.{IsRate};
 ghost use Rattle.price_ascent.specs.Points.{AreServicePrices, IsFilledOn, IsPoint, IsTown};
 
 use crate::active::Active;
-use crate::numbers::{PARTS, UNIT, floor, held, number_at};
+use crate::numbers::{PARTS, UNIT, clamped, floor, number_at};
 use crate::scaling::{deadhead_prices, eased_weights};
 use crate::touring::{Cover, best_tour, excess_over, load_of, tour_over};
 use carp_base::{Allowed, Instance, Memory};
@@ -110,7 +110,7 @@ fn paying_price(inst: &Instance, table: &Table, prices: &[i64], e: u32, rate: Ra
     let share = floor(rate.value.saturating_mul(demand), rate.load);
     let spare = floor(excess.max(0), rate.load);
     let more = floor(spare.saturating_mul(demand), inst.capacity());
-    held(i128::from(price).saturating_add(share).saturating_add(more))
+    clamped(i128::from(price).saturating_add(share).saturating_add(more))
 }
 
 // What the least tours serve and cross: the one through each edge counts by the edge's part of a vehicle, and what is left of the

@@ -4,7 +4,7 @@ ghost use Rattle.carp_base.specs.Problem.{IsRequired};
 ghost use Rattle.route_pricing.specs.Pricing.{IsServicePrice};
 ghost use Rattle.price_ascent.specs.Points.{AreServicePrices, IsPoint, IsTown};
 
-use crate::numbers::{UNIT, floor, held, quotient};
+use crate::numbers::{UNIT, clamped, floor, quotient};
 use crate::scoring::{Point, Town};
 use branch_rules::PriceSet;
 use carp_base::{Instance, Memory};
@@ -39,7 +39,7 @@ fn start_price(set: &PriceSet, e: u32) -> i64
     ensures { IsServicePrice result }
 {
     let whole = i128::from(set.service(e)).saturating_mul(i128::from(UNIT));
-    held(floor(whole, set.unit()))
+    clamped(floor(whole, set.unit()))
 }
 
 fn start_weights(alloc: Global, set: &PriceSet) -> Result<Vec<i64>, Memory>
@@ -57,7 +57,7 @@ fn start_weight(set: &PriceSet, place: usize) -> i64
     ensures { IsServicePrice result }
 {
     let whole = i128::from(set.weight(place).weight).saturating_mul(i128::from(UNIT));
-    held(quotient(whole, i128::from(set.unit())))
+    clamped(quotient(whole, i128::from(set.unit())))
 }
 
 /// The point where an ascent sets out: half of the weights, and half of what each edge is to pay if full vehicles drive
@@ -104,7 +104,7 @@ fn first_price(inst: &Instance, dist: &Distances, e: u32) -> i64
         inst.capacity(),
     );
     let half = share.saturating_sub(unit.saturating_mul(i128::from(edge.cost)) / 2) / 2;
-    held(half.saturating_add(unit.saturating_mul(i128::from(edge.service))))
+    clamped(half.saturating_add(unit.saturating_mul(i128::from(edge.service))))
 }
 
 fn halves(alloc: Global, weights: &[i64]) -> Result<Vec<i64>, Memory>
@@ -126,6 +126,6 @@ fn half_of(weight: i64) -> i64
     if weight < 0 {
         weight
     } else {
-        held(i128::from(weight) / 2)
+        clamped(i128::from(weight) / 2)
     }
 }

@@ -4,7 +4,7 @@ ghost use Rattle.route_pricing.specs.Pricing.{IsServicePrice};
 ghost use Rattle.price_ascent.specs.Points.{AreServicePrices, IsActive, IsPoint};
 
 use crate::active::Active;
-use crate::numbers::{PARTS, held, number_at, quotient};
+use crate::numbers::{PARTS, clamped, number_at, quotient};
 use crate::scoring::Point;
 use crate::touring::Cover;
 use carp_base::{Instance, Memory};
@@ -143,7 +143,7 @@ pub(crate) fn mixed(alloc: Global, old: &[i64], new: &[i64]) -> Result<Vec<i64>,
 }
 
 fn mix(before: i64, new: i64) -> i64 {
-    held(
+    clamped(
         i128::from(before)
             .saturating_mul(9)
             .saturating_add(i128::from(new))
@@ -184,7 +184,7 @@ fn moved_price(prices: &[i64], slopes: &[i64], step: Step, place: usize) -> i64
     ensures { IsServicePrice result }
 {
     let rise = step.rise(number_at(slopes, place));
-    held(rise.saturating_add(i128::from(number_at(prices, place))))
+    clamped(rise.saturating_add(i128::from(number_at(prices, place))))
 }
 
 // The weights, moved along their slopes and not below 0; those below 0 stay.
@@ -211,6 +211,6 @@ fn moved_weight(weight: i64, rise: i128) -> i64
     if weight < 0 {
         weight
     } else {
-        held(rise.saturating_add(i128::from(weight)).max(0))
+        clamped(rise.saturating_add(i128::from(weight)).max(0))
     }
 }

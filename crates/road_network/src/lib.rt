@@ -1,5 +1,7 @@
 //! The edges at each vertex of an instance, and which vertices the depot reaches.
 //!
+//! In the field: the graph of an instance as adjacency lists.
+//!
 //! A [`Network`] is made once for an instance, in time and space in proportion to its vertices and edges. Its answers
 //! then take constant time and no memory.
 //!

@@ -1,4 +1,4 @@
 pub mod Boards
 pub mod Tables
-pub mod Search
+pub mod Annealing
 pub mod Examples

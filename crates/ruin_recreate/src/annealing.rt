@@ -1,8 +1,8 @@
-// Annealing: the round is varied, and the trial taken up where it is dearer by no more than a limit that falls.
+// Annealing: the sequence is varied, and the trial taken up where it is dearer by no more than a limit that falls.
 ghost use Rattle.std.specs.Prelude.{◌≡◌, ◌<◌, ◌≤◌, IfOk, OnOk, length};
 ghost use Rattle.std.specs.List.{All};
 ghost use Rattle.ruin_recreate.specs.Boards.{IsBoard};
-ghost use Rattle.ruin_recreate.specs.Search.{IsSearchOn};
+ghost use Rattle.ruin_recreate.specs.Annealing.{IsAnnealingOn};
 
 use crate::board::Board;
 use crate::draws::draw;
@@ -10,48 +10,48 @@ use crate::neighbours::{Neighbours, neighbours};
 use crate::ordering::order;
 use crate::pricing::{fine_of, first_price, next_price};
 use crate::recreating::put;
-use crate::rounds::Round;
 use crate::ruining::{Ruin, locate};
+use crate::sequences::Sequence;
 use carp_base::Memory;
 use rand_pcg::Lcg64Xsh32;
 use std::alloc::Global;
 use std::mem;
 
-// After so many steps the price of load follows how many of their rounds were lawful.
+// After so many steps the price of load follows how many of their sequences were lawful.
 const STEPS_AT_A_PRICE: u32 = 16;
 
-// What a search works on.
+// What an annealing works on.
 #[derive(Drop)]
-pub(crate) struct Search {
+pub(crate) struct Annealing {
     near: Vec<Neighbours>,
     ruin: Ruin,
-    pub(crate) current: Round,
-    trial: Round,
-    // The load above the room in the current round.
+    pub(crate) current: Sequence,
+    trial: Sequence,
+    // The load above the room in the current sequence.
     excess: u64,
-    // The cheapest lawful round so far.
+    // The cheapest lawful sequence so far.
     pub(crate) top: Vec<u32>,
     top_cost: u64,
-    // What the first round has to cross without service for each service, and 1 more.
+    // What the first sequence has to cross without service for each service, and 1 more.
     scale: u64,
     // What a unit of load above the room costs, in 256ths.
     price: u64,
 }
 
-impl Search {
-    pub(crate) fn new(alloc: Global, board: &Board, start: Vec<u32>) -> Result<Search, Memory>
+impl Annealing {
+    pub(crate) fn new(alloc: Global, board: &Board, start: Vec<u32>) -> Result<Annealing, Memory>
         requires board { IsBoard board.now }
         requires within { All (λ x. x < board.now.width) start.items }
-        ensures { IfOk result (IsSearchOn board.now.width) }
+        ensures { IfOk result (IsAnnealingOn board.now.width) }
     {
-        let mut current = Round::new(alloc, board.width)?;
+        let mut current = Sequence::new(alloc, board.width)?;
         current.read(board, &start)?;
         let top_cost = current.deadheads;
-        Ok(Search {
+        Ok(Annealing {
             near: neighbours(alloc, board)?,
             ruin: Ruin::new(alloc, board.width)?,
             current,
-            trial: Round::new(alloc, board.width)?,
+            trial: Sequence::new(alloc, board.width)?,
             excess: 0,
             top: start,
             top_cost,
@@ -60,17 +60,17 @@ impl Search {
         })
     }
 
-    // Notes what is read of the current round.
+    // Notes what is read of the current sequence.
     fn survey(&mut self, board: &Board)
         requires board { IsBoard board.now }
-        requires search { IsSearchOn board.now.width self.old }
-        ensures { IsSearchOn board.now.width self.new }
+        requires annealing { IsAnnealingOn board.now.width self.old }
+        ensures { IsAnnealingOn board.now.width self.new }
     {
         self.excess = self.current.excess(board.room);
         locate(&self.current, &mut self.ruin.places);
     }
 
-    // Makes the trial: some services of the current round are taken out and put back.
+    // Makes the trial: some services of the current sequence are taken out and put back.
     fn vary(
         &mut self,
         board: &Board,
@@ -79,9 +79,9 @@ impl Search {
     ) -> Result<(), Memory>
         requires board { IsBoard board.now }
         requires some { 4 ≤ board.now.width }
-        requires search { IsSearchOn board.now.width self.old }
+        requires annealing { IsAnnealingOn board.now.width self.old }
         requires costs { length costs.now ≡ board.now.width }
-        ensures { OnOk result (IsSearchOn board.now.width self.new) }
+        ensures { OnOk result (IsAnnealingOn board.now.width self.new) }
     {
         self.ruin
             .take_out(board, &self.current, &self.near, generator)?;
@@ -95,7 +95,7 @@ impl Search {
         Ok(())
     }
 
-    // Whether the trial costs no more than the current round and a limit, which is in 256ths and is rounded at random.
+    // Whether the trial costs no more than the current sequence and a limit, which is in 256ths and is rounded at random.
     fn takes(&self, board: &Board, limit: u64, generator: &mut Lcg64Xsh32) -> bool {
         let trial_fine = fine_of(self.price, self.trial.excess(board.room));
         let fine = fine_of(self.price, self.excess);
@@ -108,11 +108,11 @@ impl Search {
                 .saturating_add(rise)
     }
 
-    // Makes the trial the current round, and notes it where it is the cheapest.
+    // Makes the trial the current sequence, and notes it where it is the cheapest.
     fn take(&mut self, board: &Board) -> Result<(), Memory>
         requires board { IsBoard board.now }
-        requires search { IsSearchOn board.now.width self.old }
-        ensures { OnOk result (IsSearchOn board.now.width self.new) }
+        requires annealing { IsAnnealingOn board.now.width self.old }
+        ensures { OnOk result (IsAnnealingOn board.now.width self.new) }
     {
         mem::swap(&mut self.current, &mut self.trial);
         self.survey(board);
@@ -123,7 +123,7 @@ impl Search {
         Ok(())
     }
 
-    // One annealing, of so many steps, from the current round.
+    // One annealing, of so many steps, from the current sequence.
     pub(crate) fn anneal(
         &mut self,
         board: &Board,
@@ -133,9 +133,9 @@ impl Search {
     ) -> Result<(), Memory>
         requires board { IsBoard board.now }
         requires some { 4 ≤ board.now.width }
-        requires search { IsSearchOn board.now.width self.old }
+        requires annealing { IsAnnealingOn board.now.width self.old }
         requires costs { length costs.now ≡ board.now.width }
-        ensures { OnOk result (IsSearchOn board.now.width self.new) }
+        ensures { OnOk result (IsAnnealingOn board.now.width self.new) }
     {
         self.survey(board);
         self.price = first_price(board, self.scale);

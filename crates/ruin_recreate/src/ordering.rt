@@ -2,7 +2,7 @@
 ghost use Rattle.std.specs.Prelude.{◌<◌};
 ghost use Rattle.std.specs.List.Sorted.{IsPermutation};
 ghost use Rattle.ruin_recreate.specs.Boards.{IsBoard};
-ghost use Rattle.ruin_recreate.specs.Search.{AreOn};
+ghost use Rattle.ruin_recreate.specs.Annealing.{AreOn};
 
 use crate::board::Board;
 use crate::draws::draw;

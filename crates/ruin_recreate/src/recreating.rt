@@ -2,10 +2,10 @@
 ghost use Rattle.std.specs.Prelude.{◌≡◌, ◌^◌, ◌<◌, ◌≤◌, OnOk, length};
 ghost use Rattle.std.specs.List.{All};
 ghost use Rattle.ruin_recreate.specs.Boards.{IsBoard};
-ghost use Rattle.ruin_recreate.specs.Search.{IsGapOn, IsRoundOn};
+ghost use Rattle.ruin_recreate.specs.Annealing.{IsConnectionOn, IsSequenceOn};
 
 use crate::board::Board;
-use crate::rounds::{Gap, Round};
+use crate::sequences::{Connection, Sequence};
 use carp_base::Memory;
 
 // A service that is put back.
@@ -19,7 +19,7 @@ struct Service<'a> {
     crossing: u32,
 }
 
-// A gap of a tour, and whether the service goes there in its other direction.
+// A connection of a tour, and whether the service goes there in its other direction.
 #[derive(Clone, Copy)]
 struct Seat {
     tour: usize,
@@ -28,7 +28,7 @@ struct Seat {
 }
 
 // A seat for a service, or a tour of its own, and what it costs there: the deadheads that it adds, the fine for loads above
-// the room, and a crossing of its edge. With that crossing it is never below 0: by way of the edge one comes over the gap, and
+// the room, and a crossing of its edge. With that crossing it is never below 0: by way of the edge one comes over the connection, and
 // so for no less than its price.
 #[derive(Clone, Copy)]
 struct Offer {
@@ -43,33 +43,33 @@ fn fine(load: u32, demand: u32, room: u32, price: u64) -> u64 {
     price.saturating_mul(after - before) / 256
 }
 
-// The best of an offer and the gaps of a tour, each of which costs so much besides its deadheads.
+// The best of an offer and the connections of a tour, each of which costs so much besides its deadheads.
 fn best_in_tour(
-    gaps: &[Gap],
+    connections: &[Connection],
     places: (usize, usize),
     service: Service,
     tour: usize,
     extra: u64,
     best: Offer,
 ) -> Offer
-    requires ahead { All (IsGapOn (length service.ahead.now)) gaps.now }
+    requires ahead { All (IsConnectionOn (length service.ahead.now)) connections.now }
     requires back { length service.back.now ≡ length service.ahead.now }
-    requires end { places.1 ≤ length gaps.now }
+    requires end { places.1 ≤ length connections.now }
     requires extra { extra ≤ 2 ^ 41 }
     requires best { best.cost ≤ 2 ^ 40 }
     ensures { result.cost ≤ 2 ^ 40 }
 {
     let mut best = best;
     for place in places.0..places.1 {
-        let gap = gaps[place];
-        let to = gap.to as usize;
-        let turned = gap.turned as usize;
+        let connection = connections[place];
+        let to = connection.to as usize;
+        let turned = connection.turned as usize;
         let ahead = u64::from(service.ahead[to]) + u64::from(service.back[turned]);
         let back = u64::from(service.back[to]) + u64::from(service.ahead[turned]);
         let cost = ahead.min(back) + extra;
-        if cost < best.cost + u64::from(gap.price) {
+        if cost < best.cost + u64::from(connection.price) {
             best = Offer {
-                cost: cost.saturating_sub(u64::from(gap.price)),
+                cost: cost.saturating_sub(u64::from(connection.price)),
                 seat: Some(Seat {
                     tour,
                     place,
@@ -82,9 +82,9 @@ fn best_in_tour(
 }
 
 // The best offer for a service: a tour of its own, or a seat in a tour whose fine alone is less than the best so far.
-fn best_offer(board: &Board, round: &Round, service: Service, price: u64) -> Offer
+fn best_offer(board: &Board, sequence: &Sequence, service: Service, price: u64) -> Offer
     requires board { IsBoard board.now }
-    requires round { IsRoundOn board.now.width round.now }
+    requires sequence { IsSequenceOn board.now.width sequence.now }
     requires stop { service.stop < board.now.width }
     requires ahead { length service.ahead.now ≡ board.now.width }
     requires back { length service.back.now ≡ board.now.width }
@@ -95,12 +95,19 @@ fn best_offer(board: &Board, round: &Round, service: Service, price: u64) -> Off
         cost: u64::from(service.ahead[0]) + u64::from(service.back[0]) + crossing,
         seat: None,
     };
-    for tour in 0..round.tours.len() {
-        let open = round.tours[tour];
+    for tour in 0..sequence.tours.len() {
+        let open = sequence.tours[tour];
         let fine = fine(open.load, demand, board.room, price);
         if fine < best.cost {
-            let places = (open.first, round.end(tour));
-            best = best_in_tour(&round.gaps, places, service, tour, fine + crossing, best);
+            let places = (open.first, sequence.end(tour));
+            best = best_in_tour(
+                &sequence.connections,
+                places,
+                service,
+                tour,
+                fine + crossing,
+                best,
+            );
         }
     }
     best
@@ -110,15 +117,15 @@ fn best_offer(board: &Board, round: &Round, service: Service, price: u64) -> Off
 pub(crate) fn put(
     board: &Board,
     costs: &[u32],
-    round: &mut Round,
+    sequence: &mut Sequence,
     price: u64,
     stop: u32,
 ) -> Result<(), Memory>
     requires board { IsBoard board.now }
     requires costs { length costs.now ≡ board.now.width }
-    requires round { IsRoundOn board.now.width round.old }
+    requires sequence { IsSequenceOn board.now.width sequence.old }
     requires stop { stop < board.now.width }
-    ensures { OnOk result (IsRoundOn board.now.width round.new) }
+    ensures { OnOk result (IsSequenceOn board.now.width sequence.new) }
 {
     let turned = board.turn(stop);
     let service = Service {
@@ -127,11 +134,11 @@ pub(crate) fn put(
         back: board.row(turned),
         crossing: costs[stop as usize],
     };
-    match best_offer(board, round, service, price).seat {
-        None => round.open_tour(board, stop),
+    match best_offer(board, sequence, service, price).seat {
+        None => sequence.open_tour(board, stop),
         Some(seat) => {
             let stop = if seat.turned { turned } else { stop };
-            round.insert(board, stop, seat.tour, seat.place)
+            sequence.insert(board, stop, seat.tour, seat.place)
         }
     }
 }

@@ -1,12 +1,12 @@
 // Taking strings of services out of the tours near one another.
 ghost use Rattle.std.specs.Prelude.{◌≡◌, ℕ, ◌+◌, ◌/◌, ◌<◌, ◌≤◌, IfOk, OnOk, length};
 ghost use Rattle.ruin_recreate.specs.Boards.{IsBoard};
-ghost use Rattle.ruin_recreate.specs.Search.{IsRoundOn, IsRuinOn};
+ghost use Rattle.ruin_recreate.specs.Annealing.{IsSequenceOn, IsRuinOn};
 
 use crate::board::Board;
 use crate::draws::draw;
 use crate::neighbours::Neighbours;
-use crate::rounds::Round;
+use crate::sequences::Sequence;
 use carp_base::Memory;
 use rand_pcg::Lcg64Xsh32;
 use std::alloc::Global;
@@ -24,22 +24,24 @@ pub(crate) struct Removed {
     pub(crate) key: u32,
 }
 
-// Notes where each edge is served: the place of the gap before it.
-pub(crate) fn locate(round: &Round, places: &mut [usize]) {
-    for (place, gap) in round.gaps.iter().enumerate() {
-        if let Some(noted) = places.get_mut(gap.to as usize / 2) {
+// Notes where each edge is served: the place of the connection before it.
+pub(crate) fn locate(sequence: &Sequence, places: &mut [usize]) {
+    for (place, connection) in sequence.connections.iter().enumerate() {
+        if let Some(noted) = places.get_mut(connection.to as usize / 2) {
             *noted = place;
         }
     }
 }
 
 // The greatest length of a string: no more than a tour serves on average.
-fn longest(board: &Board, round: &Round) -> u32
+fn longest(board: &Board, sequence: &Sequence) -> u32
     requires { IsBoard board.now }
     ensures some { 1 ≤ result }
     ensures few { result ≤ 5 }
 {
-    let tours = u32::try_from(round.tours.len()).unwrap_or(u32::MAX).max(1);
+    let tours = u32::try_from(sequence.tours.len())
+        .unwrap_or(u32::MAX)
+        .max(1);
     (board.edges() / tours).clamp(1, LONGEST)
 }
 
@@ -51,14 +53,14 @@ fn strings(longest: u32) -> u32
     (4 * AVERAGE / (1 + longest)).max(2) - 1
 }
 
-// What is taken out of a round.
+// What is taken out of a sequence.
 #[derive(Drop)]
 pub(crate) struct Ruin {
-    // Where each edge is served: the place of the gap before it.
+    // Where each edge is served: the place of the connection before it.
     pub(crate) places: Vec<usize>,
     // Which edges are taken out.
     pub(crate) gone: Vec<bool>,
-    // Their services, as they stood in the round.
+    // Their services, as they stood in the sequence.
     pub(crate) removed: Vec<Removed>,
 }
 
@@ -74,12 +76,15 @@ impl Ruin {
     }
 
     // Where a string begins: so many services before an edge, or at the start of its tour.
-    fn start(&self, round: &Round, edge: u32, back: u32) -> usize
+    fn start(&self, sequence: &Sequence, edge: u32, back: u32) -> usize
         requires { edge < length self.now.places.items }
     {
         let mut place = self.places[edge as usize];
         for _ in 0..back {
-            if place == 0 || place > round.gaps.len() || round.gaps[place - 1].to == 0 {
+            if place == 0
+                || place > sequence.connections.len()
+                || sequence.connections[place - 1].to == 0
+            {
                 break;
             }
             place -= 1;
@@ -91,22 +96,24 @@ impl Ruin {
     fn take_string(
         &mut self,
         board: &Board,
-        round: &Round,
+        sequence: &Sequence,
         edge: u32,
         generator: &mut Lcg64Xsh32,
     ) -> Result<(), Memory>
         requires board { IsBoard board.now }
         requires ruin { IsRuinOn board.now.width self.old }
-        requires round { IsRoundOn board.now.width round.now }
+        requires sequence { IsSequenceOn board.now.width sequence.now }
         requires edge { edge < board.now.width / 2 + 1 }
         ensures { OnOk result (IsRuinOn board.now.width self.new) }
     {
-        let length = 1 + draw(generator, longest(board, round));
+        let length = 1 + draw(generator, longest(board, sequence));
         let back = draw(generator, length);
-        let first = self.start(round, edge, back);
-        let end = first.saturating_add(length as usize).min(round.gaps.len());
+        let first = self.start(sequence, edge, back);
+        let end = first
+            .saturating_add(length as usize)
+            .min(sequence.connections.len());
         for place in first..end {
-            let stop = round.gaps[place].to;
+            let stop = sequence.connections[place].to;
             if stop == 0 {
                 break;
             }
@@ -122,21 +129,21 @@ impl Ruin {
     pub(crate) fn take_out(
         &mut self,
         board: &Board,
-        round: &Round,
+        sequence: &Sequence,
         near: &[Neighbours],
         generator: &mut Lcg64Xsh32,
     ) -> Result<(), Memory>
         requires board { IsBoard board.now }
         requires ruin { IsRuinOn board.now.width self.old }
-        requires round { IsRoundOn board.now.width round.now }
+        requires sequence { IsSequenceOn board.now.width sequence.now }
         requires some { 4 ≤ board.now.width }
         requires near { length near.now ≡ board.now.width / 2 }
         ensures { OnOk result (IsRuinOn board.now.width self.new) }
     {
-        let mut left = draw(generator, strings(longest(board, round)));
+        let mut left = draw(generator, strings(longest(board, sequence)));
         let seed = 1 + draw(generator, board.edges());
         self.removed.clear();
-        self.take_string(board, round, seed, generator)?;
+        self.take_string(board, sequence, seed, generator)?;
         for &edge in &near[seed as usize] {
             // Each neighbour is an edge of the board: to test that costs less than to say so of each list.
             if left == 0 || edge == 0 || edge as usize >= self.gone.len() {
@@ -145,7 +152,7 @@ impl Ruin {
             if self.gone[edge as usize] || draw(generator, 16) < 4 {
                 continue;
             }
-            self.take_string(board, round, edge, generator)?;
+            self.take_string(board, sequence, edge, generator)?;
             left -= 1;
         }
         Ok(())

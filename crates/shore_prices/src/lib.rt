@@ -1,5 +1,8 @@
 //! Price sets that the linear program over shores proposes.
 //!
+//! In the field: a cutting plane method on the one-index formulation, and the dual solution with which it
+//! ends.
+//!
 //! If each service is paid at its cost, weights of shores show a bound if over each edge they sum to at most its cost.
 //! The best such weights are those of a linear program over all shores (Belenguer and Benavent 2003). [`shore_prices`]
 //! solves it over some of them, and looks in rounds for shores that its corner leaves short. It only proposes: the

@@ -10,7 +10,7 @@ use cut_pool::{Shore, ShorePool, Weighted, need};
 use deadhead_paths::{cost_prices, distances};
 use road_network::Network;
 use shore_program::Program;
-use shore_search::{Effort, Search};
+use shore_search::{Effort, ShoreSearch};
 use std::alloc::Global;
 
 // How many rounds there are at most.
@@ -141,7 +141,7 @@ fn improve(
     requires problem { program.old.problem ≡ inst.now }
     ensures { OnOk result (program.new.problem ≡ inst.now) }
 {
-    let mut search = Search::new();
+    let mut search = ShoreSearch::new();
     let mut progress = Progress {
         effort: Effort::Quick,
         value: 0,
@@ -165,7 +165,7 @@ fn add_short(
     inst: &Instance,
     net: &Network,
     program: &mut Program,
-    search: &mut Search,
+    search: &mut ShoreSearch,
     effort: Effort,
 ) -> Result<usize, Memory>
     requires net { net.now ≡ inst.now }

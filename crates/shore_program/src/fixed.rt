@@ -21,7 +21,7 @@ const BORDER: i128 = 1 << 61;
 const LEAST_ENTRY: u64 = 1 << 10;
 
 // The number itself where it is within the range, or else the border.
-fn held(number: i128) -> i64 {
+fn clamped(number: i128) -> i64 {
     number.clamp(-BORDER, BORDER) as i64
 }
 
@@ -41,7 +41,7 @@ fn rounded(a: i64, b: i64) -> i128
 
 /// A number and a product, which is rounded.
 pub(crate) fn plus_product(number: i64, a: i64, b: i64) -> i64 {
-    held(i128::from(number) + rounded(a, b))
+    clamped(i128::from(number) + rounded(a, b))
 }
 
 // Whether the number is near.
@@ -76,7 +76,7 @@ pub(crate) fn less_product(number: i64, a: i64, b: i64) -> i64 {
     if is_near(number) && is_near(a) && is_near(b) {
         number - near_rounded(a, b)
     } else {
-        held(i128::from(number) - rounded(a, b))
+        clamped(i128::from(number) - rounded(a, b))
     }
 }
 
@@ -84,7 +84,7 @@ pub(crate) fn less_product(number: i64, a: i64, b: i64) -> i64 {
 pub(crate) fn quotient(number: i64, divisor: i64) -> i64
     requires { pos 1 ≤ℤ divisor }
 {
-    held(product(number, ONE) / i128::from(divisor))
+    clamped(product(number, ONE) / i128::from(divisor))
 }
 
 /// An entry of a tableau, or 0 if it is too small.

@@ -1,5 +1,8 @@
 //! The linear program over shores, in whole numbers.
 //!
+//! In the field: the dual of the linear program of the one-index formulation, restricted to a pool of edge
+//! cutset constraints.
+//!
 //! A [`Program`] maximises what some shores demand times their weights. Over each edge the weights of the shores that
 //! cross it sum to at most its cost. Its multipliers are deadheads over the edges, from which further shores are found.
 //! It is a simplex tableau in fixed point (Dantzig 1951), so its corner is not exact. But the weights that it gives

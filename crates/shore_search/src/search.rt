@@ -5,8 +5,8 @@ ghost use Rattle.shore_search.specs.Shortfall.{AreShort};
 ghost use Rattle.shore_search.specs.Tables.{AreStreets, IsGrowing};
 
 use crate::draws::shuffle;
-use crate::hunting::{Extent, Hunt};
 use crate::judging::answer;
+use crate::separating::{Extent, Separation};
 use crate::streets::Streets;
 use carp_base::{Instance, Memory};
 use cut_pool::Shore;
@@ -54,17 +54,17 @@ impl Effort {
 /// A search for sets of vertices that deadheads leave short. It keeps a generator of random numbers, so that each call
 /// starts at other vertices than the one before. Two new searches give the same answers to the same calls.
 #[derive(Drop)]
-pub struct Search {
+pub struct ShoreSearch {
     generator: Lcg64Xsh32,
     work: u64,
 }
 
-impl Search {
+impl ShoreSearch {
     /// A new search, the same at each call.
-    pub fn new() -> Search
+    pub fn new() -> ShoreSearch
         ensures { result.work ≡ 0 }
     {
-        Search {
+        ShoreSearch {
             generator: Lcg64Xsh32::new(7, 3),
             work: 0,
         }
@@ -106,15 +106,15 @@ impl Search {
     {
         let extent = effort.extent(inst.vertices());
         let streets = Streets::new(alloc, inst, net, x)?;
-        let mut hunt = Hunt::new(alloc, &streets, extent, most, &mut self.generator)?;
-        hunt.single_vertices(alloc, &streets)?;
-        all_components(alloc, inst, net, x, &streets, &mut hunt)?;
-        hunt.all_cuts(alloc, &streets)?;
+        let mut separation = Separation::new(alloc, &streets, extent, most, &mut self.generator)?;
+        separation.single_vertices(alloc, &streets)?;
+        all_components(alloc, inst, net, x, &streets, &mut separation)?;
+        separation.all_cuts(alloc, &streets)?;
         let seeds = draw_seeds(alloc, inst, extent.seeds, &mut self.generator)?;
-        hunt.grow_all(alloc, &streets, &seeds, extent.growth)?;
-        hunt.vary_all(alloc, &streets, extent.moves, &mut self.generator)?;
-        self.work = self.work.saturating_add(hunt.growing.work);
-        answer(alloc, inst, x, &hunt.found.sets, most)
+        separation.grow_all(alloc, &streets, &seeds, extent.growth)?;
+        separation.vary_all(alloc, &streets, extent.moves, &mut self.generator)?;
+        self.work = self.work.saturating_add(separation.growing.work);
+        answer(alloc, inst, x, &separation.found.sets, most)
     }
 }
 
@@ -143,18 +143,18 @@ fn all_components(
     net: &Network,
     x: &[u64],
     streets: &Streets,
-    hunt: &mut Hunt,
+    separation: &mut Separation,
 ) -> Result<(), Memory>
     requires net { net.now ≡ inst.now }
     requires parts { AreParts inst.now x.now }
     requires streets { AreStreets streets.now }
     requires width { streets.now.width ≡ inst.now.vertices + 1 }
-    requires growing { IsGrowing streets.now.width hunt.old.growing }
-    ensures { OnOk result (IsGrowing streets.now.width hunt.new.growing) }
+    requires growing { IsGrowing streets.now.width separation.old.growing }
+    ensures { OnOk result (IsGrowing streets.now.width separation.new.growing) }
 {
     for least in [1, 314_573, 629_146, 1_047_528] {
         let labels = label_components(alloc, inst, net, x, least)?;
-        hunt.components(alloc, streets, &labels)?;
+        separation.components(alloc, streets, &labels)?;
     }
     Ok(())
 }

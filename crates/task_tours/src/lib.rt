@@ -1,5 +1,7 @@
 //! Tours as lists of tasks: joined by least paths to walks, and what plans of such tours cost.
 //!
+//! In the field: routes as sequences of required arcs.
+//!
 //! [`join`] makes the walk of a tour, and [`add_tour`] adds it to a plan. The laws say that plans of such walks are
 //! lawful if their tours serve each required edge once within the capacity, what they cost, and that no lawful plan
 //! with the same tours costs less.

@@ -64,9 +64,9 @@ module _ (there : LeastDeadheadIsThere) (g : Ground) (valid : IsValid g.problem)
   ]
 
   -- what was tight of the shores stays, and with the prices all is
-  pub tightened : (held : ℕ) → ((s : ℕ) → s ≤ held → IsShoreTight g set s) → IsFitting g other → ((e : ℕ) → IsRequired g.problem e → IsPriceTight g.problem g.pool g.branch other e) →
-      IsTight g.problem g.pool held g.branch other
-  tightened held shores after prices = record {
+  pub tightened : (known : ℕ) → ((s : ℕ) → s ≤ known → IsShoreTight g set s) → IsFitting g other → ((e : ℕ) → IsRequired g.problem e → IsPriceTight g.problem g.pool g.branch other e) →
+      IsTight g.problem g.pool known g.branch other
+  tightened known shores after prices = record {
     fits = after.fits;
     prices = prices;
     weights = λ s within needed. shore_stays s (shores s within) needed;

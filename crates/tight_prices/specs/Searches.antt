@@ -59,8 +59,8 @@ pub record ArePriced (g : Ground) (x : PricedSet) : Type 0 where
   pub prices : x.deadheads.items ≡ crossing_prices g.problem g.pool x.set
 
 -- the shore is a needed single vertex among the first so many of the pool
-abbrev pub IsHeldSingle : Ground → ℕ → ℕ → Type 0
-IsHeldSingle g held shore = (shore ≤ held) × IsNeededSingle g.problem g.pool shore
+abbrev pub IsKnownSingle : Ground → ℕ → ℕ → Type 0
+IsKnownSingle g known shore = (shore ≤ known) × IsNeededSingle g.problem g.pool shore
 
 -- the shore is this one, and a needed single vertex
 abbrev pub IsThisSingle : Ground → ℕ → ℕ → Type 0

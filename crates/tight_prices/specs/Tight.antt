@@ -62,10 +62,10 @@ pub record IsNeededSingle (p : Problem) (pool : List (List ℕ)) (shore : ℕ) :
 
 -- the set fits under the branch, and none of its prices can be raised, and none of the weights on needed shores of one vertex among the
 -- first so many of the pool, where a shore without a weight has the weight 0
-pub record IsTight (p : Problem) (pool : List (List ℕ)) (held : ℕ) (branch : List Decision) (set : Prices) : Type 0 where
+pub record IsTight (p : Problem) (pool : List (List ℕ)) (known : ℕ) (branch : List Decision) (set : Prices) : Type 0 where
   pub fits : FitsBranch p pool branch set
   pub prices : (e : ℕ) → IsRequired p e → IsPriceTight p pool branch set e
-  pub weights : (shore : ℕ) → shore ≤ held → IsNeededSingle p pool shore → IsWeightTight p pool branch set shore
+  pub weights : (shore : ℕ) → shore ≤ known → IsNeededSingle p pool shore → IsWeightTight p pool branch set shore
 
 -- the weights of the two sets are the same on each shore of which a property does not hold
 abbrev pub AreKept : (ℕ → Type 0) → Prices → Prices → Type 0

@@ -1,5 +1,7 @@
 //! Price sets of which no single number can be raised.
 //!
+//! In the field: dual feasibility of a solution of the master problem, and maximal dual solutions.
+//!
 //! [`fits`] decides whether a price set fits under a branch, by one fill of the table of least relaxed tours.
 //! [`tighten`] raises the numbers of a set that fits, one after another, each as far as it goes: the weights on shores
 //! of one vertex, and the prices of services. What is left is tight: raised by 1, none of these numbers lets the set

@@ -12,7 +12,7 @@ ghost use Rattle.route_pricing.specs.Tables.{IsRoom};
 ghost use Rattle.tight_prices.specs.Fillings.{IsFilledFor};
 ghost use Rattle.tight_prices.specs.Probes.{IsSetting, ground_of};
 ghost use Rattle.tight_prices.specs.Places.{IsOnShore, Rises};
-ghost use Rattle.tight_prices.specs.Searches.{ArePriced, HaveSameWeights, IsFitting, IsHeldSingle, IsShoreTight, IsThisSingle};
+ghost use Rattle.tight_prices.specs.Searches.{ArePriced, HaveSameWeights, IsFitting, IsKnownSingle, IsShoreTight, IsThisSingle};
 ghost use Rattle.tight_prices.specs.Tight.{AreKept, IsNeededSingle, IsNoHigher, IsPriceTight, IsTight, IsWeightTight};
 ghost use Rattle.tight_prices.specs.declared.place.Place.TheVariants.{Shore};
 
@@ -36,7 +36,7 @@ pub(crate) struct PricedSet {
 }
 
 /// Raises the numbers of a price set that fits under a branch until none can be raised. First come, in the order of the
-/// pool, the weights on those of its first `held` shores that are of one vertex over which some deadhead is needed
+/// pool, the weights on those of its first `known` shores that are of one vertex over which some deadhead is needed
 /// (`cut_pool::need`). Then come, in the order of the edges, the prices of services. Each is raised as far as it goes,
 /// or to 10^15. No number becomes less, so the value does not either. The denominator and the weights on all other
 /// shores stay.
@@ -58,7 +58,7 @@ pub fn tighten(
     pool: &ShorePool,
     branch: &Branch,
     start: &PriceSet,
-    held: u32,
+    known: u32,
 ) -> Result<PriceSet, Memory>
     requires net { net.now ≡ inst.now }
     requires room { IsRoom inst.now table.old }
@@ -66,10 +66,10 @@ pub fn tighten(
     requires belong { All (Belongs inst.now) pool.now }
     requires shores { All (λ w. IsShoreOf inst.now pool.now w.shore) start.now.weights }
     requires fits { FitsBranch inst.now pool.now branch.now start.now }
-    requires held { held ≤ length pool.now }
-    ensures tight { IfOk result (IsTight inst.now pool.now held branch.now) }
+    requires known { known ≤ length pool.now }
+    ensures tight { IfOk result (IsTight inst.now pool.now known branch.now) }
     ensures no_lower { IfOk result (IsNoHigher start.now) }
-    ensures others { IfOk result (AreKept (λ shore. (shore ≤ held) × IsNeededSingle inst.now pool.now shore) start.now) }
+    ensures others { IfOk result (AreKept (λ shore. (shore ≤ known) × IsNeededSingle inst.now pool.now shore) start.now) }
     ensures value { IfOk result (λ set. value_of (rules_of inst.now pool.now branch.now) start.now ≤ℤ value_of (rules_of inst.now pool.now branch.now) set) }
     ensures shores { IfOk result (λ set. All (λ w. IsShoreOf inst.now pool.now w.shore) set.weights) }
     ensures filled { IfOk result (λ set. IsFilledFor inst.now pool.now branch.now set table.new) }
@@ -88,7 +88,7 @@ pub fn tighten(
         allowed: &allowed,
     };
     let set = copy(alloc, start)?;
-    let heavier = tighten_weights(alloc, &setting, table, set, held)?;
+    let heavier = tighten_weights(alloc, &setting, table, set, known)?;
     tighten_prices(alloc, &setting, table, heavier)
 }
 
@@ -98,23 +98,23 @@ fn tighten_weights(
     setting: &Setting<'_>,
     table: &mut Table,
     set: PriceSet,
-    held: u32,
+    known: u32,
 ) -> Result<PriceSet, Memory>
     requires setting { IsSetting setting.now }
     requires room { IsRoom setting.now.inst.now table.old }
     requires belong { All (Belongs setting.now.inst.now) setting.now.pool.now }
     requires fitting { IsFitting (ground_of setting.now) set }
-    requires held { held ≤ length setting.now.pool.now }
+    requires known { known ≤ length setting.now.pool.now }
     ensures room { IsRoom setting.now.inst.now table.new }
     ensures fitting { IfOk result (IsFitting (ground_of setting.now)) }
     ensures rises { IfOk result (Rises setting.now.inst.now setting.now.pool.now setting.now.branch.now set) }
-    ensures kept { IfOk result (AreKept (IsHeldSingle (ground_of setting.now) held) set) }
-    ensures tight { IfOk result (λ heavier. (shore : ℕ) → shore ≤ held → IsShoreTight (ground_of setting.now) heavier shore) }
+    ensures kept { IfOk result (AreKept (IsKnownSingle (ground_of setting.now) known) set) }
+    ensures tight { IfOk result (λ heavier. (shore : ℕ) → shore ≤ known → IsShoreTight (ground_of setting.now) heavier shore) }
 {
     least_prices_are_there();
     let _ = setting.pool.len();
     let mut priced = priced_set(alloc, setting, set)?;
-    for shore in 1..held + 1 {
+    for shore in 1..known + 1 {
         priced = tighten_shore(alloc, setting, table, priced, shore)?;
     }
     Ok(priced.set)

@@ -1,5 +1,7 @@
 //! Towns that a number determines: a hundred crossings on a grid, with streets whose costs and demands are drawn.
 //!
+//! In the field: an instance generator.
+//!
 //! A town serves to try the solver on an instance that anyone can make again. [`town`] makes it, and it is valid for
 //! every number.
 //!

@@ -1,5 +1,7 @@
 //! Trees of decisions that are carried over to another instance.
 //!
+//! In the field: reoptimization: a branch-and-bound tree with its dual solutions, reused for changed data.
+//!
 //! If costs, service costs and demands rise, and streets that need no service are closed, the proof of a bound need not
 //! be found anew. [`carry_tree`] reads the tree of the older instance under the new one. A pair that is excluded there
 //! gives way to its second child, and so does a cut below the lower number of its shore. All else stays. What is left

@@ -1,7 +1,7 @@
 use Rattle.std.proofs.Common.{◌≡◌, ◌∙◌, ℕ, ◌+◌, ◌%◌, ◌^◌, map, refl, subst}
 use Rattle.std.specs.Prelude.{EachIndex, slice_index, IfOk, OnOk, Result, Ok, Err}
 use Rattle.command_words.specs.Forms.{command_in}
-use Rattle.command_works.specs.Works.{work_in}
+use Rattle.command_works.specs.Outputs.{output_in}
 use Rattle.carp_cli.proofs.Performed.{asks_alike, by_status, job_prepared, refusal_prepared, refused_asks_none}
 use Rattle.carp_cli.proofs.running.perform.Goals as goal
 
@@ -15,7 +15,7 @@ if_asked A Y Q (Ok x) holds = λ so. holds so.0
 if_asked A Y Q (Err e) holds = tt
 
 pub returns-in-Ok-clause-prepared : goal.returns-in-Ok-clause-prepared
-returns-in-Ok-clause-prepared g c = of_ok c.make.result c.make.ensures.made (λ d made. job_prepared c.in-Ok.job d.status (work_in d) c.in-Ok.ensures.job c.in-Ok.ensures.tried made)
+returns-in-Ok-clause-prepared g c = of_ok c.make.result c.make.ensures.made (λ d made. job_prepared c.in-Ok.job d.status (output_in d) c.in-Ok.ensures.job c.in-Ok.ensures.tried made)
 
 pub returns-in-Ok-clause-unasked : goal.returns-in-Ok-clause-unasked
 returns-in-Ok-clause-unasked g c none =
@@ -40,7 +40,7 @@ returns-in-Ok-clause-fouls g c =
 
 pub returns-in-Err-Refused-clause-prepared : goal.returns-in-Err-Refused-clause-prepared
 returns-in-Err-Refused-clause-prepared g c =
-    of_ok c.refuse.result c.refuse.ensures (λ d is. refusal_prepared c.in-Err-Refused.status d.status (work_in d) (by_status c.in-Err-Refused.field-0 c.in-Err-Refused.status c.in-Err-Refused.field-0-is c.in-Err-Refused.ensures.tried) is.0 is.1)
+    of_ok c.refuse.result c.refuse.ensures (λ d is. refusal_prepared c.in-Err-Refused.status d.status (output_in d) (by_status c.in-Err-Refused.field-0 c.in-Err-Refused.status c.in-Err-Refused.field-0-is c.in-Err-Refused.ensures.tried) is.0 is.1)
 
 pub returns-in-Err-Refused-clause-seeds : goal.returns-in-Err-Refused-clause-seeds
 returns-in-Err-Refused-clause-seeds g c =

@@ -1,13 +1,13 @@
 use Rattle.std.proofs.Common.{inl, inr, subst}
 use Rattle.carp_cli.specs.Runs.{IsHelped}
-use Rattle.command_works.specs.Works.{work_in}
+use Rattle.command_works.specs.Outputs.{output_in}
 use Rattle.command_words.specs.Words.{command_of, texts_of}
 use Rattle.carp_cli.proofs.Delivered.{cut_is_not_helped, delivered, memory_is_not_helped}
 use Rattle.carp_cli.proofs.running.run.Goals as goal
 
 pub returns-in-Ok-clause-leaves : goal.returns-in-Ok-clause-leaves
 returns-in-Ok-clause-leaves g c =
-    delivered c.in-Ok.delivery.status (work_in c.in-Ok.delivery) c.deliver.result c.in-Ok.ensures.prepared c.deliver.ensures.looks c.deliver.ensures.given c.in-Ok.ensures.keeps c.in-Ok.ensures.contents
+    delivered c.in-Ok.delivery.status (output_in c.in-Ok.delivery) c.deliver.result c.in-Ok.ensures.prepared c.deliver.ensures.looks c.deliver.ensures.given c.in-Ok.ensures.keeps c.in-Ok.ensures.contents
     c.deliver.ensures.answer c.deliver.ensures.kept c.deliver.ensures.wrote c.deliver.ensures.cut
 
 pub returns-in-Ok-clause-seeds : goal.returns-in-Ok-clause-seeds

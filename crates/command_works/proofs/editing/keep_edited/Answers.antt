@@ -1,7 +1,7 @@
 use Rattle.std.proofs.Common.{◌∙◌, ap, map, refl}
 use Rattle.std.specs.Prelude.{IfOk, Result, Ok, Err}
 use Rattle.cert_format.specs.Certs.{certificate_in}
-use Rattle.command_works.specs.Works.{kept_in}
+use Rattle.command_works.specs.Outputs.{kept_in}
 use Rattle.command_works.proofs.editing.keep_edited.Goals as goal
 
 of_ok : {X E : Type 0} {P Q : X → Type 0} (r : Result X E) → IfOk r P → ((x : X) → P x → Q x) → IfOk r Q

@@ -2,9 +2,9 @@ use Rattle.std.proofs.Common.{◌≡◌, ◌<◌, List, ℕ, arith, ap, subst, �
 use Rattle.std.specs.Prelude.{IsTrue}
 use Rattle.std.specs.List.{All, insert}
 use Rattle.std.proofs.lemmas.Bool.{false≢true}
-use Rattle.local_moves.specs.Rounds.{KeepsServices, links_of, fits}
+use Rattle.local_moves.specs.Sequences.{KeepsServices, links_of, fits}
 use Rattle.local_moves.proofs.Deltas.{remove_delta, insert_delta}
-use Rattle.local_moves.proofs.Kept.{insert_round, move_services}
+use Rattle.local_moves.proofs.Kept.{insert_sequence, move_services}
 use Rattle.local_moves.proofs.Later.{answered, later}
 use Rattle.local_moves.proofs.Rooms.{no_insert}
 use Rattle.local_moves.proofs.moves.try_insert.Goals as goal
@@ -19,7 +19,7 @@ returns-then-not-has_room c = λ better.
 pub returns-then-new-old : goal.returns-then-new-old
 returns-then-new-old c = λ better.
     let b = c.args.board.now in
-    let xs = c.args.round.now in
+    let xs = c.args.sequence.now in
     let rest = c.args.rest.now in
     omega (
       arith,
@@ -42,12 +42,12 @@ accept-requires-clause-within c =
     let b = c.args.board.now in
     let made = c.in_ok-insert.ensures.items ∙ ap (λ ys. insert ys c.args.to c.args.x) c.in_ok-changed.ensures.items in
     subst (λ (zs : List ℕ). All (λ x. x < b.width) zs) (sym made)
-    (insert_round b c.args.rest.now c.args.to c.args.x c.requires.rest_round c.requires.to_first c.requires.to_last c.requires.x c.requires.real).within
+    (insert_sequence b c.args.rest.now c.args.to c.args.x c.requires.rest_sequence c.requires.to_first c.requires.to_last c.requires.x c.requires.real).within
 
 pub returns : goal.returns
 returns c =
     let b = c.args.board.now in
-    let xs = c.args.round.now in
+    let xs = c.args.sequence.now in
     let rest = c.args.rest.now in
     let to = c.args.to in
     let x = c.args.x in
@@ -69,5 +69,5 @@ returns c =
       c.between-6.ensures.value,
       c.if-new-old.false,
     ))
-    (insert_round b rest to x c.requires.rest_round c.requires.to_first c.requires.to_last c.requires.x c.requires.real)
+    (insert_sequence b rest to x c.requires.rest_sequence c.requires.to_first c.requires.to_last c.requires.x c.requires.real)
     (subst (λ ys. KeepsServices xs (insert ys to x)) (sym c.requires.rest) (move_services xs c.args.from to x (omega (arith, c.requires.service.before_last)) c.requires.edge)))

@@ -7,6 +7,6 @@ pub returns : goal.returns
 returns c =
     answered_ok c.search-2.result c.search-2.ensures
     (λ earlier.
-    settled_halves c.args.board.now c.args.round.now c.max-start.result (length c.args.round.now - 1) c.min.result (omega (arith, c.requires.round.some)) (omega (arith, c.min.ensures))
+    settled_halves c.args.board.now c.args.sequence.now c.max-start.result (length c.args.sequence.now - 1) c.min.result (omega (arith, c.requires.sequence.some)) (omega (arith, c.min.ensures))
     (none_left _ c.in_ok-next.field-0 c.in_ok-next.ensures c.in_default.is) earlier)
     (λ x own. own)

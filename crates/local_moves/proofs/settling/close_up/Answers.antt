@@ -6,7 +6,7 @@ use Rattle.local_moves.proofs.settling.close_up.Goals as goal
 pub loop-at-init : goal.loop-at-init
 loop-at-init c = record {
   one = omega arith;
-  no_dearer = start c.args.board.now c.args.round.items c.requires.round c.requires.fits;
+  no_dearer = start c.args.board.now c.args.sequence.items c.requires.sequence c.requires.fits;
   closed = λ k short below first second. omega (arith, below);
 }
 
@@ -19,7 +19,7 @@ loop-at-preserved-then-ends_empty c =
     let empty = rw c.deref.ensures.value at (c.ends_empty.ensures.0 c.if-ends_empty.true) in
     record {
       one = own.one;
-      no_dearer = rw c.remove.ensures.items (close_one c.args.board.now c.args.round.items xs at own.one short empty.0 empty.1 own.no_dearer);
+      no_dearer = rw c.remove.ensures.items (close_one c.args.board.now c.args.sequence.items xs at own.one short empty.0 empty.1 own.no_dearer);
       closed = rw c.remove.ensures.items (closed_removed xs at short own.closed);
     }
 

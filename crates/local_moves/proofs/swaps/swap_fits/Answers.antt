@@ -9,7 +9,7 @@ returns-then-has_room c = λ no one two better.
     false≢true
     (sym no
     ∙ c.has_room-then-has_room.ensures.1
-    (swap_fits_second c.args.board.now c.args.round.now c.args.loads.now c.args.first c.args.second c.requires.loads (omega (arith, apart.after_first, apart.before_second)) (omega (arith, c.requires.before_last)) apart one.no_depot better.loads))
+    (swap_fits_second c.args.board.now c.args.sequence.now c.args.loads.now c.args.first c.args.second c.requires.loads (omega (arith, apart.after_first, apart.before_second)) (omega (arith, c.requires.before_last)) apart one.no_depot better.loads))
 
 pub returns-else-has_room : goal.returns-else-has_room
 returns-else-has_room c = λ no one two better.
@@ -17,4 +17,4 @@ returns-else-has_room c = λ no one two better.
     false≢true
     (sym no
     ∙ c.has_room.ensures.1
-    (swap_fits_first c.args.board.now c.args.round.now c.args.loads.now c.args.first c.args.second c.requires.loads (omega (arith, apart.after_first, apart.before_second)) (omega (arith, c.requires.before_last)) apart two.no_depot better.loads))
+    (swap_fits_first c.args.board.now c.args.sequence.now c.args.loads.now c.args.first c.args.second c.requires.loads (omega (arith, apart.after_first, apart.before_second)) (omega (arith, c.requires.before_last)) apart two.no_depot better.loads))

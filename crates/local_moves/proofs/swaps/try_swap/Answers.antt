@@ -1,9 +1,9 @@
 use Rattle.std.proofs.Common.{◌≡◌, ◌<◌, ◌+◌, ◌-◌, List, ℕ, length, get_or, set, refl, arith, ap, subst, ◌∙◌, sym}
 use Rattle.std.specs.Prelude.{IsTrue}
 use Rattle.std.proofs.lemmas.List.{length-set, get_or-set_same, get_or-set_other}
-use Rattle.local_moves.specs.Rounds.{fits}
+use Rattle.local_moves.specs.Sequences.{fits}
 use Rattle.local_moves.proofs.Deltas.{swap_delta}
-use Rattle.local_moves.proofs.Kept.{set_round, swap_services}
+use Rattle.local_moves.proofs.Kept.{set_sequence, swap_services}
 use Rattle.local_moves.proofs.Later.{answered, later}
 use Rattle.local_moves.proofs.swaps.try_swap.Goals as goal
 use Rattle.local_moves.proofs.swaps.try_swap.Goals.{then-first-second, else-first-second}
@@ -18,7 +18,7 @@ apart xs f s y last order other is = get_or-set_other xs f (s - 1) y 0 (λ same.
 pub returns-then-new-old : goal.returns-then-new-old
 returns-then-new-old c = λ one two better.
     let b = c.args.board.now in
-    let xs = c.args.round.now in
+    let xs = c.args.sequence.now in
     let f = c.args.first in
     let s = c.args.second in
     let x = get_or xs f 0 in
@@ -47,7 +47,7 @@ returns-then-new-old c = λ one two better.
 pub returns : goal.returns
 returns c =
     let b = c.args.board.now in
-    let xs = c.args.round.now in
+    let xs = c.args.sequence.now in
     let f = c.args.first in
     let s = c.args.second in
     let x = get_or xs f 0 in
@@ -77,8 +77,8 @@ returns c =
       c.between-8.ensures.value,
       c.if-new-old.false,
     ))
-    (set_round b (set xs f y) s x
-    (set_round b xs f y c.requires.round c.requires.after_first (omega (arith, c.requires.order, c.requires.before_last)) (c.requires.round.within s 0 (omega (arith, c.requires.before_last))) (c.requires.round.real s 0 (omega (arith, c.requires.before_last))))
+    (set_sequence b (set xs f y) s x
+    (set_sequence b xs f y c.requires.sequence c.requires.after_first (omega (arith, c.requires.order, c.requires.before_last)) (c.requires.sequence.within s 0 (omega (arith, c.requires.before_last))) (c.requires.sequence.real s 0 (omega (arith, c.requires.before_last))))
     (omega (arith, c.requires.after_first, c.requires.order)) (omega (arith, length-set xs f y, c.requires.before_last))
-    (c.requires.round.within f 0 (omega (arith, c.requires.order, c.requires.before_last))) (c.requires.round.real f 0 (omega (arith, c.requires.order, c.requires.before_last))))
+    (c.requires.sequence.within f 0 (omega (arith, c.requires.order, c.requires.before_last))) (c.requires.sequence.real f 0 (omega (arith, c.requires.order, c.requires.before_last))))
     (swap_services xs f s c.requires.order (omega (arith, c.requires.before_last))))

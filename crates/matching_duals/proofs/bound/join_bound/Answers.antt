@@ -24,5 +24,5 @@ returns c =
     let p = c.args.inst.now in
     shown c.vertices_are_listed.ensures p c.in_ok-ground.ground.odd.items c.in_ok-ground.ground.table.items c.in_ok-costs.costs c.in_ok-matching.matching
     c.vertices.ensures.valid c.in_ok-ground.ensures.table c.in_ok-ground.ensures.odd c.in_ok-costs.ensures c.in_ok-matching.ensures c.in_ok-deadheads.deadheads.items
-    c.in_ok-laying.laying.round.items c.in_ok-laying.laying.shores.items c.in_ok-deadheads.ensures c.in_ok-laying.ensures c.cost_of-value.result
+    c.in_ok-laying.laying.enclosing.items c.in_ok-laying.laying.shores.items c.in_ok-deadheads.ensures c.in_ok-laying.ensures c.cost_of-value.result
     (c.cost_of-value.ensures ∙ ap (join_cost p) c.deref.ensures.value)

@@ -13,5 +13,5 @@ loop-i-preserved c =
       c.min-least.ensures,
       c.saturating_sub-depth.ensures,
       c.loop-i.invariant,
-      depth_push c.args.table.now c.args.start c.args.round.now c.args.weight (get_or members i 0) (take i members),
+      depth_push c.args.table.now c.args.start c.args.enclosing.now c.args.weight (get_or members i 0) (take i members),
     ))

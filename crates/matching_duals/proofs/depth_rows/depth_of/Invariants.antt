@@ -3,4 +3,4 @@ use Rattle.matching_duals.specs.Sets.{depth_by}
 use Rattle.matching_duals.proofs.depth_rows.depth_of.Given as goal
 
 abbrev pub invariant-loop-i : goal.invariant-loop-i
-invariant-loop-i l = l.least ≡ depth_by l.table l.start l.round l.weight (take l.i l.members)
+invariant-loop-i l = l.least ≡ depth_by l.table l.start l.enclosing l.weight (take l.i l.members)

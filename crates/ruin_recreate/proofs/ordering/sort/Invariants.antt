@@ -1,4 +1,4 @@
-use Rattle.ruin_recreate.specs.Search.{AreOn}
+use Rattle.ruin_recreate.specs.Annealing.{AreOn}
 use Rattle.ruin_recreate.proofs.ordering.sort.Given as goal
 
 abbrev pub invariant-loop-i : goal.invariant-loop-i

@@ -5,7 +5,7 @@ use Rattle.branch_rules.specs.Decisions.{rules_of}
 use Rattle.branch_rules.specs.Prices.{Prices, value_of}
 use Rattle.tight_prices.specs.Probes.{Ground}
 use Rattle.tight_prices.specs.Places.{Rises}
-use Rattle.tight_prices.specs.Searches.{HaveSameWeights, IsFitting, IsHeldSingle}
+use Rattle.tight_prices.specs.Searches.{HaveSameWeights, IsFitting, IsKnownSingle}
 use Rattle.tight_prices.specs.Tight.{AreKept, IsNoHigher, IsPriceTight, IsTight}
 use Rattle.tight_prices.proofs.Passing.{three_ok, tightened}
 use Rattle.tight_prices.proofs.Rising.{no_higher, rises_on}
@@ -19,9 +19,9 @@ returns-clause-tight c =
     let g = ground c in
     let heavier = c.in_ok-heavier.heavier in
     three_ok c.tighten_prices.result (IsFitting g) (Rises g.problem g.pool g.branch heavier)
-    (λ (set : Prices). (e : ℕ) → IsRequired g.problem e → IsPriceTight g.problem g.pool g.branch set e) (IsTight g.problem g.pool c.args.held g.branch)
+    (λ (set : Prices). (e : ℕ) → IsRequired g.problem e → IsPriceTight g.problem g.pool g.branch set e) (IsTight g.problem g.pool c.args.known g.branch)
     (λ set fitting rises prices.
-    tightened c.least_prices_are_there.ensures.tasks g c.vertices.ensures.valid heavier set c.in_ok-heavier.ensures.fitting rises fitting.fine c.args.held c.in_ok-heavier.ensures.tight fitting prices)
+    tightened c.least_prices_are_there.ensures.tasks g c.vertices.ensures.valid heavier set c.in_ok-heavier.ensures.fitting rises fitting.fine c.args.known c.in_ok-heavier.ensures.tight fitting prices)
     c.tighten_prices.ensures.fitting c.tighten_prices.ensures.rises c.tighten_prices.ensures.tight
 
 pub returns-clause-no_lower : goal.returns-clause-no_lower
@@ -35,9 +35,9 @@ pub returns-clause-others : goal.returns-clause-others
 returns-clause-others c =
     let g = ground c in
     let heavier = c.in_ok-heavier.heavier in
-    let first : AreKept (IsHeldSingle g c.args.held) c.args.start.now heavier =
-    subst (λ (s : Prices). AreKept (IsHeldSingle g c.args.held) s heavier) c.in_ok-set.ensures c.in_ok-heavier.ensures.kept in
-    IfOk-weaker c.tighten_prices.result (HaveSameWeights heavier) (AreKept (IsHeldSingle g c.args.held) c.args.start.now) (λ set same shore not. same shore ∙ first shore not)
+    let first : AreKept (IsKnownSingle g c.args.known) c.args.start.now heavier =
+    subst (λ (s : Prices). AreKept (IsKnownSingle g c.args.known) s heavier) c.in_ok-set.ensures c.in_ok-heavier.ensures.kept in
+    IfOk-weaker c.tighten_prices.result (HaveSameWeights heavier) (AreKept (IsKnownSingle g c.args.known) c.args.start.now) (λ set same shore not. same shore ∙ first shore not)
     c.tighten_prices.ensures.weights
 
 pub returns-clause-value : goal.returns-clause-value

@@ -1,6 +1,6 @@
 use Rattle.std.proofs.Common.{◌≡◌, ℕ, ◌<◌, ◌≤◌, pos, neg_ℤ, ◌-ℤ◌, to_z, of_z, subst, sym, arith, w64}
 use Rattle.std.proofs.lemmas.Int.{ints, to_z_pos, to_z-of_z}
-use Rattle.cert_lines.specs.Numbers.{IsMarked, IsWhole}
+use Rattle.cert_lines.specs.Numbers.{IsMarkedNumber, IsWhole}
 use Rattle.cert_lines.proofs.Cuts.{natural_is_whole, no_whole, no_zero, marked_whole}
 use Rattle.cert_lines.proofs.word.Word.whole.Goals as goal
 
@@ -11,7 +11,7 @@ pub returns-in_default-marked : goal.returns-in_default-marked
 returns-in_default-marked c = λ text held. no_whole (c.in_default.ensures.told text held) (c.in_default-marked.ensures.told text held)
 
 pub returns-then-size-eq0 : goal.returns-then-size-eq0
-returns-then-size-eq0 c = λ text held. no_zero (c.in_default.ensures.told text held) (subst (IsMarked 45 text) c.if-size-eq0.true (c.in-Some-marked.ensures.told text held))
+returns-then-size-eq0 c = λ text held. no_zero (c.in_default.ensures.told text held) (subst (IsMarkedNumber 45 text) c.if-size-eq0.true (c.in-Some-marked.ensures.told text held))
 
 pub returns : goal.returns
 returns c = λ text held.

@@ -1,4 +1,4 @@
-use Rattle.ruin_recreate.specs.Search.{IsRuinOn}
+use Rattle.ruin_recreate.specs.Annealing.{IsRuinOn}
 use Rattle.ruin_recreate.proofs.ruining.Ruin.take_string.Given as goal
 
 abbrev pub invariant-loop-place : goal.invariant-loop-place

@@ -1,0 +1,61 @@
+// Ruin and recreate.
+ghost use Rattle.std.specs.Prelude.{◌≡◌, ◌<◌, ◌≤◌, IfOk, length};
+ghost use Rattle.std.specs.List.{All};
+ghost use Rattle.ruin_recreate.specs.Boards.{IsBoard};
+
+use crate::annealing::Annealing;
+use crate::board::Board;
+use carp_base::Memory;
+use rand_pcg::Lcg64Xsh32;
+use std::alloc::Global;
+
+// The greatest number of steps in all.
+const MOST_STEPS: u32 = 120_000;
+
+// How many steps there are in all: more for more pairs of edges, so that few edges are done soon.
+fn steps(edges: u32) -> u32
+    requires { edges ≤ 600 }
+{
+    (8_000 + 18 * edges * edges).min(MOST_STEPS)
+}
+
+/// Looks for a cheaper sequence by ruin and recreate (Schrimpf, Schneider, Stamm-Wilbrandt and Dueck 2000): strings of services near
+/// one another are taken out of their tours (Christiaens and Vanden Berghe 2020) and each is put back where it costs least, and
+/// annealing decides whether to go on from there. Loads above the room are permitted on the way, at a price that follows how
+/// many sequences are lawful.
+///
+/// A sequence is a list of stops of the board: the depot before, between and after the tours. `costs` has what a crossing of its
+/// edge costs, for each stop. The answer is meant to be the start, or a sequence with the same services that costs fewer deadheads
+/// and loads no tour above the room. It is promised to have stops of the board alone, so the caller has to test it.
+///
+/// The same generator gives the same answer. With m required edges there are up to six annealings, the first from the start and
+/// the others from one tour for each service, of 8,000 + 18 * m * m steps in all and at most 120,000, rounded down to as many for
+/// each. With fewer than two required edges the start is given back. A step takes time in proportion to m, and the neighbours of
+/// all edges, once, in proportion to m * m log m. Beside the board it takes space in proportion to m.
+pub fn ruin_and_recreate(
+    alloc: Global,
+    board: &Board,
+    costs: &[u32],
+    start: Vec<u32>,
+    generator: &mut Lcg64Xsh32,
+) -> Result<Vec<u32>, Memory>
+    requires board { IsBoard board.now }
+    requires costs { length costs.now ≡ board.now.width }
+    requires within { All (λ x. x < board.now.width) start.items }
+    ensures { IfOk result (λ sequence. All (λ x. x < board.now.width) sequence.items) }
+{
+    let edges = board.edges();
+    if edges < 2 {
+        return Ok(start);
+    }
+    // New starts gain where there are few edges; where there are many one long annealing is better than some short ones.
+    let annealings = (600 / edges).clamp(1, 6);
+    let steps = steps(edges) / annealings;
+    let mut annealing = Annealing::new(alloc, board, start)?;
+    annealing.anneal(board, costs, steps, generator)?;
+    for _ in 1..annealings {
+        annealing.current.scatter(board)?;
+        annealing.anneal(board, costs, steps, generator)?;
+    }
+    Ok(annealing.top)
+}
