@@ -17,7 +17,7 @@ pub record IsFlagged (p : Problem) (flags : List Bool) (e : ℕ) : Type 0 where
   pub required : IsRequired p e
   pub flagged : slice_index_or flags (e - 1) false ≡ true
 
--- a tour of this load that was taken, and the flags after it, where these tasks stood in taken tours before
+-- a tour of this load that was taken, and the flags after it, if these tasks stood in taken tours before
 pub record IsAbsorbed (p : Problem) (load : ℕ) (walk : List Step) (after : List Bool) (taken tour : List Task) : Type 0 where
   pub tasks : tour ≡ augmented_tasks p taken load walk
   pub flags : FlagsSay p after (taken ++ tour)

@@ -12,7 +12,7 @@ use Rattle.deadhead_paths.specs.Tours.{task_of}
 abbrev pub is_among : ℕ → List Task → Bool
 is_among e tasks = list_any (λ t. t.edge == e) tasks
 
--- the edge is required, its service stands in no taken tour, and it fits beside this load, where these tasks stand in taken tours
+-- the edge is required, its service stands in no taken tour, and it fits beside this load, if these tasks stand in taken tours
 abbrev pub is_absorbed : Problem → List Task → ℕ → ℕ → Bool
 is_absorbed p taken load e = nat_le 1 e && nat_le e p.required && not (is_among e taken) && nat_le (load + (edge_at p e).demand) p.capacity
 
@@ -27,12 +27,12 @@ augmented_tasks p taken load (s ∷ steps) =
     else augmented_tasks p taken load steps
     )
 
--- what the tour of one service costs, where they stand in the order of the edges
+-- what the tour of one service costs, if these tours stand in the order of the edges
 abbrev pub single_cost : Problem → List (List Step) → ℕ → ℕ
 single_cost p singles e = walk_cost p (walk_at singles (e - 1))
 
--- the edge's tour is taken next, where these tasks stand in taken tours: it is the dearest of the tours whose service does not
--- stand in one, and of the dearest that of the least edge number
+-- the edge's tour is taken next, if these tasks stand in taken tours: it is the dearest of the tours whose service does not stand in one,
+-- and of the dearest that of the least edge number
 pub record IsTakenNext (p : Problem) (singles : List (List Step)) (taken : List Task) (e : ℕ) : Type 0 where
   pub required : IsRequired p e
   pub untaken : is_among e taken ≡ false
@@ -45,7 +45,7 @@ pub record IsTakenTour (p : Problem) (singles : List (List Step)) (taken tour : 
   pub next : IsTakenNext p singles taken edge
   pub tasks : tour ≡ augmented_tasks p (taken ++ task_of (service_of edge) ∷ []) (edge_at p edge).demand (walk_at singles (edge - 1))
 
--- these tours are taken one after another, where these tasks stand in taken tours before, until each required edge is served
+-- these tours are taken one after another, if these tasks stand in taken tours before, until each required edge is served
 abbrev pub AreAugmented : Problem → List (List Step) → List Task → List (List Task) → Type 0
 AreAugmented p singles taken [] = (e : ℕ) → IsRequired p e → is_among e taken ≡ true
 AreAugmented p singles taken (tour ∷ tours) = IsTakenTour p singles taken tour × AreAugmented p singles (taken ++ tour) tours

@@ -29,7 +29,7 @@ far_task = record { edge = 2; forward = true }
 abbrev pub far_back : Task
 far_back = record { edge = 2; forward = false }
 
--- the tour of the far lane alone: out over the near one, and home
+-- the tour of only the far lane: out over the near one, and home
 abbrev pub far_walk : List Step
 far_walk =
     record { edge = 1; forward = true; served = false } ∷ record { edge = 2; forward = true; served = true }

@@ -22,7 +22,7 @@ oriented_tour turned tour = if turned then reversed_tour tour else tour
 abbrev pub joined_tour : Bool → Bool → List Task → List Task → List Task
 joined_tour turn_first turn_second first second = oriented_tour turn_first first ++ oriented_tour turn_second second
 
--- the other tours are these where two of them are joined, in one of the four ways
+-- the other tours are these with two of them joined, in one of the four ways
 pub record IsTourJoin (tours other : List (List Task)) : Type 0 where
   pub before : List (List Task)
   pub first : List Task

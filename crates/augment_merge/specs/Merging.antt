@@ -1,4 +1,4 @@
--- Tours that are joined where that saves most, until no join saves (Golden and Wong 1981).
+-- Tours that are joined by the joins that save most, until no join saves (Golden and Wong 1981).
 use Rattle.std.specs.Prelude.{◌≡◌, ℕ, ◌+◌, ◌<◌, ◌≤◌, ◌⊎◌, Bool, List, [], ◌∷◌, length, filter, slice_index_or, slice_set, if◌then◌else◌, true, false}
 use Rattle.carp_base.specs.declared.edge.Task.{Task}
 use Rattle.carp_base.specs.Problem.{Problem}

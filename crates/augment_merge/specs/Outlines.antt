@@ -9,12 +9,12 @@ use Rattle.augment_merge.specs.declared.joins.Join.{Join}
 use Rattle.augment_merge.specs.declared.outline.Outline.{Outline}
 use Rattle.augment_merge.specs.Merging.{JoinNoLater, nth_tour, tour_of_join}
 
--- where the first task of a tour starts, or the vertex where there is none
+-- where the first task of a tour starts, or the vertex if there is none
 abbrev pub tour_starts_at : Problem → ℕ → List Task → ℕ
 tour_starts_at p a [] = a
 tour_starts_at p a (t ∷ ts) = tail_of (edge_at p t.edge) t.forward
 
--- where the last task of a tour ends, or the vertex where there is none
+-- where the last task of a tour ends, or the vertex if there is none
 abbrev pub tour_ends_at : Problem → ℕ → List Task → ℕ
 tour_ends_at p a [] = a
 tour_ends_at p a (t ∷ ts) = tour_ends_at p (head_of (edge_at p t.edge) t.forward) ts
@@ -45,7 +45,7 @@ pub record IsOutlineOf (p : Problem) (tour : List Task) (o : Outline) : Type 0 w
   pub ends : o.end ≡ tour_ends_at p p.depot tour
   pub loaded : o.load ≡ tour_load p tour
 
--- what stands where there is no outline
+-- what stands if there is no outline
 abbrev pub no_outline : Outline
 no_outline = record { start = 0; end = 0; out = 0; home = 0; load = 0 }
 
@@ -121,7 +121,7 @@ pub record IsFirstOfJoins (P : Join → Type 0) (best : Join) : Type 0 where
   pub has : P best
   pub first : (j : Join) → P j → JoinNoLater best j
 
--- such a join, or none where none has the property
+-- such a join, or none if none has the property
 abbrev pub FindsBest : (Join → Type 0) → Option Join → Type 0
 FindsBest P found = MatchOption found ((j : Join) → P j → ⊥) (IsFirstOfJoins P)
 
@@ -142,7 +142,7 @@ pub record IsFresh (made : Join) (first : ℕ) (row : Option Join) : Type 0 wher
   pub not_emptied : first ≢ made.second
   pub partner : (j : Join) → row ≡ Some j → (j.second ≢ made.first) × (j.second ≢ made.second)
 
--- the rows where nothing was joined have the best join with what has not changed
+-- the rows in which nothing was joined have the best join with what has not changed
 pub record AreRenewable (p : Problem) (outlines : List Outline) (made : Join) (rows : List (Option Join)) : Type 0 where
   pub one_each : length rows ≡ length outlines
   pub order : made.first < made.second

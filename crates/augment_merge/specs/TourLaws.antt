@@ -2,7 +2,7 @@
 use Rattle.deadhead_paths.specs.Laws.{LeastPriceIsSymmetric, LeastPriceOfStaying, LeastDeadheadIsThere}
 use Rattle.task_tours.specs.Laws.{StandsAreLinked, ToursDeadheadIsUnique}
 
--- least prices are the same both ways and 0 where one stays, and tours have a least deadhead, and one only
+-- least prices are the same both ways, and 0 from a vertex to itself, and tours have a least deadhead, and only one
 pub record TourLaws : Type 0 where
   pub symmetric : LeastPriceIsSymmetric
   pub staying : LeastPriceOfStaying

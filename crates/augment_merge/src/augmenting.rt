@@ -41,7 +41,7 @@ fn is_dearer(costs: &[u128], best: Option<usize>, place: usize) -> bool
     }
 }
 
-// The place of the greatest cost without a flag, the first of equal ones, or none where all have flags.
+// The place of the greatest cost without a flag, the first of equal ones, or none if all have flags.
 fn dearest(costs: &[u128], flags: &[bool]) -> Option<usize>
     requires { length costs.now ≡ length flags.now }
     ensures { MatchOption result ((k : ℕ) → k < length flags.now → slice_index_or flags.now k false ≡ true) (IsDearest costs.now flags.now (length flags.now)) }
@@ -69,7 +69,8 @@ fn absorbs(inst: &Instance, served: &[bool], load: u64, edge: u32) -> bool
         && load + inst.edge(edge).demand <= inst.capacity()
 }
 
-// The tasks of a tour that is taken: what its walk serves, and what it absorbs. The services of the walk have flags before.
+// The tasks of a tour that is taken: what its walk serves, and what it absorbs. The services of the walk have flags
+// before.
 fn absorb(
     alloc: Global,
     inst: &Instance,

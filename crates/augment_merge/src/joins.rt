@@ -39,7 +39,7 @@ impl Join {
     }
 }
 
-// The one of two joins that goes first, where there are any.
+// That of two joins that goes first, if there are any.
 pub(crate) fn better(one: Option<Join>, other: Option<Join>) -> Option<Join>
     ensures { FindsBest (λ j. (one ≡ Some j) ⊎ (other ≡ Some j)) result }
 {

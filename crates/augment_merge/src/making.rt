@@ -36,18 +36,19 @@ fn plan_of(alloc: Global, inst: &Instance, dist: &Distances, tours: &[Tour]) -> 
     Ok(plan)
 }
 
-/// The plan that augment-merge makes (Golden and Wong 1981; Golden, DeArmon and Baker 1983). The distances are those by cost.
+/// The plan that augment-merge makes (Golden and Wong 1981; Golden, DeArmon and Baker 1983). The distances are those by
+/// cost. The only error is want of memory.
 ///
-/// It begins with one tour for each required edge, as [`deadhead_paths::single_tours`] makes them. They are taken in the order
-/// of falling cost, and those of one cost by their edges' numbers. A tour that is taken goes through its deadheads in the
-/// order of its steps, and absorbs each service that fits and that stands in a tour not taken yet; that tour is
-/// dropped, and never taken. From then on a tour is the list of its services, joined by least paths.
+/// It begins with one tour for each required edge, as [`deadhead_paths::single_tours`] makes them. They are taken in
+/// the order of falling cost, and those of equal cost in the order of their edges. A tour that is taken goes through
+/// its deadheads in the order of its steps. It absorbs each service that fits and stands in a tour that is not taken
+/// yet. That tour is dropped, and never taken. From then on a tour is the list of its services, joined by least paths.
 ///
-/// Then tours are joined end to end, each as it stands or reversed, where their joint load is within the capacity. Of all such joins that which
-/// saves most is made, of equal ones that of the earlier pair, until none saves.
+/// Then tours are joined end to end, each as it stands or reversed, if their joint load is within the capacity. Each
+/// time the join that saves most is made, and among equal ones that of the earlier pair, until none saves.
 ///
-/// With m required edges it takes time in proportion to m * m and to the steps of the tours, where joins leave most tours'
-/// best partners as they were, and at most to m * m * m.
+/// With m required edges it takes time in proportion to m * m and to the steps of the tours, if joins leave the best
+/// partners of most tours as they were. It takes time in proportion to m * m * m at most.
 pub fn augment_merge(alloc: Global, inst: &Instance, dist: &Distances) -> Result<Plan, Memory>
     requires problem { dist.now.problem ≡ inst.now }
     requires prices { dist.now.prices ≡ costs_of inst.now }

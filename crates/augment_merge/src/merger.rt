@@ -9,7 +9,8 @@ use helper_frame::{Finder, Helper};
 use plan_model::Plan;
 use std::alloc::Global;
 
-/// Finds the plan of [`augment_merge`], in the time that this takes. It draws nothing, and the best plan so far changes nothing.
+/// Finds the plan of [`augment_merge`], in the time that [`augment_merge`] takes. It draws nothing, and the best plan
+/// so far changes nothing.
 #[derive(Drop)]
 pub struct MergeFinder;
 
@@ -31,5 +32,5 @@ impl Finder for MergeFinder {
     }
 }
 
-/// A helper that offers the plan of [`augment_merge`]: as [`Helper`] says, with what [`MergeFinder`] finds.
+/// A helper that offers the plan of [`augment_merge`]: a [`Helper`] with what [`MergeFinder`] finds.
 pub type Merger = Helper<MergeFinder>;

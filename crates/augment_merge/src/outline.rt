@@ -12,7 +12,7 @@ use task_tours::{ends, least_cost};
 
 #[derive(Clone, Copy)]
 pub(crate) struct Outline {
-    // Where its first task starts and its last one ends; the depot, where it has none.
+    // Where its first task starts and its last one ends, or the depot if it has no task.
     pub(crate) start: u32,
     pub(crate) end: u32,
     // The least costs from the depot to the start, and from the end to the depot.

@@ -17,7 +17,7 @@ fn is_stale(made: &Join, first: usize, row: Option<Join>) -> bool
     joined(first) || row.is_some_and(|join| joined(join.second))
 }
 
-// The best join of a tour with a later one, after a join was made, where it was `row` before.
+// The best join of a tour with a later one, after a join was made. Before, it was `row`.
 fn renewed(
     inst: &Instance,
     dist: &Distances,

@@ -22,7 +22,7 @@ fn link_saving(inst: &Instance, dist: &Distances, a: Outline, b: Outline) -> u64
     a.home + b.out - least_cost(inst, dist, a.end, b.start)
 }
 
-// The join of two tours by their places, the earlier one first, either of them reversed or not, where it saves.
+// The join of two tours by their places, the earlier one first, either of them reversed or not, if it saves.
 fn join_in_way(
     inst: &Instance,
     dist: &Distances,
@@ -58,7 +58,7 @@ fn join_in_way(
     })
 }
 
-// The best join of two tours, the earlier one first, or none where none saves.
+// The best join of two tours, the earlier one first, or none if none saves.
 pub(crate) fn best_of_pair(
     inst: &Instance,
     dist: &Distances,
@@ -89,7 +89,7 @@ pub(crate) fn best_of_pair(
     better(ahead, turned)
 }
 
-// The best join of a tour with a later one, or none where none saves.
+// The best join of a tour with a later one, or none if none saves.
 pub(crate) fn best_of_row(
     inst: &Instance,
     dist: &Distances,
@@ -128,7 +128,7 @@ pub(crate) fn best_rows(
     Ok(rows)
 }
 
-// The one of the joins that goes first.
+// That of the joins that goes first.
 pub(crate) fn first_of(rows: &[Option<Join>]) -> Option<Join>
     ensures { FindsBest (StandsInRows rows.now (length rows.now)) result }
 {

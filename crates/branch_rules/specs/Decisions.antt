@@ -25,7 +25,7 @@ Meets p pool plan (High shore k) = k + 1 ≤ deadheads_over p (is_in (shore_at p
 abbrev pub MeetsAll : Problem → List (List ℕ) → List (List Step) → List Decision → Type 0
 MeetsAll p pool plan branch = AllByRecursion (Meets p pool plan) branch
 
--- the greatest k + 1 of the high decisions on a shore, and 0 where there is none
+-- the greatest k + 1 of the high decisions on a shore, or 0 if there is none
 abbrev pub highest : ℕ → List Decision → ℕ
 highest shore [] = 0
 highest shore (Yes a b ∷ rest) = highest shore rest
@@ -87,7 +87,7 @@ pub record IsFixed (p : Problem) (pool : List (List ℕ)) (branch : List Decisio
   pub open_yet : ¬ (IsVoid p pool branch)
   pub settled : (a b : ℕ) → IsRequired p a → IsRequired p b → IsDetermined p branch a b
 
--- the neighbours in the plan are just the yes pairs of the branch
+-- the neighbours in the plan are exactly the yes pairs of the branch
 pub record Spells (branch : List Decision) (plan : List (List Step)) : Type 0 where
   pub each_yes : (a b : ℕ) → IsYes branch a b → AreNeighbours plan a b
   pub only_yes : (a b : ℕ) → AreNeighbours plan a b → IsYes branch a b

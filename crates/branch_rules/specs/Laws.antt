@@ -20,7 +20,7 @@ use Rattle.decision_chains.specs.declared.decision.Decision.{Decision}
 abbrev pub NoDepot : Problem → List (List ℕ) → Type 0
 NoDepot p pool = AllByRecursion (λ shore. is_in shore p.depot ≡ false) pool
 
--- a lawful plan of a valid instance that meets a branch, where no shore of the pool has the depot
+-- a lawful plan of a valid instance that meets a branch, and no shore of the pool has the depot
 pub record IsMet (p : Problem) (pool : List (List ℕ)) (branch : List Decision) (plan : List (List Step)) : Type 0 where
   pub valid : IsValid p
   pub no_depot : NoDepot p pool
@@ -64,7 +64,7 @@ abbrev pub VoidIsMetByNone : Type 0
 VoidIsMetByNone = (p : Problem) (pool : List (List ℕ)) (branch : List Decision) (plan : List (List Step)) →
     IsVoid p pool branch → ¬ (IsMet p pool branch plan)
 
--- a lawful plan whose neighbours are just the yes pairs costs at least the fixed value
+-- a lawful plan whose neighbours are exactly the yes pairs costs at least the fixed value
 abbrev pub FixedValueBounds : Type 0
 FixedValueBounds = (p : Problem) (branch : List Decision) (value : ℕ) (plan : List (List Step)) →
     IsLawful p plan → Spells branch plan → HasFixedValue p branch value → value ≤ plan_cost p plan
@@ -85,7 +85,7 @@ ValueIsBelow = (p : Problem) (pool : List (List ℕ)) (branch : List Decision) (
     FitsBranch p pool branch set → IsMet p pool branch plan →
     value_of (rules_of p pool branch) set ≤ℤ pos (set.unit * plan_cost p plan)
 
--- where it is above the denominator times a bound less 1, each such plan costs at least the bound
+-- if it is above the denominator times a bound less 1, each such plan costs at least the bound
 abbrev pub PricesBound : Type 0
 PricesBound = (p : Problem) (pool : List (List ℕ)) (branch : List Decision) (set : Prices) (bound : ℕ) (plan : List (List Step)) →
     FitsBranch p pool branch set → (pos set.unit *ℤ (pos bound -ℤ pos 1)) <ℤ value_of (rules_of p pool branch) set →

@@ -17,8 +17,8 @@ branch_of path = path.branch
 abbrev pub IsOpen : Path → Type 0
 IsOpen path = path.whole ≡ false
 
--- for decisions taken from a branch on (before), each with that of the second child where this is still to be read: the branches of
--- these second children, the deepest first, and then those that wait besides (later)
+-- for decisions taken from a branch on (before), each with that of the second child if this is still to be read: the branches of these
+-- second children, the deepest first, and then those that wait besides (later)
 abbrev pub seconds_wait : (taken : List Decision) → List (Option Decision) → (before : List Decision) → (later : List (List Decision)) → List (List Decision)
 seconds_wait [] seconds before later = later
 seconds_wait (d ∷ taken) [] before later = later
@@ -29,8 +29,7 @@ seconds_wait (d ∷ taken) (Some e ∷ seconds) before later = seconds_wait take
 abbrev pub seconds_of : Path → List (List Decision)
 seconds_of path = seconds_wait path.branch path.seconds.items [] []
 
--- the branches that wait: that of the next node, and those of the second children that are still to be read; none where the
--- tree is whole
+-- the branches that wait: that of the next node, and those of the second children that are still to be read; none if the tree is whole
 abbrev pub waits : Path → List (List Decision)
 waits path = if path.whole then [] else path.branch ∷ seconds_of path
 

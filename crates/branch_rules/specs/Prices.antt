@@ -20,7 +20,7 @@ pub record Prices : Type 0 where
   pub weights : List Weight
   pub groups : List GroupWeight
 
--- what stands where there is no weight
+-- what stands if there is no weight
 abbrev pub no_weight : Weight
 no_weight = record { shore = 0; weight = pos 0 }
 
@@ -54,7 +54,7 @@ abbrev pub deadhead_price : List (List ℕ) → Prices → Edge → ℤ
 deadhead_price pool set x =
     pos (set.unit * x.cost) -ℤ signed_sum (crossing_weight pool x) set.weights
 
--- the price of crossing each edge without service, in the order of the edges, where none is negative
+-- the price of crossing each edge without service, in the order of the edges, if none is negative
 abbrev pub crossing_prices : Problem → List (List ℕ) → Prices → List ℕ
 crossing_prices p pool set = map (λ x. nat_abs (deadhead_price pool set x)) p.edges
 

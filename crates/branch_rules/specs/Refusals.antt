@@ -28,7 +28,7 @@ abbrev pub RefusesHeavy : Problem → List (List ℕ) → Prices → Fail TooHea
 RefusesHeavy p pool set Memory = Unit {0}
 RefusesHeavy p pool set (Refused heavy) = IsTooHeavy p pool set heavy
 
--- the shore has an upper number where the weight on it is negative
+-- the shore has an upper number if the weight on it is negative
 abbrev pub HasUpper : List Decision → Weight → Type 0
 HasUpper branch w = w.weight <ℤ pos 0 → IsSome (lowest w.shore branch)
 

@@ -43,7 +43,7 @@ pub record Support : Type 0 where
   pub pool : List (List ℕ)
   pub sets : List Prices
 
--- what stands where there is no price set
+-- what stands if there is no price set
 abbrev pub no_prices : Prices
 no_prices = record { unit = 0; services = []; weights = []; groups = [] }
 
@@ -78,8 +78,8 @@ Shows c branch bound (price set) = PriceShows c branch bound set
 Shows c branch bound void = IsVoid c.problem c.pool branch
 Shows c branch bound fixed = FixedShows c branch bound
 
--- an inner node may stand under the decisions so far, where so many cuts may still be made: its pair is open, or a cut may be
--- made and lies within the numbers of its shore
+-- an inner node may stand under the decisions so far, if so many cuts may still be made: its pair is open, or a cut may be made and lies
+-- within the numbers of its shore
 abbrev pub IsLeanNode : Problem → List (List ℕ) → List Decision → ℕ → Node → Type 0
 IsLeanNode p pool branch cuts (Pair a b) = ¬ (IsDetermined p branch a b)
 IsLeanNode p pool branch cuts (Cut shore k) = (1 ≤ cuts) × (lower_of p pool branch shore ≤ k) × IfSome (lowest shore branch) (λ u. k < u)
@@ -98,7 +98,7 @@ IsLean c branch cuts (price set) = Unit {0}
 IsLean c branch cuts void = Unit {0}
 IsLean c branch cuts fixed = Unit {0}
 
--- n is 1 where the fact holds, and 0 where it does not
+-- n is 1 if the fact holds, and 0 if it does not
 abbrev pub IsTest : Type 0 → ℕ → Type 0
 IsTest P n = (P × (n ≡ 1)) ⊎ (¬ P × (n ≡ 0))
 

@@ -14,7 +14,7 @@ use cut_pool::{ShorePool, need, required_crossings};
 use std::alloc::Global;
 use std::marker::Model;
 
-/// A negative weight stands on a shore without an upper number.
+/// Why a price set has no value under a branch: a negative weight stands on a shore without an upper number.
 #[derive(Clone, Copy, Debug, PartialEq, Eq)]
 pub struct NoUpper {
     /// The number of the shore of the first such weight, from 1.
@@ -49,7 +49,8 @@ impl Branch {
         }
     }
 
-    /// Adds a decision at the end. The number of a cut is at most 1,000,000. Without memory the branch stays as it was.
+    /// Adds a decision at the end. The number of a cut is at most 1,000,000. The only error is want of memory, and then
+    /// the branch stays as it was.
     pub fn push(&mut self, d: Decision) -> Result<(), Memory>
         requires { IsFineDecision d }
         ensures ok { OnOk result (self.new ≡ self.old ++ d ∷ []) }
@@ -113,9 +114,9 @@ impl Branch {
     /// number, less each positive weight on a group times the room of the group, plus the size of each negative weight
     /// on a group.
     ///
-    /// It is refused exactly if the shore of a negative weight has no upper number. It takes no memory. With m required
-    /// edges, d decisions, k weights on shores and groups of n edges together it takes time in proportion to (m + d)
-    /// k + n.
+    /// The error is [`NoUpper`], exactly if the shore of a negative weight has no upper number. It takes no memory.
+    /// With m required edges, d decisions, k weights on shores and groups of n edges together it takes time in
+    /// proportion to (m + d) k + n.
     pub fn value_at(
         &self,
         inst: &Instance,
@@ -227,7 +228,7 @@ fn lowest_of(decisions: &[Decision], shore: u32) -> Option<u64>
     least
 }
 
-// The smaller of two numbers, where `None` is no number.
+// The smaller of two numbers. `None` is no number.
 fn lesser(a: Option<u64>, b: Option<u64>) -> Option<u64>
     requires a { IfSome a (λ k. k ≤ 1000000) }
     requires b { IfSome b (λ k. k ≤ 1000000) }

@@ -25,7 +25,7 @@ use std::alloc::Global;
 const MOST_CUTS: usize = 4;
 
 impl Branch {
-    /// Which pairs of required edges may be neighbours: just those that are not excluded. A pair is excluded if
+    /// Which pairs of required edges may be neighbours: exactly those that are not excluded. A pair is excluded if
     ///
     /// - the two are one edge;
     /// - a decision says no to it;
@@ -33,7 +33,7 @@ impl Branch {
     /// - they are the two ends of one chain and no yes pair;
     /// - or their two chains together are above the capacity.
     ///
-    /// Such a pair are no neighbours in any lawful plan that meets the branch
+    /// The edges of such a pair are no neighbours in any lawful plan that meets the branch
     /// ([`excluded_pairs_are_apart`](crate::excluded_pairs_are_apart)).
     ///
     /// With m required edges and d decisions it takes time in proportion to m * m + d, or m * (m + d) if the branch is
@@ -133,9 +133,9 @@ impl Branch {
 
     /// A plan of the cheapest tour along each chain, for a fixed branch. The distances are those by cost.
     ///
-    /// It is lawful and costs the fixed value of the branch, which no lawful plan that meets the branch is below
-    /// ([`fixed_value_bounds`](crate::fixed_value_bounds)). It has at most a tour for each required edge and 2,000,000
-    /// steps.
+    /// It is lawful and costs the fixed value of the branch. No lawful plan that meets the branch costs less
+    /// ([`fixed_value_bounds`](crate::fixed_value_bounds)). It has at most one tour for each required edge, and at most
+    /// 2,000,000 steps.
     ///
     /// With m required edges and d decisions it takes time in proportion to m * m + d and to the steps that it writes.
     pub fn fixed_plan(

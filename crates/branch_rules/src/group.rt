@@ -10,8 +10,8 @@ use carp_base::{Instance, Memory};
 use std::alloc::Global;
 use std::marker::Model;
 
-/// A weight on the bonds of a group, which is two or more required edges. A bond is a place where a tour serves two
-/// edges of the group one directly after the other.
+/// A weight on the bonds of a group, which is a set of two or more edges. A bond is a place where a tour serves two
+/// edges of the group one directly after the other. An edge that is not required has no demand, and no tour serves it.
 ///
 /// The weight is not 0 and within 10^15 either way, in parts of the denominator of its price set. A weight above 0 is
 /// charged for each bond. A weight below 0 stands on a group of two edges, and its size is gained for each bond.
@@ -34,7 +34,8 @@ impl Model for WeightedGroup {
 }
 
 impl WeightedGroup {
-    /// This weight on the group of these edges, by their rising numbers. The only error is want of memory.
+    /// This weight on the group of these edges, by their rising numbers, in time and memory in proportion to the edges.
+    /// The only error is want of memory.
     pub fn new(alloc: Global, edges: &[u32], weight: i64) -> Result<WeightedGroup, Memory>
         requires { IsFineGroup (record { edges = edges.now; weight = weight }) }
         ensures { IfOk result (λ group. group ≡ record { edges = edges.now; weight = weight }) }
@@ -45,7 +46,8 @@ impl WeightedGroup {
         })
     }
 
-    /// The same weight on the same group. The only error is want of memory.
+    /// The same weight on the same group, in time and memory in proportion to the edges. The only error is want of
+    /// memory.
     pub fn copy(&self, alloc: Global) -> Result<WeightedGroup, Memory>
         ensures { IfOk result (λ group. group ≡ self.now) }
     {
@@ -75,7 +77,7 @@ impl WeightedGroup {
         self.edges.iter().any(|x| *x == e)
     }
 
-    // What two edges that follow each other weigh in this group alone.
+    // What two edges that follow each other weigh in this group only.
     fn bond_weighs(&self, e: u32, f: u32) -> i64
         ensures value { result ≡ self.now.weight *ℤ pos (bond self.now.edges e f) }
         ensures within { IsPriceNumber result }

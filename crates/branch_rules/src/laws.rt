@@ -31,7 +31,7 @@ pub fn bonds_are_bounded()
 }
 
 /// A lawful plan that meets a branch has exactly one bond in each pair that the branch says yes to. So the size of a
-/// negative weight on such a pair is gained just once.
+/// negative weight on such a pair is gained exactly once.
 pub fn yes_pairs_have_one_bond()
     ensures { YesPairsHaveOneBond }
 {
@@ -48,7 +48,8 @@ pub fn surcharges_are_bond_weights()
     ensures apart { ApartHasNoSurcharge }
 {}
 
-/// No excluded pair are neighbours in a lawful plan that meets the branch. An excluded pair is excluded in either order.
+/// The edges of an excluded pair are no neighbours in a lawful plan that meets the branch. An excluded pair is excluded
+/// in either order.
 pub fn excluded_pairs_are_apart()
     ensures apart { ExcludedAreApart }
     ensures symmetric { ExcludedIsSymmetric }
@@ -67,15 +68,16 @@ pub fn void_is_met_by_none()
     need_is_met();
 }
 
-/// A lawful plan that meets a branch keeps between the lower and the upper number of each shore.
+/// In a lawful plan that meets a branch, the deadheads over each shore are at least its lower number, and at most its
+/// upper number if there is one.
 pub fn numbers_are_kept()
     ensures { NumbersAreKept }
 {
     need_is_met();
 }
 
-/// A lawful plan whose neighbours are just the yes pairs costs at least the fixed value, and so does every lawful plan that
-/// meets a fixed branch.
+/// A lawful plan whose neighbours are exactly the yes pairs costs at least the fixed value. So does every lawful plan
+/// that meets a fixed branch.
 pub fn fixed_value_bounds()
     ensures spelt { FixedValueBounds }
     ensures met { FixedBranchBounds }

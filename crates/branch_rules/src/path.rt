@@ -88,7 +88,7 @@ impl Path {
         self.enter(first, Some(second))
     }
 
-    // Goes to the nearest second child that is still to be read. Where there is none, the tree is whole.
+    // Goes to the nearest second child that is still to be read. If there is none, the tree is whole.
     fn go_on(&mut self) -> Result<(), Memory>
         requires path { IsPath self.old }
         requires goes { IsOpen self.old }
@@ -115,7 +115,7 @@ impl Path {
         Ok(())
     }
 
-    // Goes back by a decision, and gives that of the second child, where this is still to be read.
+    // Goes back by a decision, and gives that of the second child, if the second child is still to be read.
     fn leave(&mut self) -> Option<Decision>
         requires path { IsPath self.old }
         requires some { 0 < length self.old.seconds.items }

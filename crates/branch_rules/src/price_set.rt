@@ -15,8 +15,8 @@ use cut_pool::ShorePool;
 use std::alloc::Global;
 use std::marker::Model;
 
-/// The deadhead price of an edge is negative: the weights of the shores that the edge crosses are more than the
-/// denominator times its cost.
+/// Why a price set does not fit: the deadhead price of an edge is negative. The weights of the shores that the edge
+/// crosses are more than the denominator times its cost.
 #[derive(Clone, Copy, Debug, PartialEq, Eq)]
 pub struct TooHeavy {
     /// The least such edge, from 1.
@@ -25,8 +25,8 @@ pub struct TooHeavy {
     pub price: i128,
 }
 
-/// A price for each required edge, weights on shores, and weights on the bonds of groups, as whole numbers of one part
-/// of a denominator (Bode and Irnich 2012).
+/// A price for each required edge, weights on shores, and weights on the bonds of groups (Bode and Irnich 2012). All
+/// are whole parts of one denominator.
 ///
 /// All are within 10^15 either way, on at most 600 services, 2,000 shores, and 2,000 groups of 60,000 edges together.
 /// The denominator is 1 to 1,000,000. Contracts see them as they are.
@@ -51,7 +51,8 @@ impl Model for PriceSet {
 
 impl PriceSet {
     /// The set of these prices, by the numbers of the required edges, and of these weights, which are not 0 and on
-    /// shores of rising numbers, with no weights on groups. The only error is want of memory.
+    /// shores of rising numbers, with no weights on groups. It takes time and memory in proportion to the numbers. The
+    /// only error is want of memory.
     pub fn new(
         alloc: Global,
         unit: u64,
@@ -125,11 +126,11 @@ impl PriceSet {
         self.weights[i]
     }
 
-    /// The price of crossing each edge without service, in the order of the edges, in parts of the denominator: the
-    /// cost of the edge, less the weights of the shores that it crosses.
+    /// The price of crossing each edge without service, in the order of the edges, in parts of the denominator. It is
+    /// the denominator times the cost of the edge, less the weights of the shores that the edge crosses.
     ///
-    /// It is refused exactly if such a price is negative. With m edges and k weights it takes time in proportion to m
-    /// k.
+    /// It refuses the set with [`TooHeavy`] if such a price is negative, and only then. `Fail::Memory` says only that
+    /// there was not enough memory. With m edges and k weights it takes time in proportion to m * k.
     pub fn edge_prices(
         &self,
         alloc: Global,
@@ -180,7 +181,8 @@ impl PriceSet {
         &self.groups
     }
 
-    /// The weights on the bonds of groups, as a list of its own. The only error is want of memory.
+    /// The weights on the bonds of groups, as a list of its own. It takes time and memory in proportion to the edges of
+    /// all groups. The only error is want of memory.
     pub fn copy_groups(&self, alloc: Global) -> Result<Vec<WeightedGroup>, Memory>
         ensures { IfOk result (λ groups. groups.items ≡ self.now.groups) }
     {
@@ -192,7 +194,8 @@ impl PriceSet {
     }
 
     /// A set of other prices and of other weights on shores, with the same denominator and the same weights on groups.
-    /// The only error is want of memory.
+    /// It takes time and memory in proportion to the numbers and to the edges of all groups. The only error is want of
+    /// memory.
     pub fn rebuilt(
         &self,
         alloc: Global,
@@ -210,14 +213,14 @@ impl PriceSet {
         })
     }
 
-    /// The same set. The only error is want of memory.
+    /// The same set, in time and memory as [`rebuilt`](PriceSet::rebuilt) takes. The only error is want of memory.
     pub fn copy(&self, alloc: Global) -> Result<PriceSet, Memory>
         ensures { IfOk result (λ set. set ≡ self.now) }
     {
         self.rebuilt(alloc, &self.services, &self.weights)
     }
 
-    // The price of crossing an edge without service; as an error, where it is negative.
+    // The price of crossing an edge without service. A negative price is the error.
     fn edge_price(&self, pool: &ShorePool, edge: &Edge) -> Result<u64, i128>
         requires shores { All (λ w. IsShoreNumber pool.now w.shore) self.now.weights }
         requires cost { edge.now.cost ≤ 1000000 }
@@ -230,7 +233,7 @@ impl PriceSet {
     }
 }
 
-// A number without its sign; as an error, where it is negative.
+// A number without its sign. A negative number is the error.
 fn unsigned(number: i128) -> Result<u64, i128>
     requires low { neg_ℤ (pos 4000000000000000000) ≤ℤ number }
     requires high { number ≤ℤ pos 4000000000000000000 }

@@ -7,8 +7,8 @@ use carp_base::Memory;
 use std::alloc::Global;
 use std::marker::Model;
 
-/// The nodes of a tree in preorder: each before its children, the first child before the second. Any list of nodes can be
-/// kept, so a tree may be put down node by node.
+/// The nodes of a tree in preorder: each before its children, and all below the first child before the second child.
+/// Any list of nodes can be kept, so a tree may be put down node by node.
 ///
 /// Contracts see the list, and the number of nodes for which there is memory.
 #[derive(Drop)]

@@ -7,7 +7,8 @@ ghost use Rattle.branch_rules.specs.Signs.{LacksYes};
 
 use crate::{Branch, Decision, PriceSet, WeightedGroup};
 
-/// A negative weight stands on a pair of edges that the branch does not say yes to.
+/// Why a price set does not fit under a branch: a negative weight stands on a pair of edges to which the branch does
+/// not say yes.
 #[derive(Clone, Copy, Debug, PartialEq, Eq)]
 pub struct NoYes {
     /// The first edge of the pair of the first such weight, by its number.
@@ -17,10 +18,11 @@ pub struct NoYes {
 }
 
 impl Branch {
-    /// Whether the branch says yes to the pair of each negative weight on a group, as a set that fits under it needs.
+    /// Tests that the branch says yes to the pair of each negative weight on a group, as a set that fits under it
+    /// needs.
     ///
-    /// It is refused exactly if it does not, with the first such pair. It takes no memory, and time in proportion to
-    /// the number of groups times the number of decisions.
+    /// If it does not, the error is the first such pair. It takes no memory, and time in proportion to the number of
+    /// groups times the number of decisions.
     pub fn check_yes(&self, set: &PriceSet) -> Result<(), NoYes>
         ensures accepted { OnOk result (All (HasYes self.now) set.now.groups) }
         ensures refused { IfErr result (IsWithoutYes self.now set.now) }

@@ -72,7 +72,7 @@ pub record MayBegin (p : Problem) (pool : List (List ℕ)) (branch : List Decisi
   pub shores : All (λ w. IsShoreOf p pool w.shore) (set_in sets number).weights
   pub groups : HasGroupsInRange (set_in sets number)
 
--- a set that is tight under a branch, from the set of a number, where shores were added to the pool; its groups are those of that set, or
+-- a set that is tight under a branch, from the set of a number, after shores were added to the pool; its groups are those of that set, or
 -- there are none
 pub record IsRaisedFrom (p : Problem) (pool : List (List ℕ)) (branch : List Decision) (sets : List Prices) (number : ℕ) (after : List (List ℕ)) (set : Prices) : Type 0 where
   pub from_unit : 1 ≤ (set_in sets number).unit
@@ -103,7 +103,7 @@ pub record IsFramed (before after : Search) : Type 0 where
   pub least : after.least ≡ before.least
   pub room : after.tree.room ≡ before.tree.room
 
--- so they are, but for a table that is one for the instance
+-- so they are, except the table, which is one for the instance
 pub record IsRepriced (p : Problem) (before after : Search) : Type 0 where
   pub net : after.net ≡ before.net
   pub dist : after.dist ≡ before.dist

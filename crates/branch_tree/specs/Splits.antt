@@ -50,11 +50,11 @@ IsOpenPair p branch (nodes.Price set) = ⊥
 IsOpenPair p branch nodes.Void = ⊥
 IsOpenPair p branch nodes.Fixed = ⊥
 
--- each pair of an edge and a later one is determined, where the edge is below the number n
+-- each pair of an edge and a later one is determined, if the edge is below the number n
 abbrev pub AreSettledBelow : Problem → List Decision → ℕ → Type 0
 AreSettledBelow p branch n = (a b : ℕ) → IsRequired p a → IsRequired p b → a < n → a < b → IsDetermined p branch a b
 
--- each pair of the edge a and a later one is determined, where this one is below the number n
+-- each pair of the edge a and a later one is determined, if the later one is below the number n
 abbrev pub IsSettledBelow : Problem → List Decision → ℕ → ℕ → Type 0
 IsSettledBelow p branch a n = (b : ℕ) → IsRequired p b → a < b → b < n → IsDetermined p branch a b
 

@@ -49,7 +49,7 @@ pub record HasNewSet (p : Problem) (before after : State) (branch : List Decisio
   pub tight : IsTight p after.pool (length before.pool) branch set
 
 -- What closes a leaf, by its new node: a void or a fixed branch, with the price sets as they were; or one that is neither, and a new set,
--- which the leaf names. The best plan is another one only where a fixed leaf shows its cost, which is less than before; it is short then.
+-- which the leaf names. The best plan is another one only if a fixed leaf shows its cost, which is less than before; it is short then.
 abbrev pub IsClosedBy : Problem → (before after : State) → List Decision → GrowingNode → Node → Type 0
 IsClosedBy p before after branch leaf (nodes.Pair a b) = ⊥
 IsClosedBy p before after branch leaf (nodes.Cut shore k) = ⊥

@@ -27,7 +27,7 @@ pub record IsFloored (p : Problem) (bound : ℕ) : Type 0 where
   pub floors : ReachesFloors p base
   pub above : base.value ≤ℤ pos (base.unit * bound)
 
--- A bound less 1, and a millionth more, in millionths. A set whose denominator is at most 1,000,000 shows the bound just where its value,
+-- A bound less 1, and a millionth more, in millionths. A set whose denominator is at most 1,000,000 shows the bound exactly if its value,
 -- divided by its denominator, is at least this.
 abbrev pub millionths : ℕ → ℤ
 millionths zero = negsuc 999998

@@ -52,7 +52,7 @@ impl Search {
         Ok(())
     }
 
-    // Takes a plan of this cost where it is cheaper than the best plan.
+    // Takes a plan of this cost, if it is cheaper than the best plan.
     pub(crate) fn keep_cheaper(&mut self, plan: Plan, cost: u64)
         ensures framed { IsFramed self.old self.new }
         ensures state { state_of self.new ≡ with_cheaper (state_of self.old) plan cost }

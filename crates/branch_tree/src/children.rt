@@ -24,8 +24,8 @@ pub(crate) struct Children {
     pub(crate) second: u64,
 }
 
-// The greatest bounds that a price set, which fits under a branch, shows under the decisions of both children of a node. The branch is
-// as it was afterwards.
+// The greatest bounds that a price set, which fits under a branch, shows under the decisions of both children of a
+// node. Afterwards the branch is as it was.
 pub(crate) fn children_show(
     inst: &Instance,
     pool: &ShorePool,

@@ -19,9 +19,9 @@ use std::alloc::Global;
 // The greatest k of a cut.
 const MOST_K: u64 = 1_000_000;
 
-// A node by which a branch is split that is neither void nor fixed, where a bound greater by `gap` would close the leaf. Where the shore of
-// the greatest weight may be cut at its lower number, and two more deadheads over it raise the value of the set by so much, it is that
-// cut; else the first pair of edges that is not determined.
+// A node that splits a branch that is neither void nor fixed. A bound greater by `gap` would close the leaf. The node
+// is the cut of the shore of the greatest weight at its lower number, if that cut may be made and two more deadheads
+// over the shore raise the value of the set by so much. Else it is the first pair of edges that is not determined.
 pub(crate) fn choose_split(
     alloc: Global,
     inst: &Instance,
@@ -50,7 +50,7 @@ pub(crate) fn choose_split(
     }
 }
 
-// The cut on the shore of the greatest weight, where it may be made and closes the high child.
+// The cut on the shore of the greatest weight, if it may be made and closes the high child.
 fn lean_cut(
     alloc: Global,
     inst: &Instance,
@@ -80,7 +80,7 @@ fn lean_cut(
     if may { Ok(Some(node)) } else { Ok(None) }
 }
 
-// The shore of the greatest weight, where twice the weight is at least so much.
+// The shore of the greatest weight, if twice the weight is at least so much.
 fn heaviest(set: &PriceSet, missing: i128) -> Option<u32>
     ensures { IfSome result (IsWeighed set.now) }
 {
@@ -96,7 +96,7 @@ fn heaviest(set: &PriceSet, missing: i128) -> Option<u32>
     best
 }
 
-// The first pair that is not determined, where there is one.
+// The first pair that is not determined. There is one.
 fn the_open_pair(alloc: Global, inst: &Instance, branch: &Branch) -> Result<Node, Memory>
     requires pairs { ArePairsIn inst.now branch.now }
     requires some { ¬ (AreSettledBelow inst.now branch.now (inst.now.required + 1)) }

@@ -22,15 +22,15 @@ use road_network::Network;
 use route_pricing::Table;
 use std::alloc::Global;
 
-// The rounds of search for shores and the steps of the ascent: for a tree of one node, and for a larger one. Most of the gap lies in the
-// linear program of the root, so effort belongs there.
+// The rounds of search for shores and the steps of the ascent: for a tree of one node, and for a larger one. Most of
+// the gap lies in the linear program of the root, so most of the effort goes there.
 const ROOT_ROUNDS: u32 = 400;
 
 const CHILD_ROUNDS: u32 = 8;
 
 impl Search {
-    // A tight set for a leaf that is neither void nor fixed, from the set that the leaf names. It may add shores to the pool, whether
-    // there is memory or not.
+    // A tight set for a leaf that is neither void nor fixed, from the set that the leaf names. It may add shores to the
+    // pool, also if it ends for want of memory.
     pub(crate) fn raise_leaf(
         &mut self,
         inst: &Instance,

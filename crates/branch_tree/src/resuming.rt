@@ -20,7 +20,7 @@ const MOST_TURNS: u64 = 1_048_576;
 
 impl Search {
     /// A search that goes on from a tree and a plan, for so many turns beyond those that the tree has for the plan's
-    /// cost, but no more than 1,048,576 in all. A tree that has as many takes no turn.
+    /// cost, and at most 1,048,576 in all. A tree that has as many takes no turn.
     ///
     /// The plan is lawful and has at most 100,000 tours and 2,000,000 steps. The tree may be another's: its price
     /// leaves may lie below the floors, and it may have all nodes, price sets and shores that a certificate can spell.
@@ -84,7 +84,7 @@ fn budget_from(done: u64, turns: u64) -> u64
     done.saturating_add(turns).min(MOST_TURNS)
 }
 
-/// Of a tree that a search may go on from the turns for a cost are its nodes that show the cost by themselves.
+/// If a search may go on from a tree, the turns of the tree for a cost are its nodes that show the cost by themselves.
 pub fn resumed_trees_have_turns()
     ensures { ResumedTreesHaveTurns }
 {

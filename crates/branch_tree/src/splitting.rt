@@ -20,7 +20,7 @@ use carp_base::{Instance, Memory};
 use cut_pool::ShorePool;
 use std::alloc::Global;
 
-// The most price sets that are held.
+// The most price sets that a search has.
 const MOST_SETS: usize = 256;
 
 // A node to split by, and what a set shows under the decisions of both children.
@@ -162,8 +162,8 @@ impl Search {
     }
 }
 
-// A node to split a branch by that is neither void nor fixed, where a bound greater by `gap` would close the leaf, and what a set that
-// fits there shows under the decisions of both children. The branch is as it was afterwards.
+// A node that splits a branch that is neither void nor fixed, and what a set that fits there shows under the decisions
+// of both children. A bound greater by `gap` would close the leaf. The branch is as it was afterwards.
 fn choose_halves(
     alloc: Global,
     inst: &Instance,

@@ -27,15 +27,20 @@ impl Search {
         self.turns
     }
 
-    /// Takes the first leaf that shows least, if it does not show the best plan's cost. If its branch is void or fixed,
-    /// the step closes it as that. The plan of a fixed leaf is the best one from then on if it is cheaper. Else, while
-    /// fewer than 256 price sets are held, the step seeks a tight set for the leaf (`dual_master::raise`). If that
-    /// shows the cost, it closes the leaf. Otherwise both leaves of a split by a pair or a shore carry it. If 256 are
-    /// held, the leaves of the split carry the set of the leaf. A short best plan stays short.
+    /// Takes the first leaf that shows least, if it does not show the best plan's cost.
     ///
-    /// It asks for a search whose turns are below its budget. The only error is want of memory. Then the tree, the
-    /// price sets and the best plan are as before, and shores may have been added. It takes the time of `raise` and,
-    /// with n nodes, m required edges and d decisions on the way to the leaf, in proportion to n + m * (m * m + d).
+    /// - If its branch is void or fixed, the step closes the leaf as that. If the plan of a fixed leaf is cheaper, it
+    ///   is the best one from then on.
+    /// - Else, if the search has fewer than 256 price sets, the step seeks a tight set for the leaf
+    ///   (`dual_master::raise`). If that shows the cost, the set closes the leaf. If not, the step splits the leaf by a
+    ///   pair or a shore, and both new leaves name the set.
+    /// - If the search has 256 price sets, both new leaves name the set of the leaf.
+    ///
+    /// A short best plan stays short.
+    ///
+    /// The turns of the search are below its budget. The only error is want of memory. Then the tree, the price sets
+    /// and the best plan are as before, and shores may have been added. It takes the time of `raise` and, with n nodes,
+    /// m required edges and d decisions on the way to the leaf, in proportion to n + m * (m * m + d).
     ///
     /// ```
     /// let mut search = Search::begin(alloc, &inst, 64, plan)?;

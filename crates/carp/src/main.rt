@@ -1,4 +1,8 @@
-//! The program: the real files, the real output, the words of the command line and four helpers, given to the top call.
+//! The program: the files of the system, its standard output, the words of the command line and four helpers, given to
+//! the top call ([`carp_cli::run`]).
+//!
+//! In the field: four heuristics, path scanning, augment-merge, route first and cluster second, and ruin and recreate
+//! with local search. `helping` makes them.
 #![tactic(auto)]
 
 mod helping;
@@ -23,7 +27,7 @@ fn main(rt: HostRuntime) -> ExitCode {
     ExitCode::from(status.code())
 }
 
-// The words after the program's name. Where one is no text there are none, since no command has such a word.
+// The words after the program's name. If one of them is no text, there are none, since no command has such a word.
 fn words_of(rt: &(impl Env + AllocGlobal)) -> Result<Vec<String>, Memory> {
     let mut words = Vec::new(rt.alloc());
     match env::args(rt) {

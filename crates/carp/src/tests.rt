@@ -129,7 +129,8 @@ fn answer(
     Ok((status, out.written().starts_with(front.as_bytes())))
 }
 
-// What is answered to a file with so many turns, and the front of what is written; the certificate is accepted with this cost and bound.
+// What is answered to a file with so many turns, and the front of what is written. The certificate is accepted with
+// this cost and bound.
 fn expect(
     rt: &impl Abort,
     alloc: Global,
@@ -191,7 +192,7 @@ tour 1 load 2 cost 7 route 1=2=1
     Ok(())
 }
 
-// Serving the street between the corners 3 and 4 alone drives one more than the two others do.
+// A tour that serves only the street between the corners 3 and 4 drives one more than the two others do.
 #[test]
 fn a_far_ring_is_proven(rt: HostRuntime) -> Result<(), Fail> {
     let alloc = rt.alloc();

@@ -35,7 +35,7 @@ IsDoneStatus (Improve file cert improved turns seed) status = (status ≡ Proven
 abbrev pub IsTownKept : (file : List ℕ) (seed : ℕ) → Output → Type 0
 IsTownKept file seed output = output ≡ record { kept = record { name = file; bytes = dat_of (town_of seed) } ∷ []; text = made_text (town_of seed) }
 
--- a command is done with this answer and this output, where its files are read in this way and helpers offered such costs
+-- a command is done with this answer and this output, if its files are read in this way and helpers offered such costs
 abbrev pub IsDone : (Source → (List ℕ → Type 0) → Type 0) → Command → List (Option ℕ) → Status → Output → Type 0
 IsDone Reads (Solve file cert turns seed) offered status output = IsSolved Reads file cert turns offered status output
 IsDone Reads (Check file cert) offered status output = IsChecked Reads file cert output

@@ -61,7 +61,7 @@ pub record Leaves (contents_told written_told : Bool) (command : Option Command)
   pub read : status ≡ ReadFault → RoseAtSome (sources_of command) before.failed_looks now.failed_looks
   pub write : status ≡ WriteFault → Rose before.failed_keeps now.failed_keeps ⊎ Rose before.failed_puts now.failed_puts
   pub too_long : (limit : ℕ) → status ≡ TooLong limit → HasLimit limit (sources_of command) × RoseBy (limit + 1) before.given now.given
-  -- and where no look failed at a file that the command had to look at, what the names hold decides
+  -- and if no look failed at a file that the command had to look at, what the names hold decides
   pub no_command : command ≡ None → (status ≡ BadUsage) ⊎ IsNoAnswer status
   pub refused : IsKnown contents_told command → (c : Command) (wanted : Status) → command ≡ Some c → IsRefused c before.contents wanted
       → ¬ (IsUnread c before.contents before.failed_looks now.failed_looks) → (status ≡ wanted) ⊎ IsNoAnswer status

@@ -23,8 +23,8 @@ const LONGEST_NAME: usize = 247;
 /// `carp.0.new` and so on in the same folder. A run that is killed can leave it there, and a user can remove it by
 /// hand. No other file is ever removed or changed.
 ///
-/// A file that is write-protected is left alone: its keep fails. If the path is something other than a regular file,
-/// such as a symbolic link or a device, it is written in place. Another hard link to the file keeps the old bytes.
+/// A write-protected file is not replaced: its keep fails. If the path is something other than a regular file, such as
+/// a symbolic link or a device, it is written in place. Another hard link to the file keeps the old bytes.
 #[derive(Drop)]
 pub struct DirShelf<R: Files> {
     rt: R,
@@ -148,7 +148,8 @@ fn name_beside(alloc: Global, path: &str, number: u32) -> Result<String, AllocEr
     }
 }
 
-// Gives a new file the permissions of the file that it is to replace, and then fills it, so that nobody reads it who could not read the old one.
+// Gives a new file the permissions of the file that it is to replace, and then fills it. So nobody can read it who
+// could not read the old one.
 fn fill<F: Write + OpenFile + Drop>(
     mut file: F,
     bytes: &[u8],

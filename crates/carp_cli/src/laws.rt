@@ -15,10 +15,10 @@ use town_maker::towns_are_valid;
 /// What one command keeps, the next one takes: a law over what two runs leave ([`crate::run`]), with nothing to run.
 ///
 /// If `solve FILE CERT` ended `Proven` or `Gap`, a later `check FILE CERT`, of which no look at the files failed,
-/// answers `Accepted`, with the cost and the bound that `solve` reported, or it could not write, or had no memory. The
-/// same holds of what `upgrade`, `edit` and `improve` keep. What `improve` keeps costs no more than what it read, and
-/// its bound is no lower. What `make` keeps is the text of its town, within the limit of an instance file, so that
-/// `solve` solves it.
+/// answers `Accepted`, with the cost and the bound that `solve` reported. Otherwise it could not write, or it had no
+/// memory. The same holds of what `upgrade`, `edit` and `improve` keep. What `improve` keeps costs no more than what it
+/// read, and its bound is no lower. What `make` keeps is the text of its town, within the limit of an instance file, so
+/// that `solve` solves it.
 pub fn kept_is_accepted()
     ensures solved { SolvedIsAccepted }
     ensures upgraded { UpgradedIsAccepted }

@@ -4,11 +4,15 @@
 //! keeps files there, writes texts to a [`carp_outside::Sink`] and answers a [`Status`]. [`DirShelf`] and [`StdSink`]
 //! make the files of the system and a writer, such as the standard output, into these.
 //!
-//! `command_words` reads a command, `command_jobs` reads its files, and `command_works` makes what it asks for. Here
-//! `refusals` spells the answers that have no report. `delivering` keeps and writes what was made: all that is kept or
-//! written goes through one function.
+//! `command_words` reads a command, `command_jobs` reads its files, and `command_works` makes what it asks for.
 //!
 //! [`kept_is_accepted`] says how two runs fit: what `solve` keeps, `check` accepts.
+//!
+//! - `running`: the top call.
+//! - `refusals`: the texts of answers that have no report.
+//! - `delivering`: what was made is kept and written. All that is kept or written goes through one function.
+//! - `dir_shelf`, `std_sink`: the files of the system, and its standard output.
+//! - `laws`: what is proved of two runs.
 #![tactic(auto)]
 
 mod delivering;

@@ -9,7 +9,7 @@ use plan_print::{
 };
 use std::alloc::Global;
 
-/// What is written for an answer: nothing if the answer has a report, or if none is to be had.
+/// What is written for an answer. It is nothing if the answer has a report, after a write fault, and without memory.
 #[tactic(auto, unfolding(crate::specs::Refusals::usage_text))]
 pub(crate) fn refusal(alloc: Global, status: &Status) -> Result<Vec<u8>, Memory>
     ensures { IfOk result (λ text. text.items ≡ refusal_text status.now) }

@@ -27,7 +27,7 @@ use std::alloc::Global;
 ///   a certificate at CERT and writes a report. It ends `Proven` if the bound is the cost, and else `Gap`. Turns and
 ///   seed are those of [`carp_engine::solve`], and are 64 and 1 if they are not given. None of the helpers need be
 ///   trusted.
-/// - `check FILE CERT` reads the instance of FILE and then the certificate of CERT, whose nodes it does not hold. It
+/// - `check FILE CERT` reads the instance of FILE and then the certificate of CERT, whose nodes it does not keep. It
 ///   writes whether it is good: `Accepted`, with its cost and its bound, or `Rejected`, with the first reason.
 /// - `sheet FILE CERT` does as `check`. If the certificate is good, it writes the street sheet of its plan, and ends
 ///   `Done`.
@@ -35,8 +35,8 @@ use std::alloc::Global;
 ///   number is 1 if it is not given.
 /// - `drill [--turns N] [--seed N]` solves the town of a number as `solve` does, checks the certificate, keeps nothing,
 ///   and writes a summary. The turns are 4 and the number is 1 if they are not given. It ends `Done`.
-/// - `upgrade FILE CERT NEWCERT` does as `check`, but holds the certificate. If it is good, the command keeps it at
-///   NEWCERT with the numbers of the instance, and ends `Done`.
+/// - `upgrade FILE CERT NEWCERT` does as `check`. If the certificate is good, the command keeps it at NEWCERT with the
+///   numbers of the instance, and ends `Done`.
 /// - `improve FILE CERT NEWCERT [--turns N] [--seed N]` reads the instance of FILE and then the certificate of CERT,
 ///   with the refusals of `upgrade`. It goes on from its plan and its tree with the aid of the helpers
 ///   ([`carp_engine::improve`]), keeps a certificate at NEWCERT that costs no more and whose bound is no lower, and
@@ -50,11 +50,11 @@ use std::alloc::Global;
 /// - `edit FILE CERT EDITS NEWFILE NEWCERT` reads an instance, a certificate that is good for it and edits
 ///   ([`instance_edits::read_edits`]), all three files before it looks at what they hold. It keeps the edited instance
 ///   at NEWFILE and then the certificate, carried over to it ([`cert_transfer::carry`]), at NEWCERT, and ends `Done`.
-///   It ends `BadEdit` if the edits can't be read, name an edge which they may not change, or make an instance with a
+///   It ends `BadEdit` if the edits cannot be read, name an edge that they may not change, or make an instance with a
 ///   fault.
 ///
-/// All other words are bad usage. [`command_words::read_words`] says which are plain. All texts are built before
-/// anything is kept or written, and held at once. It takes the time of reading ([`command_jobs::gather`]) and of making
+/// All other words are bad usage. [`command_words::read_words`] says which are plain. All texts are built in memory
+/// before anything is kept or written. It takes the time of reading ([`command_jobs::gather`]) and of making
 /// ([`command_works::make`]), and of keeping and writing in proportion to the bytes.
 ///
 /// The contract is said once for all commands, by the tables of `command_words` and of `specs/Answers.antt`: [`Status`]
@@ -111,7 +111,7 @@ pub fn run<H: Shelf, O: Sink>(
         } in
         Leaves H.tells O.tells (command_of (texts_of words.now)) before now result }
 
-    // The helpers are those that came, in their order, and are left as they are but by a command that asks them.
+    // The helpers stay in their order. Only a command that asks them changes them.
     ensures helpers { map id helpers.new.items ≡ map id helpers.old.items }
     ensures unasked { is_helped (command_of (texts_of words.now)) ≡ false → helpers.new.items ≡ helpers.old.items }
     ensures seeds { IsHelped (command_of (texts_of words.now)) result

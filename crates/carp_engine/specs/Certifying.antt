@@ -38,7 +38,7 @@ pub record IsCertified (p : Problem) (f : Findings) (c : Certificate) : Type 0 w
   pub certificate : c ≡ certificate_by p f
 
 -- what a search from a plan and a bound on found, and its certificate: the plan costs no more and is short if the first one was, the bound is
--- no lower, and it is below the cost only where the turns are at least the budget
+-- no lower, and it is below the cost only if the turns are at least the budget
 pub record IsSearched (p : Problem) (least budget : ℕ) (plan : List (List Step)) (c : Certificate) (turns : ℕ) : Type 0 where
   pub found : Findings
   pub is_found : IsFound p found turns

@@ -16,8 +16,8 @@ pub record HaveTurns (c : Support) (nodes : List Node) (cost turns : ℕ) : Type
   pub turns_are : HasTurns c [] cost tree turns
 
 -- A good certificate that can be spelled, with the numbers of the instance. Its plan is short and costs no more than that of the old one.
--- Its bound is no lower than the old one's, and is the greatest up to the cost that the tree shows; the turns are those of the tree. Where
--- the bound is below the cost, they are at least those of the old tree for the old cost and so many more as were asked for, or 1,048,576.
+-- Its bound is no lower than the old one's, and is the greatest up to the cost that the tree shows; the turns are those of the tree. If the
+-- bound is below the cost, they are at least those of the old tree for the old cost and so many more as were asked for, or 1,048,576.
 pub record IsImproved (p : Problem) (old new : Certificate) (asked turns : ℕ) : Type 0 where
   pub good : IsGood p new
   pub bounds : IsLowerBound p new.bound

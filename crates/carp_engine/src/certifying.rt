@@ -46,7 +46,7 @@ pub(crate) fn certify(
     })
 }
 
-// What is said of a pool and of each of its shores where they are read.
+// What is said of a pool and of each of its shores when they are read.
 fn look_at_shores(pool: &ShorePool)
     ensures few { length pool.now ≤ 2000 }
     ensures different { AreDifferent pool.now }
@@ -57,7 +57,7 @@ fn look_at_shores(pool: &ShorePool)
     }
 }
 
-// What is said of price sets where they are read.
+// What is said of price sets when they are read.
 fn look_at_sets(sets: &[PriceSet])
     ensures { All IsPriceSet sets.now }
 {

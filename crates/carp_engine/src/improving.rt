@@ -32,8 +32,8 @@ use tree_transfer::note_nodes;
 /// if the bound is below the cost, the tree has at least as many turns as the old one had for the old cost and so many
 /// more, or 1,048,576.
 ///
-/// If the old tree has 256 price sets, its leaves keep those that they have. With 2,000 shores none is added. Without
-/// memory the answer is `Memory`.
+/// If the old tree has 256 price sets, its leaves keep those that they have. If it has 2,000 shores, none is added. The
+/// only error is want of memory.
 ///
 /// Beside what `solve` takes for helpers and turns, it takes the time of a check of the old tree.
 pub fn improve<P: Proposer>(

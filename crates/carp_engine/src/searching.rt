@@ -35,7 +35,8 @@ pub(crate) fn search(
     go_on(alloc, inst, search)
 }
 
-// The best plan that a search from this plan and a tree on finds, and its certificate. The budget is so many turns more than the tree has.
+// The best plan that a search from this plan and a tree on finds, and its certificate. The budget is so many turns more
+// than the tree has.
 pub(crate) fn search_on(
     alloc: Global,
     inst: &Instance,

@@ -30,10 +30,10 @@ pub struct Solved {
 /// The best plan that the helpers find from one tour for each required edge on, and a bound of all plans that is at
 /// least each of the floors Shell, Ratio and Join (`dual_master::floors`).
 ///
-/// Each helper is seeded with `seed` plus its place in the list, from 0, wrapping. Then the helpers are asked in up to
-/// four rounds, each time in the order of the list (`helper_rounds::ask_all`). After an unlawful offer a helper is not
-/// asked again. A round without a better plan is the last. The list keeps all its helpers in their order. Without
-/// memory the answer is `Memory`.
+/// Each helper is seeded with `seed` plus its place in the list from 0, modulo 2^64. Then the helpers are asked in up
+/// to four rounds, each time in the order of the list (`helper_rounds::ask_all`). After an unlawful offer a helper is
+/// not asked again. A round without a better plan is the last. The list keeps all its helpers in their order. The only
+/// error is want of memory.
 ///
 /// Then a tree of decisions is searched by turns (`branch_tree`), until it shows the cost of the best plan or its turns
 /// reach the budget, which is 1 to 1,048,576. The turns are the inner nodes of the tree and its leaves that show the

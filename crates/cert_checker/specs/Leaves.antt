@@ -63,7 +63,7 @@ pub record AreLeaves (s : Support) (x : Leaves) : Type 0 where
 abbrev pub PermitSame : ℕ → Relation → Relation → Type 0
 PermitSame m one other = (a b : ℕ) → 1 ≤ a → a ≤ m → 1 ≤ b → b ≤ m → allows one a b ≡ allows other a b
 
--- the table is filled for a set, and for just the pairs that the branch does not exclude
+-- the table is filled for a set, and for exactly the pairs that the branch does not exclude
 pub record IsFilledFor (s : Support) (branch : List Decision) (set : ℕ) (x : Leaves) : Type 0 where
   pub relation : Relation
   pub permits : PermitsUnexcluded s.problem branch relation
@@ -85,7 +85,7 @@ abbrev pub TourSays : Support → List Decision → Prices → Option ℤ → Ty
 TourSays s branch set None = ToursPay s branch set
 TourSays s branch set (Some value) = IsLeastTour s branch set value × (value <ℤ pos 0)
 
--- the number is found where it is there and negative
+-- the number is found if it is there and negative
 abbrev pub IsIfNegative : Option ℤ → Option ℤ → Type 0
 IsIfNegative number None = IfSome number (λ value. pos 0 ≤ℤ value)
 IsIfNegative number (Some found) = (number ≡ Some found) × (found <ℤ pos 0)

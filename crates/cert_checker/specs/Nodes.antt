@@ -67,7 +67,7 @@ pub record IsTourTooCheap (s : Support) (branch : List Decision) (set : Prices) 
   pub least : IsLeastTour s branch set value
   pub negative : value <ℤ pos 0
 
--- the set of a price leaf fits but for the bound: its value is not above the limit
+-- the set of a price leaf fits and does not show the bound: its value is not above the limit
 pub record IsPriceLow (s : Support) (bound : ℕ) (branch : List Decision) (set : Prices) (value limit : ℤ) : Type 0 where
   pub needs : HasWhatItNeeds branch set
   pub pays : ToursPay s branch set

@@ -36,7 +36,7 @@ pub record IsFirstWithout {X : Type 0} (P : X → Type 0) (at : ℕ → X) (coun
   pub lacks : ¬ (P (at number))
   pub before : (k : ℕ) → 1 ≤ k → k < number → P (at k)
 
--- the numbers of the instance, where they stand, are right
+-- the numbers of the instance, if they are stated, are right
 abbrev pub CountsAgree : Problem → Certificate → Type 0
 CountsAgree p c = IfSome c.counts (λ k. k ≡ counts_in p)
 

@@ -94,12 +94,12 @@ pub record StageHolds (p : Problem) (said : LatestFirst) (stage : Stage) : Type 
   pub heads : head_count (items_of said) ≡ stage_heads stage
   pub says : StageSays p (certificate_of said) stage
 
--- just these bytes were taken, and where no line of them is bad, the stage is that of the lines
+-- exactly these bytes were taken, and if no line of them is bad, the stage is that of the lines
 pub record HasStreamed (p : Problem) (stream : Stream) (bytes : List ℕ) : Type 0 where
   pub taken : HasTaken stream.reader bytes
   pub stage : (said : LatestFirst) (rest : List ℕ) → ReadsAs bytes said rest → StageHolds p said stream.stage
 
--- before each node one subtree or more is to come, where so many are to come before the first
+-- before each node one subtree or more is to come, if so many are to come before the first
 abbrev pub Fits : List Node → (subtrees : ℕ) → Type 0
 Fits [] subtrees = Unit {0}
 Fits (node ∷ nodes) subtrees = (1 ≤ subtrees) × Fits nodes (open_after subtrees node)
@@ -171,7 +171,7 @@ pub record IsCheckedGiven (p : Problem) (given_before given_now : ℕ) (checked 
   pub given : RoseBy (length bytes) given_before given_now
   pub is : IsChecked p bytes checked
 
--- the bytes of a file so far, as many as these, were streamed; where contents are told, they stand at the front of what the name holds
+-- the bytes of a file so far, as many as these, were streamed; if contents are told, they stand at the front of what the name holds
 pub record HasRead (p : Problem) (stream : Stream) (tells : Bool) (held : Option (List ℕ)) (taken : ℕ) : Type 0 where
   pub bytes : List ℕ
   pub streamed : HasStreamed p stream bytes
@@ -188,7 +188,7 @@ pub record TextLaws : Type 0 where
   pub fine : SpellableIsFine
 
 -- What is answered of a name that holds this or nothing; the looks at it that failed and the bytes that were given were so many before, and
--- are so many now. Each refusal has its cause, and where no look failed, the bytes decide, and memory.
+-- are so many now. Each refusal has its cause. If no look failed, the bytes and the memory decide.
 pub record FileSays (p : Problem) (limit : ℕ) (tells : Bool) (held : Option (List ℕ)) (before now given_before given_now : ℕ)
     (result : Result Checked (Fail StreamFault)) : Type 0 where
   pub checked : IsTrue tells → IfOk result (λ checked. IsSomeAnd held (λ file. (length file ≤ limit) × IsChecked p file checked))

@@ -62,7 +62,7 @@ impl Checker {
         self.test(alloc, claim, node)
     }
 
-    // Tests the next node, where there is no reason yet.
+    // Tests the next node, if there is no reason yet.
     fn test(&mut self, alloc: Global, claim: &Claim<'_>, node: &Node) -> Result<(), Memory>
         requires checker { IsChecker (support_in claim.now) self.old }
         requires backed { IsBacked (support_in claim.now) }

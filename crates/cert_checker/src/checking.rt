@@ -18,13 +18,20 @@ use std::alloc::Global;
 
 /// Whether a certificate that can be spelled is good, or the first reason why it is not.
 ///
-/// The reasons come in this order: the numbers of the instance, by place; the plan; its cost; the shores in order; the numbers of
-/// prices in order; the prices of deadheads by set and edge; the nodes in preorder. So `Accepted` is a proof: the plan is lawful
-/// and costs what is stated, and no lawful plan costs less than the bound.
+/// `Accepted` is a proof: the plan is lawful and costs what is stated, and no lawful plan costs less than the bound.
+/// Otherwise the answer is the first reason in this order:
 ///
-/// A node takes the time of what it is tested by (see [`Branch`](branch_rules::Branch)); a price leaf besides that of one filling
-/// of the table, unless the price leaf before it has the same set and the same excluded pairs, and that of the distances between all
-/// vertices, unless the price leaf before it has the same set. What is held does not grow with the number of nodes.
+/// - the numbers of the instance, by place;
+/// - the plan, and then its cost;
+/// - the shores in order;
+/// - the numbers of prices, by set;
+/// - the prices of deadheads, by set and edge;
+/// - the nodes in preorder.
+///
+/// A node takes the time of its tests (see [`Branch`](branch_rules::Branch)). A price leaf also takes that of one
+/// filling of the table, unless the price leaf before it has the same set and the same excluded pairs. It takes that of
+/// the distances between all vertices, unless the price leaf before it has the same set. Beside the certificate, memory
+/// does not grow with the number of nodes. The only error is want of memory.
 pub fn check(alloc: Global, inst: &Instance, cert: &Cert) -> Result<Answer, Memory>
     requires { IsSpellable (certificate_in cert.now) }
     ensures answer { IfOk result (IsAnswer inst.now (certificate_in cert.now)) }
@@ -73,7 +80,7 @@ fn tree_reason(alloc: Global, claim: &Claim<'_>, tree: &Tree) -> Result<Option<R
     Ok(checker.reason)
 }
 
-// Takes each node of a tree, where none was taken yet.
+// Takes each node of a tree. None was taken before.
 fn take_all(
     alloc: Global,
     claim: &Claim<'_>,

@@ -1,4 +1,4 @@
-// What is held against an instance.
+// What is checked against an instance.
 ghost use Rattle.std.specs.Prelude.{◌≡◌};
 ghost use Rattle.branch_rules.specs.Trees.{set_at};
 ghost use Rattle.cert_checker.specs.Claims.{IsSetNumber, support_in};
@@ -9,7 +9,7 @@ use cert_format::Counts;
 use cut_pool::ShorePool;
 use plan_model::Plan;
 
-/// A certificate without its nodes, and the instance that it is held against.
+/// A certificate without its nodes, and the instance against which it is checked.
 #[derive(Clone, Copy)]
 pub(crate) struct Claim<'a> {
     pub(crate) inst: &'a Instance,

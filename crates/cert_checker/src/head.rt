@@ -109,7 +109,7 @@ fn shore_reason(claim: &Claim<'_>) -> Option<Reason>
     None
 }
 
-// The first price set that has not a price for each required edge.
+// The first price set that does not have one price for each required edge.
 fn prices_reason(claim: &Claim<'_>) -> Option<Reason>
     requires { (nodes : List Node) → ShoresAreRight claim.now.inst.now (claimed claim.now nodes) }
     ensures { LayerSays PricesAreRight claim.now result }

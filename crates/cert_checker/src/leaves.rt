@@ -44,8 +44,8 @@ pub(crate) struct Filling {
     allowed: Allowed,
 }
 
-/// What is kept from leaf to leaf: consecutive price leaves of one set share its prices, and those at which the same pairs are
-/// excluded share the table as well.
+/// What is kept from leaf to leaf. Price leaves of one set that follow each other share its prices. If the same pairs
+/// are excluded at them, they share the table too.
 #[derive(Drop)]
 pub(crate) struct Leaves {
     net: Network,
@@ -127,7 +127,7 @@ impl Leaves {
         Ok(None)
     }
 
-    // The least value of a relaxed tour under the branch with the prices of the set, where it is negative.
+    // The least value of a relaxed tour under the branch with the prices of the set, if it is negative.
     fn cheap_tour(
         &mut self,
         alloc: Global,
@@ -218,7 +218,7 @@ impl Leaves {
     }
 }
 
-// The value of the set of a leaf; as an error, what the branch has not and the set needs.
+// The value of the set of a leaf. The error is what the set needs and the branch lacks.
 fn leaf_value(claim: &Claim<'_>, branch: &Branch, set: u32, node: u64) -> Result<i128, Reason>
     requires backed { IsBacked (support_in claim.now) }
     requires set { IsSetNumber (support_in claim.now) set }
@@ -237,7 +237,7 @@ fn leaf_value(claim: &Claim<'_>, branch: &Branch, set: u32, node: u64) -> Result
     }
 }
 
-// That the set of a leaf needs an upper number that its branch has not.
+// That the set of a leaf needs an upper number that its branch does not have.
 fn missing_upper(set: u32, node: u64, lacks: &NoUpper) -> Reason
     ensures { result ≡ MissingUpper set node lacks.now.shore }
 {
@@ -395,7 +395,7 @@ fn permit_same_at(one: &Allowed, other: &Allowed, required: u32, edge: u32) -> b
     true
 }
 
-// The number, where it is negative.
+// The number, if it is negative.
 fn if_negative(number: Option<i128>) -> Option<i128>
     ensures { IsIfNegative number result }
 {

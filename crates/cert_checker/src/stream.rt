@@ -33,7 +33,7 @@ pub(crate) enum Stage {
     Walking(Checker),
 }
 
-/// A certificate of which some bytes were taken. It holds what stands before the nodes, and one path of the tree.
+/// A certificate of which some bytes were taken. It keeps what stands before the nodes, and one path of the tree.
 #[derive(Drop)]
 pub(crate) struct Stream {
     reader: CertReader,
@@ -53,7 +53,7 @@ impl Stream {
         })
     }
 
-    /// Takes the bytes of a piece. Of those behind a bad line nothing is kept.
+    /// Takes the bytes of a piece. It keeps nothing of those behind a bad line.
     pub(crate) fn take_piece(
         &mut self,
         alloc: Global,
@@ -114,7 +114,7 @@ impl Stream {
         Ok(())
     }
 
-    // Tests a node, where all before the nodes is as it should be.
+    // Tests a node, if there is no reason before the nodes.
     fn take_node(&mut self, alloc: Global, inst: &Instance, node: Node) -> Result<(), Memory>
         requires { SomeItemComes inst.now self.old (NodeItem node) }
         ensures reader { OnOk result (self.new.reader ≡ self.old.reader) }
@@ -129,7 +129,7 @@ impl Stream {
         walk_on(alloc, inst, head, checker, &node)
     }
 
-    /// The answer, where the bytes are the text of a certificate, and else their first fault.
+    /// The answer, if the bytes are the text of a certificate, and else their first fault.
     pub(crate) fn finish(&self, alloc: Global, inst: &Instance) -> Result<Checked, Fail<CertFault>>
         requires { HasStreamedSome inst.now self.now }
         ensures checked { (bytes : List ℕ) → HasStreamed inst.now self.now bytes → IfOk result (IsChecked inst.now bytes) }
@@ -152,7 +152,7 @@ impl Stream {
     }
 }
 
-// What is held against the instance.
+// What is checked against the instance.
 fn claim_of<'a>(inst: &'a Instance, head: &'a CertHead) -> Claim<'a>
     ensures inst { result.inst.now ≡ inst.now }
     ensures claimed { (nodes : List Node) → claimed result nodes ≡ head_with head.now nodes }
@@ -170,7 +170,7 @@ fn claim_of<'a>(inst: &'a Instance, head: &'a CertHead) -> Claim<'a>
     }
 }
 
-// What is known where no node was taken.
+// What is known before any node was taken.
 fn stage_of(alloc: Global, claim: &Claim<'_>) -> Result<Stage, Memory>
     requires { All (IsSetRead (support_in claim.now)) claim.now.sets.now }
     ensures heads { IfOk result (λ stage. stage_heads stage ≡ 1) }

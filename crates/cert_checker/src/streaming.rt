@@ -22,11 +22,11 @@ use std::alloc::Global;
 /// Why a file was not checked.
 #[derive(Clone, Copy, Debug, PartialEq, Eq)]
 pub enum StreamFault {
-    /// A look at this name failed; one at a name that is not held always does.
+    /// A look at this name failed. A look at a name that holds no file always fails.
     Read,
     /// The name gave more bytes than the limit.
     TooLong,
-    /// The bytes are the text of no certificate; this is their first fault.
+    /// The bytes are the text of no certificate, and this is their first fault.
     Bad(CertFault),
 }
 
@@ -46,16 +46,19 @@ pub struct Checked {
 // The most bytes of a piece.
 const PIECE: usize = 65_536;
 
-/// Whether the certificate that a name holds is good for an instance, or the first reason why it is not; the answer is that of
-/// [`check`](crate::check) for the certificate of these bytes. Whether or not the shelf tells its contents, the bytes of a certificate
-/// that is answered were given by it in this call.
+/// Whether the certificate that a name holds is good for an instance, or the first reason why it is not. The answer is
+/// that of [`check`](crate::check) for the certificate of these bytes. Whether or not the shelf tells its contents, it
+/// gave the bytes of this certificate in this call.
 ///
-/// `limit` is in bytes, below 2^40. It looks for pieces of 64 KiB at most until a look finds the end, as
-/// [`read_whole`](carp_outside::read_whole) does. What it holds does not grow with the number of nodes: one piece, what stands before
-/// the nodes, one branch, and which child of each node on the path is being read. A reason waits until the text has ended, since a text
-/// with a fault is bad and not rejected. Behind a bad line it takes the bytes up to the end and keeps nothing of them, so `Read` and
-/// `TooLong` come where they come for the whole file. Where memory is not to be had it answers `Memory`, whatever the file holds. It takes
-/// the time of `check`, and expected time in proportion to the bytes.
+/// `limit` is in bytes, below 2^40. The call looks for pieces of at most 64 KiB until a look finds the end, as
+/// [`read_whole`](carp_outside::read_whole) does. Its memory does not grow with the number of nodes: it keeps one
+/// piece, what stands before the nodes, one branch, and which child of each node on the path is being read.
+///
+/// A reason waits until the text has ended, since a text with a fault is bad and not rejected. Behind a bad line the
+/// call takes the bytes up to the end and keeps nothing of them. So `Read` and `TooLong` come as they do for a read of
+/// the whole file. `Fail::Memory` says only that there was not enough memory, whatever the file holds.
+///
+/// It takes the time of `check`, and expected time in proportion to the bytes.
 pub fn check_stream<H: Shelf>(
     alloc: Global,
     inst: &Instance,
@@ -75,7 +78,7 @@ pub fn check_stream<H: Shelf>(
     ensures bad { IsTrue H.tells → (fault : Fault) → IsErrOf result (Refused (stream_faults.Bad fault))
         → IsSomeAnd (H.contents shelf.old name.now) (λ file. (length file ≤ limit) × IsFaultOf file fault) }
 
-    // Where no look at this name failed, the bytes decide, and memory.
+    // If no look at this name failed, the bytes and the memory decide.
     ensures not_longer { IsTrue H.tells → IfSome (H.contents shelf.old name.now) (λ file. limit < length file)
         → (Rose (H.failed_looks shelf.old name.now) (H.failed_looks shelf.new name.now) → ⊥)
         → IsErrOf result (Refused stream_faults.TooLong) ⊎ IsErrOf result OutOfMemory }
@@ -129,7 +132,7 @@ fn check_file<H: Shelf>(
     }
 }
 
-// Takes all bytes of a name, where these are at most `limit`.
+// Takes all bytes of a name, if these are at most `limit`.
 fn take_file<H: Shelf>(
     alloc: Global,
     inst: &Instance,

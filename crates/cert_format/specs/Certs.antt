@@ -19,7 +19,7 @@ certificate_in c = record {
   nodes = c.tree.nodes;
 }
 
--- the number of nodes that the lines state, where they do
+-- the number of nodes that the lines state, if they do
 abbrev pub stated_nodes : LatestFirst → ℕ
 stated_nodes [] = 0
 stated_nodes (nodes n ∷ said) = n

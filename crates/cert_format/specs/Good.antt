@@ -39,9 +39,9 @@ support_of p c = record { problem = p; pool = c.shores; sets = c.sets }
 abbrev pub HasPriceEach : Problem → Prices → Type 0
 HasPriceEach p set = length set.services ≡ p.required
 
--- The numbers of the instance, where they stand, are those of the instance; the plan is lawful and costs what is stated; each shore
--- is of vertices of the instance without the depot; each price set has a price for each required edge, and no negative price of
--- a deadhead; the nodes are a lean tree, with pairs of required edges, which shows the bound.
+-- If the certificate states numbers of the instance, they are those of the instance; the plan is lawful and costs what is stated; each
+-- shore is of vertices of the instance without the depot; each price set has a price for each required edge, and no negative price of a
+-- deadhead; the nodes are a lean tree, with pairs of required edges, which shows the bound.
 pub record IsGood (p : Problem) (c : Certificate) : Type 0 where
   pub counts : IfSome c.counts (λ k. k ≡ counts_in p)
   pub lawful : IsLawful p c.plan

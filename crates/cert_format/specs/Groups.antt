@@ -35,7 +35,7 @@ rest_ok (short_of missing z edges) = price_ok z && is_within 2 600 (stated_size 
 abbrev pub groups_ok : List GroupWeight → Remainder → Bool
 groups_ok groups rest = list_all group_ok groups && rest_ok rest && nat_le (sizes groups rest) 60000
 
--- so many edges are to come: as many as are missing and one, or no more than these where the number is not exact
+-- so many edges are to come: as many as are missing and one, or no more than these if the number is not exact
 abbrev pub LeftIs : (exact : Bool) → (left missing : ℕ) → Type 0
 LeftIs true left missing = left ≡ suc missing
 LeftIs false left missing = left ≤ suc missing

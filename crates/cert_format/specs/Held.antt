@@ -40,7 +40,7 @@ StandingHolds Going reader bytes = (said : LatestFirst) × (rest : List ℕ) × 
 StandingHolds (Bad fault) reader bytes = IsBroken reader bytes fault
 StandingHolds OutOfMemory reader bytes = ⊥
 
--- the reader has taken just these bytes
+-- the reader has taken exactly these bytes
 abbrev pub HasTaken : CertReader → List ℕ → Type 0
 HasTaken reader bytes = StandingHolds reader.standing reader bytes
 
@@ -64,7 +64,7 @@ pub record Advances (new : CertReader) (bytes : List ℕ) (before : LatestFirst)
 abbrev pub is_plain : ℕ → Bool
 is_plain b = not (b == 32) && not (b == 10)
 
--- no item is given only where the whole piece was taken
+-- no item is given only if the whole piece was taken
 abbrev pub FillsUp : Item → (taken size : ℕ) → Type 0
 FillsUp Quiet taken size = taken ≡ size
 FillsUp Head taken size = Unit {0}

@@ -87,7 +87,7 @@ IsNoneOf (k ∷ kinds) text = (text ≡ keyword k → ⊥) × IsNoneOf kinds tex
 abbrev pub IsOfNoKind : Next → List ℕ → Type 0
 IsOfNoKind next text = IsNoneOf (expected next) text
 
--- what stands next where a line of this kind may
+-- what stands next if a line of this kind may stand there
 abbrev pub next_for : Kind → Next → Next
 next_for Version next = stands.Version
 next_for Counts next = stands.Counts

@@ -13,7 +13,7 @@ use Rattle.cert_format.specs.Lists.{HoldsList, fields_ok, step_ok, vertex_ok, pr
 use Rattle.cert_format.specs.Groups.{HoldsGroups}
 use Rattle.cert_format.specs.Parts.{LineItems, no_items, part_words, IsHopeless}
 
--- a number, or the limit where it is past it
+-- a number, or the limit if the number is past it
 abbrev pub lesser : ℕ → ℕ
 lesser n = min n limit
 

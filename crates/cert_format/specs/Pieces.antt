@@ -64,7 +64,7 @@ weights_text set = codes "weights" ++ (number_piece (length set.weights) ++ (fla
 unfoldable pub bonds_text : Prices → List ℕ
 bonds_text set = codes "bonds" ++ (number_piece (length set.groups) ++ (flat_map group_piece set.groups ++ 10 ∷ []))
 
--- the line of groups, where some set has one
+-- the line of groups, if some set has one
 abbrev pub groups_text : (grouped : Bool) → Prices → List ℕ
 groups_text false set = []
 groups_text true set = bonds_text set
@@ -79,7 +79,7 @@ node_text (Price set) = keyword_line (codes "price") set
 node_text Void = codes "void\n"
 node_text Fixed = codes "fixed\n"
 
--- the version, with the numbers of the instance where they are known
+-- the version, with the numbers of the instance if they are known
 unfoldable pub second_text : (version : ℕ) → Counts → List ℕ
 second_text version c = keyword_line (codes "carp-certificate") version ++ counts_line c
 

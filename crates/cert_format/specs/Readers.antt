@@ -14,8 +14,8 @@ SaysSoFar bytes said = ((rest : List ℕ) × ReadsAs bytes said rest) ⊎ ((faul
 abbrev pub EndsWithLine : List ℕ → LatestFirst → Type 0
 EndsWithLine bytes said = ReadsAs bytes said []
 
--- beside what was given before, the bytes give this item: one more, complete with the last byte of those taken, or none, where
--- the whole piece was taken
+-- beside what was given before, the bytes give this item: one more, complete with the last byte of those taken, or none, if the whole piece
+-- was taken
 abbrev pub GivesItem : (before said : LatestFirst) (bytes : List ℕ) (taken size : ℕ) → Item → Type 0
 GivesItem before said bytes taken size Quiet = (items_of said ≡ items_of before) × (taken ≡ size)
 GivesItem before said bytes taken size Head = (items_of said ≡ items_of before ++ Head ∷ []) × EndsWithLine bytes said

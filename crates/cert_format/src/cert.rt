@@ -1,10 +1,11 @@
-// A certificate, and all of it but its nodes.
+// A certificate, and all of it except its nodes.
 use branch_rules::{PriceSet, Tree};
 use cert_lines::Counts;
 use cut_pool::ShorePool;
 use plan_model::Plan;
 
-/// A plan and a lower bound, with what is to show it. A `Cert` need not be good, nor such that it can be spelled.
+/// A plan and a lower bound, with what is to show the bound. A `Cert` need not be good, and it may be one that cannot
+/// be spelled.
 #[derive(Drop)]
 pub struct Cert {
     /// The cost of the plan, as it is stated.
@@ -19,7 +20,7 @@ pub struct Cert {
     pub sets: Vec<PriceSet>,
     /// The nodes of the tree, in preorder.
     pub tree: Tree,
-    /// The numbers of the instance: version 2 of the text has them, and version 1 has not.
+    /// The numbers of the instance. A text of version 2 or 4 has them, and one of version 1 does not.
     pub counts: Option<Counts>,
 }
 
@@ -36,8 +37,8 @@ pub struct CertHead {
     pub shores: ShorePool,
     /// The price sets.
     pub sets: Vec<PriceSet>,
-    /// How many nodes follow, as it is stated; 1 to 2,097,153 where a reader gives it.
+    /// How many nodes follow, as it is stated: 1 to 2,097,153 if a reader gives it.
     pub nodes: u64,
-    /// The numbers of the instance, where the text has them.
+    /// The numbers of the instance, if the text has them.
     pub counts: Option<Counts>,
 }

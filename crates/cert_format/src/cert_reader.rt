@@ -8,7 +8,8 @@ use crate::reader::Standing;
 use cert_lines::Word;
 use std::alloc::Global;
 
-/// Reads the text of a certificate in pieces, however it is cut. It holds what stands before the first node, and no node.
+/// Reads the text of a certificate in pieces, however it is cut. It keeps what stands before the first node, and no
+/// node. So its memory does not grow with the number of nodes.
 #[derive(Drop)]
 pub struct CertReader {
     pub(crate) alloc: Global,

@@ -6,7 +6,8 @@ ghost use Rattle.cert_format.specs.Good.{counts_in};
 use carp_base::Instance;
 use cert_lines::Counts;
 
-/// The numbers of an instance by which a certificate names it.
+/// The numbers of an instance, as a certificate states them. It takes no memory, and time in proportion to the required
+/// edges.
 pub fn counts_of(inst: &Instance) -> Counts
     ensures counts { result ≡ counts_in inst.now }
     ensures valid { IsValid inst.now }

@@ -89,7 +89,7 @@ impl Draft {
         }
     }
 
-    /// What stands before the first node, where the number of nodes is known.
+    /// What stands before the first node, if the number of nodes is known.
     pub(crate) fn head(&self) -> Option<&CertHead>
         ensures { MatchOption result (self.now.head.nodes ≡ 0) (λ head. (1 ≤ self.now.head.nodes) × (head.now ≡ self.now.head)) }
     {
@@ -192,7 +192,7 @@ impl Draft {
         self.next = shores_to_come(n);
     }
 
-    /// Takes over a shore, where it is no earlier one.
+    /// Takes over a shore, if it is no earlier one.
     pub(crate) fn accept_shore(
         &mut self,
         alloc: Global,
@@ -243,7 +243,7 @@ impl Draft {
         self.next = Next::Weights { left };
     }
 
-    /// Takes over the weights of a set, where they are those of a price set.
+    /// Takes over the weights of a set, if they are those of a price set.
     pub(crate) fn accept_weights(
         &mut self,
         alloc: Global,
@@ -324,7 +324,7 @@ impl Draft {
         self.head.nodes = n;
     }
 
-    /// Takes over a node, where the tree becomes whole with it just if it is the last.
+    /// Takes over a node, if the tree becomes whole with it exactly at the last one.
     pub(crate) fn accept_node(&mut self, left: u64, subtrees: u64, node: Node) -> bool
         requires bounded { IsBounded self.old }
         requires next { self.old.next ≡ stands.Node left subtrees }
@@ -354,7 +354,7 @@ impl Draft {
     }
 }
 
-// Where so many tours are to come, a tour stands next, and else the number of shores.
+// A tour stands next if tours are still to come, and else the number of shores.
 fn tours_to_come(left: u64) -> Next
     ensures { result ≡ tours_to_come left }
 {
@@ -468,7 +468,7 @@ fn is_fine_weight(weight: Weight) -> bool
     weight.shore != 0 && weight.weight != 0 && is_price(weight.weight)
 }
 
-// Adds a shore, where it is no earlier one; whether it is new.
+// Adds a shore, if it is no earlier one. The answer is whether it is new.
 fn add_new(pool: &mut ShorePool, shore: Shore) -> Result<bool, Memory>
     requires { length pool.old < 2000 }
     ensures new { IfOk result (λ new. IsTrue new → (¬ (Holds pool.old shore)) × (pool.new ≡ pool.old ++ shore ∷ [])) }

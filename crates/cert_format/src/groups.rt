@@ -19,10 +19,10 @@ use std::alloc::Global;
 // The most edges that the groups of a price set have together.
 const MOST_EDGES: u64 = 60_000;
 
-// A number past this one is told as this one.
+// A greater number is read as this one.
 const LIMIT: u64 = 1_000_000_000_000_000_000;
 
-// An edge past this number is read as this one.
+// A greater edge is read as this one.
 const GREATEST: u64 = 1_000_000;
 
 /// What stands next on a line of groups.
@@ -32,7 +32,8 @@ pub(crate) enum Awaited {
     Weight,
     /// The size of a group of this weight.
     Size { weight: i64 },
-    /// An edge of a group of this weight; so many are still to come, this one too. Where the number is not exact, more may be to come.
+    /// An edge of a group of this weight. `left` is how many are still to come, this one included. If the number is not
+    /// exact, more may come.
     Edge { weight: i64, left: u64, exact: bool },
 }
 
@@ -67,7 +68,7 @@ impl Groups {
         }
     }
 
-    /// Groups are to come; whether the number before them is in range.
+    /// Begins the groups of a line. `in_range` says whether the number before them is in its range.
     pub(crate) fn begin(&mut self, in_range: bool)
         ensures { HoldsGroups self.new in_range [] nothing }
     {
@@ -79,9 +80,9 @@ impl Groups {
         self.kept.clear();
     }
 
-    /// Takes one more word, if it may stand there; whether it may.
+    /// Takes one more word, if it may stand there. The answer is whether it may.
     ///
-    /// It answers `Memory` also where a group states 10^18 edges or more, and as many have come.
+    /// It also answers `Memory` if a group states 10^18 edges or more, and as many have come.
     pub(crate) fn take(&mut self, word: &Word) -> Result<bool, Memory>
         ensures { (head : Bool) (groups : List GroupWeight) (rest : Remainder) (text : List ℕ) → HoldsGroups self.old head groups rest → HoldsWord word.now text
             → IfOk result (λ fits. Takes fits self.new head groups rest text) }
@@ -245,7 +246,7 @@ fn is_fine_weight(weight: i64) -> bool
     weight != 0 && is_price(weight)
 }
 
-// Whether there are two edges, where the weight is negative.
+// Whether there are two edges, if the weight is negative.
 fn is_pair(edges: &[u32], weight: i64) -> bool
     ensures { IsTrue result ↔ (weight <ℤ pos 0 → length edges.now ≡ 2) }
 {

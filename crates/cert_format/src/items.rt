@@ -4,7 +4,8 @@ ghost use Rattle.std.specs.Prelude.{◌≡◌, ◌+◌, ◌<◌, ◌&&◌, ◌||
 use carp_base::Memory;
 use std::alloc::Global;
 
-/// Items of which so many are stated: those that came first are kept, no more than stated, while all numbers are in range.
+/// The items of a line that states how many they are. The first ones are kept, no more than stated, while all numbers
+/// are in range.
 #[derive(Drop)]
 pub(crate) struct Items<T: Drop> {
     pub(crate) stated: u64,
@@ -32,7 +33,8 @@ impl<T: Drop> Items<T> {
         }
     }
 
-    /// So many items are to come; whether the numbers before them are in range.
+    /// Begins the items of a line that states so many. `in_range` says whether the numbers before them are in their
+    /// ranges.
     pub(crate) fn begin(&mut self, stated: u64, in_range: bool)
         ensures stated { self.new.stated ≡ stated }
         ensures found { self.new.found ≡ 0 }
@@ -47,7 +49,7 @@ impl<T: Drop> Items<T> {
         self.kept.clear();
     }
 
-    /// One item more, and whether its numbers are in range.
+    /// Adds an item. `fits` says whether its numbers are in their ranges.
     pub(crate) fn add(&mut self, item: T, fits: bool) -> Result<(), Memory>
         ensures stated { OnOk result (self.new.stated ≡ self.old.stated) }
         ensures found { OnOk result (self.new.found ≡ (if nat_lt self.old.found self.old.stated then self.old.found + 1 else self.old.found)) }

@@ -26,7 +26,7 @@ use std::mem;
 /// What is made of a whole line.
 #[derive(Clone, Copy, Debug, PartialEq, Eq)]
 pub(crate) enum Verdict {
-    /// It has not the shape of a line that may stand there, or does not agree.
+    /// It does not have the shape of a line that may stand there, or what it says does not agree.
     Syntax,
     /// A number is out of its range.
     Limit,
@@ -176,7 +176,7 @@ fn is_in_order(node: Node) -> bool
 }
 
 impl Draft {
-    /// Takes over a line of which all words have come, where it is good.
+    /// Takes over a line of which all words have come, if it is good.
     pub(crate) fn take_line(
         &mut self,
         alloc: Global,
@@ -283,7 +283,7 @@ impl Draft {
         }
     }
 
-    // Takes over a shore, where it is in rising order and new.
+    // Takes over a shore, if it is in rising order and new.
     fn judge_shore(&mut self, alloc: Global, left: u64, vertices: &[u32]) -> Result<Verdict, Memory>
         requires bounded { IsBounded self.old }
         requires next { self.old.next ≡ stands.Shore left }
@@ -299,7 +299,7 @@ impl Draft {
         Ok(Verdict::Good(Item::Quiet))
     }
 
-    // Takes over weights, where they are those of a price set.
+    // Takes over weights, if they are those of a price set.
     fn judge_weights(
         &mut self,
         alloc: Global,
@@ -317,7 +317,7 @@ impl Draft {
         Ok(Verdict::Good(Item::Quiet))
     }
 
-    // Takes over the number of sets; in version 4 there is one.
+    // Takes over the number of sets. In version 4 there is at least one.
     fn judge_sets(&mut self, n: u64) -> Verdict
         requires bounded { IsBounded self.old }
         requires next { self.old.next ≡ stands.Sets }
@@ -332,7 +332,7 @@ impl Draft {
         Verdict::Good(Item::Quiet)
     }
 
-    // Takes over groups, where they are those of a price set, and some set has one if it is the last.
+    // Takes over groups, if they are those of a price set. At the last set some set must have a group.
     fn judge_groups(&mut self, left: u64, groups: Vec<WeightedGroup>) -> Result<Verdict, Memory>
         requires bounded { IsBounded self.old }
         requires next { self.old.next ≡ stands.Bonds left }

@@ -1,11 +1,18 @@
 //! The text of a certificate, both ways, in whole and in pieces.
 //!
-//! In the field: proof logging: certificates written and read.
+//! In the field: proof logging, with a proof that is written and read.
 //!
-//! [`write_cert`] gives the one spelling of a certificate. [`CertReader`] takes a text in pieces, however it is cut, and gives the
-//! head, each node, and the end; it holds the head and no nodes. [`read_cert`] feeds it a whole text. What a text says, and the
-//! first fault of bytes that are none, is defined in `cert_lines`. What makes a certificate good for an instance stands in
-//! `specs/Good.antt`, and [`good_is_proof`] says what a good one proves.
+//! [`write_cert`] gives the one spelling of a certificate. [`CertReader`] takes a text in pieces, however it is cut,
+//! and gives the head, each node, and the end. It keeps the head and no nodes. [`read_cert`] feeds it a whole text.
+//! `cert_lines` defines what a text says, and the first fault of bytes that are no text. `specs/Good.antt` defines what
+//! makes a certificate good for an instance, and [`good_is_proof`] says what a good one proves.
+//!
+//! - `cert`, `counting`: a certificate, its head, and the numbers of an instance.
+//! - `writing`, `spelling`: a certificate as text.
+//! - `reading`, `cert_reader`, `reader`: a whole text, and a text in pieces.
+//! - `line`, `kind`, `items`, `groups`: one line, word by word.
+//! - `judging`, `draft`: what is made of a whole line, and what the good lines say.
+//! - `laws`: what is proved of all certificates.
 #![tactic(auto)]
 
 mod cert;

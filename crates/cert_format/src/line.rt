@@ -21,7 +21,7 @@ use std::alloc::Global;
 // How many numbers follow the first word of a line, before its items, at most.
 const MOST_FIELDS: usize = 5;
 
-/// What the lines before a line say that tells what may stand on it.
+/// What the lines before a line say about what may stand on it.
 #[derive(Clone, Copy, Debug, PartialEq, Eq)]
 pub(crate) struct Context {
     /// Which line stands next.
@@ -45,7 +45,7 @@ pub(crate) enum Form {
     Shaped(Kind),
 }
 
-/// What is held of a line, of which some words have come.
+/// A line of which some words have come.
 #[derive(Drop)]
 pub(crate) struct LineState {
     pub(crate) form: Form,
@@ -276,7 +276,7 @@ impl LineState {
     }
 }
 
-// A vertex or a shore past this number is read as this one.
+// A greater vertex or shore is read as this one.
 const GREATEST: u64 = 1_000_000;
 
 // Whether a price or a weight is in its range.

@@ -31,12 +31,12 @@ pub(crate) enum Standing {
     Going,
     /// The first bad line has this fault.
     Bad(CertFault),
-    /// Memory was not to be had.
+    /// There was not enough memory.
     OutOfMemory,
 }
 
 impl CertReader {
-    /// A reader that has taken no bytes.
+    /// A reader that has taken no bytes. The only error is want of memory.
     pub fn new(alloc: Global) -> Result<CertReader, Memory>
         ensures { IfOk result (λ reader. HasTaken reader [] × (reader.standing ≡ Going)) }
     {
@@ -49,11 +49,11 @@ impl CertReader {
         })
     }
 
-    /// Takes bytes of a piece that is not empty, up to the one that completes an item, or else all of them, and answers how
-    /// many it took and the item.
+    /// Takes bytes of a piece, which is not empty: up to the byte that completes an item, or all of them if none does.
+    /// The answer is how many bytes it took, and the item.
     ///
-    /// Its error is the fault of the first bad line, as soon as this line is complete and from then on, or want of memory,
-    /// after which it answers nothing else. All calls together take expected time in proportion to the
+    /// As soon as the first bad line is complete, and from then on, its error is the fault of that line. After want of
+    /// memory it answers nothing except want of memory. All calls together take expected time in proportion to the
     /// bytes.
     pub fn feed(&mut self, piece: &[u8]) -> Result<(usize, Item), Fail<CertFault>>
         requires { piece.now ≢ [] }
@@ -74,7 +74,7 @@ impl CertReader {
         self.feed_lines(piece)
     }
 
-    /// What stands before the first node, as soon as the number of nodes was read; nothing after want of memory.
+    /// What stands before the first node, as soon as the number of nodes was read. After want of memory it is `None`.
     pub fn head(&self) -> Option<&CertHead>
         ensures there { (bytes : List ℕ) (said : LatestFirst) → HasTaken self.now bytes → SaysSoFar bytes said
             → MatchOption result (stated_nodes said ≡ 0) (λ head. (1 ≤ stated_nodes said) × IsHeadOf said head.now) }
@@ -89,8 +89,8 @@ impl CertReader {
         }
     }
 
-    /// Whether the bytes that were taken are the text of a certificate; its error is their first fault, or want of memory. It
-    /// takes no memory.
+    /// Whether the bytes that were taken are the text of a certificate. If not, the error is their first fault. It
+    /// answers `Memory` only if an earlier call did, and takes no memory itself.
     pub fn finish(&self) -> Result<(), Fail<CertFault>>
         ensures whole { (bytes : List ℕ) → HasTaken self.now bytes → OnOk result ((said : LatestFirst) × ReadsAs bytes said [] × (next_of said ≡ Nothing)) }
         ensures refused { (bytes : List ℕ) → HasTaken self.now bytes → (fault : Fault) → IsErrOf result (Refused fault) → IsFaultOf bytes fault }
@@ -140,7 +140,7 @@ impl CertReader {
         Ok(())
     }
 
-    /// Takes bytes of a piece, where no line so far is bad.
+    /// Takes bytes of a piece, if no line so far is bad.
     pub(crate) fn feed_lines(&mut self, piece: &[u8]) -> Result<(usize, Item), Fail<CertFault>>
         requires some { piece.now ≢ [] }
         requires going { self.old.standing ≡ Going }

@@ -14,10 +14,10 @@ use carp_base::{Fail, Memory};
 use cert_lines::{CertFault, Item, readings_are_unique};
 use std::alloc::Global;
 
-/// The certificate of a text, or the first fault of bytes that are none.
+/// The certificate of a text, or the first fault of bytes that are no text of a certificate.
 ///
-/// Where memory is not to be had it answers `Memory`. It takes expected time in proportion to the bytes, and memory in proportion to the
-/// bytes and to the number of nodes that they state.
+/// `Fail::Memory` says only that there was not enough memory. It takes expected time in proportion to the bytes, and
+/// memory in proportion to the bytes and to the number of nodes that they state.
 pub fn read_cert(alloc: Global, bytes: &[u8]) -> Result<Cert, Fail<CertFault>>
     ensures read { IfOk result (λ cert. IsTextOf bytes.now (certificate_in cert)) }
     ensures refused { (fault : Fault) → IsErrOf result (Refused fault) → IsFaultOf bytes.now fault }

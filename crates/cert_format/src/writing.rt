@@ -303,10 +303,10 @@ fn push_values(text: &mut Vec<u8>, cost: u64, bound: u64) -> Result<(), Memory>
     push_line(text, b"bound", bound)
 }
 
-/// The text of a certificate, its one spelling: version 4 if some price set has a group, else version 2 if it has the numbers of the
-/// instance, and else version 1.
+/// The text of a certificate, its one spelling: version 4 if some price set has a group, else version 2 if it has the
+/// numbers of the instance, and else version 1.
 ///
-/// Its error says only that memory was not to be had. It takes time and memory in proportion to the text.
+/// The only error is want of memory. It takes time and memory in proportion to the text.
 pub fn write_cert(alloc: Global, cert: &Cert) -> Result<Vec<u8>, Memory>
     requires { IsSpellable (certificate_in cert.now) }
     ensures spelled { IfOk result (λ text. text.items ≡ text_of (certificate_in cert.now)) }

@@ -24,7 +24,7 @@ pub record AreWeights (n : ℕ) (items : List Weight) : Type 0 where
   pub rising : IsStrictlyIncreasing (map (λ w. w.shore) items)
   pub some : All (λ w. w.weight ≢ pos 0) items
 
--- the edges of a group rise, and its weight is not 0; where it is negative, the group is a pair
+-- the edges of a group rise, and its weight is not 0; if the weight is negative, the group is a pair
 pub record IsGroupInOrder (w : GroupWeight) : Type 0 where
   pub rising : IsStrictlyIncreasing w.edges
   pub some : w.weight ≢ pos 0
@@ -36,7 +36,7 @@ pub record AreGroups (n : ℕ) (groups : List GroupWeight) (rest : Remainder) : 
   pub complete : rest ≡ nothing
   pub in_order : All IsGroupInOrder groups
 
--- where no set is to come after this one, some set has a group
+-- if no set is to come after this one, some set has a group
 abbrev pub SomeSetHasGroups : ℕ → List Prices → Type 0
 SomeSetHasGroups left all = left ≡ 1 → IsTrue (has_groups all)
 
@@ -48,7 +48,7 @@ IsPairInOrder (Price set) = Unit {0}
 IsPairInOrder Void = Unit {0}
 IsPairInOrder Fixed = Unit {0}
 
--- where so many nodes and so many whole subtrees are to come, the tree becomes whole with this node exactly where it is the last
+-- if so many nodes and so many whole subtrees are to come, the tree becomes whole with this node exactly if it is the last
 abbrev pub BecomesWhole : (left subtrees : ℕ) → Node → Type 0
 BecomesWhole left subtrees x = (open_after subtrees x ≡ 0) ↔ (left ≡ 1)
 

@@ -69,7 +69,7 @@ with_groups groups = record row {
   sets = record { unit = 1; services = pos 3 ∷ pos 4 ∷ []; weights = on_shore 1 (pos 3) ∷ on_shore 2 (pos 4) ∷ []; groups = groups } ∷ [];
 }
 
--- with a weight on the group of both streets, and a gain where both are served together
+-- with a weight on the group of both streets, and a gain if both are served together
 abbrev pub bonded : Certificate
 bonded = with_groups (on_group (1 ∷ 2 ∷ []) (pos 3) ∷ on_group (1 ∷ 2 ∷ []) (negsuc 1) ∷ [])
 

@@ -9,8 +9,8 @@ use Rattle.branch_rules.specs.declared.node.Node.TheVariants.{Pair, Cut, Price, 
 use Rattle.cert_lines.specs.declared.counts.Counts.{Counts}
 use Rattle.cert_lines.specs.Numerals.{numeral, signed_numeral}
 
--- what stands behind the complete groups of a line: nothing, the weight of one more group alone, or its weight, its size and its
--- edges, of which so many and one more are missing
+-- what stands behind the complete groups of a line: nothing, only the weight of one more group, or its weight, its size and its edges, of
+-- which so many and one more are missing
 pub data Remainder : Type 0 where
   nothing : Remainder
   weight_alone : ℤ → Remainder

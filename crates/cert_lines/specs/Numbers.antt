@@ -21,7 +21,7 @@ pub record IsNatural (text : List ℕ) (told : ℕ) : Type 0 where
   pub spelled : text ≡ numeral n
   pub value : told ≡ min n limit
 
--- the number, or the limit on its side of 0 where it is past it
+-- the number, or the limit on its side of 0 if it is past the limit
 abbrev pub clamped : ℤ → ℤ
 clamped (pos n) = pos (min n limit)
 clamped (negsuc n) = negsuc (min n (limit - 1))

@@ -7,7 +7,7 @@ unfoldable pub numeral : ℕ → List ℕ
 numeral zero = 48 ∷ []
 numeral (suc n) = map (λ d. 48 + d) (digits_of 10 (suc n))
 
--- the same with `-` before it, where it is negative
+-- the same with `-` before it, if it is negative
 abbrev pub signed_numeral : ℤ → List ℕ
 signed_numeral (pos n) = numeral n
 signed_numeral (negsuc n) = 45 ∷ numeral (suc n)

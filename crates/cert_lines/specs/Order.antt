@@ -16,7 +16,7 @@ version_of [] = 0
 version_of (version n ∷ said) = n
 version_of (_ ∷ said) = version_of said
 
--- where so many tours are to come, a tour stands next, and else the number of shores
+-- a tour stands next if tours are still to come, and else the number of shores
 abbrev pub tours_to_come : ℕ → Next
 tours_to_come zero = stands.Shores
 tours_to_come (suc n) = stands.Tour (suc n)

@@ -55,7 +55,7 @@ pub record AreGroupsInRange (n : ℕ) (groups : List GroupWeight) (rest : Remain
   pub behind : IsRemainderInRange rest
   pub few_edges : sum_by (λ (w : GroupWeight). length w.edges) groups + remainder_size rest ≤ 60000
 
--- a node, where there are so many shores (borders) and so many price sets (units)
+-- a node, if there are so many shores (borders) and so many price sets (units)
 abbrev pub IsNodeInRange : (borders units : ℕ) → Node → Type 0
 IsNodeInRange borders units (Pair a b) = IsWithin 1 600 a × IsWithin 1 600 b
 IsNodeInRange borders units (Cut border k) = IsWithin 1 borders border × (k ≤ 1000000)

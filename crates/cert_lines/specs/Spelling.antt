@@ -28,7 +28,7 @@ tour_line steps = tour (length steps) steps
 abbrev pub shore_line : List ℕ → Line
 shore_line vertices = shore (length vertices) vertices
 
--- the line of the groups of a price set, where some price set has one
+-- the line of the groups of a price set, if some price set has one
 abbrev pub group_lines : (grouped : Bool) → Prices → List Line
 group_lines false set = []
 group_lines true set = bonds (length set.groups) set.groups nothing ∷ []
@@ -83,7 +83,7 @@ pub record IsFineSet (pool : List (List ℕ)) (set : Prices) : Type 0 where
   pub shores : All (λ w. IsShoreNumber pool w.shore) set.weights
   pub group_edges : All (λ w. All (IsWithin 1 600) w.edges) set.groups
 
--- a node, where there are so many shores (borders) and so many price sets (units)
+-- a node, if there are so many shores (borders) and so many price sets (units)
 abbrev pub IsFineNode : (borders units : ℕ) → Node → Type 0
 IsFineNode borders units (Pair a b) = (1 ≤ a) × (a < b) × (b ≤ 600)
 IsFineNode borders units (Cut border k) = IsWithin 1 borders border × (k ≤ 1000000)

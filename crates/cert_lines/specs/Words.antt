@@ -4,7 +4,7 @@ use Rattle.std.specs.List.{list_all}
 use Rattle.std.specs.Char.{is_ascii_digit}
 use Rattle.cert_lines.specs.declared.word.Word.{Word}
 
--- the front of a text is kept, at least so many bytes of it where there are more, and of the rest whether all are digits
+-- the front of a text is kept, at least so many bytes of it if there are more, and of the rest whether all are digits
 pub record IsCut (least : ℕ) (front : List ℕ) (goes_on all_digits : Bool) (text : List ℕ) : Type 0 where
   pub rest : List ℕ
   pub parts : text ≡ front ++ rest

@@ -1,8 +1,9 @@
 // The size of an instance, as a certificate states it.
 
-/// The numbers of the instance for which a certificate was made. A certificate beside a file with other numbers is refused by them.
+/// The numbers of the instance for which a certificate was made. A checker refuses the certificate beside a file with
+/// other numbers.
 ///
-/// The ranges are those of a text and of a valid instance.
+/// The numbers in a text are in the ranges below, and so are those of a valid instance.
 #[derive(Clone, Copy, Debug, PartialEq, Eq)]
 pub struct Counts {
     /// The number of vertices, 1 to 1,000.

@@ -32,7 +32,7 @@ pub fn numerals_are_decimals()
     ensures whole { SignedNumeralIsDecimal }
 {}
 
-/// The spelling of a number of any size, digit by digit; no two numbers have the same.
+/// The spelling of a number of any size, digit by digit. No two numbers have the same spelling.
 pub fn numerals_grow()
     ensures digit { DigitIsNumeral }
     ensures more { NumeralGrows }
@@ -41,7 +41,7 @@ pub fn numerals_grow()
     ensures signed { SignedNumeralIsUnique }
 {}
 
-/// No two lines have the same bytes, and all bytes of a line are from 32 to 122, so that none is an LF.
+/// No two lines have the same bytes. All bytes of a line are from 32 to 122, so none of them is an LF.
 pub fn lines_are_unique()
     ensures unique { LineIsUnique }
     ensures whole { LineHasNoEnd }
@@ -52,21 +52,22 @@ pub fn lines_are_cut()
     ensures { LineIsCut }
 {}
 
-/// Where the lines of bytes are good, none of them is bad; what good lines say is one, and so is the first bad line with its fault.
+/// Bytes are read in at most one way: if all their lines are good, none is bad. Good lines say one thing, and there is
+/// at most one first bad line with its fault.
 pub fn readings_are_unique()
     ensures reading { ReadingIsUnique }
     ensures apart { ReadIsNotBad }
     ensures bad { BadLineIsUnique }
 {}
 
-/// Bytes are the text of at most one certificate, and have at most one first fault, and not both.
+/// Bytes are the text of at most one certificate, or have at most one first fault, and never both.
 pub fn texts_are_unique()
     ensures text { TextIsUnique }
     ensures apart { TextHasNoFault }
     ensures fault { FaultIsUnique }
 {}
 
-/// The spelling of a certificate that can be spelled is a text of this certificate.
+/// If a certificate can be spelled, its spelling is a text of this certificate.
 pub fn spelled_is_read()
     ensures { SpelledIsRead }
 {}
@@ -77,13 +78,13 @@ pub fn read_is_spelled()
     ensures spelled { ReadIsSpelled }
 {}
 
-/// A certificate can be spelled whose numbers are in range, whose shores rise and are different, whose weights rise and are not 0, whose
-/// pairs have the lesser edge first, and whose nodes are a tree in preorder.
+/// A certificate can be spelled if its numbers are in range, its shores rise and are different, its weights rise and
+/// are not 0, its pairs have the lesser edge first, and its nodes are a tree in preorder.
 pub fn fine_is_spellable()
     ensures { FineIsSpellable }
 {}
 
-/// The other way: a certificate that can be spelled has its numbers in range, different shores, and the nodes of one tree in preorder.
+/// A certificate that can be spelled has its numbers in range, different shores, and the nodes of one tree in preorder.
 pub fn spellable_is_fine()
     ensures { SpellableIsFine }
 {}
@@ -93,7 +94,8 @@ pub fn shores_are_fine()
     ensures { ShoreIsFine }
 {}
 
-/// The text of a certificate has at most 268,435,456 bytes, so that a reader with this limit refuses none for its length.
+/// The text of a certificate has at most 268,435,456 bytes. So a reader with this limit refuses no certificate for its
+/// length.
 pub fn texts_are_short()
     ensures text { TextIsShort }
     ensures spelling { SpellingIsShort }

@@ -6,10 +6,11 @@ ghost use Rattle.std.specs.Str.Parse.{digits_value};
 ghost use Rattle.cert_lines.specs.Numbers.{IsNatural, IsNoNatural, IsNumeral, limit};
 ghost use Rattle.cert_lines.specs.Words.{IsCut};
 
-// 10^18: a number past it is read as this one.
+// 10^18: a greater number is read as this one.
 const LIMIT: u64 = 1_000_000_000_000_000_000;
 
-/// The number that a text spells, up to the limit, by the front of the text and whether more bytes follow, all digits.
+/// The number that a text spells, or the limit if that is less. `None` says that it spells none. `front` is the front
+/// of the text, `more` says whether more bytes follow, and `digits` whether these are all digits.
 pub(crate) fn natural_in(front: &[u8], more: bool, digits: bool) -> Option<u64>
     ensures small { IfSome result (λ told. told ≤ limit) }
     ensures told { (text : List ℕ) → IsCut 19 front.now more digits text → MatchOption result (IsNoNatural text) (IsNatural text) }
@@ -43,7 +44,7 @@ fn all_digits(text: &[u8]) -> bool
     text.iter().all(|b| b.is_ascii_digit())
 }
 
-// The number that digits write, up to the limit.
+// The number that digits write, or the limit if that is less.
 fn value_of(digits: &[u8]) -> u64
     requires { list_all is_ascii_digit digits.now ≡ true }
     ensures { result ≡ min (digits_value 10 digits.now) limit }

@@ -12,10 +12,11 @@ use plan_model::Step;
 // How many bytes of a word are kept.
 const KEPT: usize = 20;
 
-// An edge of a step past this number is read as this one.
+// A greater edge of a step is read as this one.
 const GREATEST_EDGE: u64 = 1_000_000;
 
-/// What is held of a word of any length: its first bytes, and whether all later ones are digits.
+/// A word of any length, by its first 20 bytes and whether all later ones are digits. Each call except
+/// [`extend`](Word::extend) takes the same time whatever the length.
 #[derive(Drop)]
 pub struct Word {
     kept: ArrayVec<u8, KEPT>,
@@ -35,14 +36,14 @@ impl Word {
         }
     }
 
-    /// Makes it the word of no bytes.
+    /// Makes this the word of no bytes.
     pub fn clear(&mut self)
         ensures { HoldsWord self.new [] }
     {
         *self = Word::new();
     }
 
-    /// Adds bytes at the end.
+    /// Adds bytes at the end, in time in proportion to them.
     pub fn extend(&mut self, piece: &[u8])
         ensures { (text : List ℕ) → HoldsWord self.old text → HoldsWord self.new (text ++ piece.now) }
     {
@@ -51,14 +52,14 @@ impl Word {
         }
     }
 
-    /// Whether it has no bytes.
+    /// Whether the word has no bytes.
     pub fn is_empty(&self) -> bool
         ensures { (text : List ℕ) → HoldsWord self.now text → (IsTrue result ↔ (text ≡ [])) }
     {
         self.kept.as_slice().is_empty()
     }
 
-    /// Whether it is just the bytes of a keyword, which has fewer than 20.
+    /// Whether the word is this keyword, byte by byte. A keyword has fewer than 20 bytes.
     pub fn is(&self, keyword: &[u8]) -> bool
         requires { length keyword.now < 20 }
         ensures { (text : List ℕ) → HoldsWord self.now text → (IsTrue result ↔ (text ≡ keyword.now)) }
@@ -66,8 +67,8 @@ impl Word {
         !self.more && self.kept.as_slice() == keyword
     }
 
-    /// The number that it spells, `0` or digits of which the first is not `0`, and `None` where it spells none; a number past 10^18 is told
-    /// as 10^18.
+    /// The number that the word spells, or `None` if it spells none. A number is `0`, or digits of which the first is
+    /// not `0`. A number above 10^18 is read as 10^18.
     pub fn natural(&self) -> Option<u64>
         ensures small { IfSome result (λ told. told ≤ limit) }
         ensures told { (text : List ℕ) → HoldsWord self.now text → MatchOption result (IsNoNatural text) (IsNatural text) }
@@ -75,8 +76,8 @@ impl Word {
         natural_in(self.kept.as_slice(), self.more, self.digits)
     }
 
-    /// The whole number that it spells, a number or `-` and a number other than `0`, and `None` where it spells none; a number past 10^18
-    /// either way is told as 10^18 on its side of 0.
+    /// The whole number that the word spells, or `None` if it spells none. A whole number is a number, or `-` and a
+    /// number other than `0`. If its size is above 10^18, it is read as 10^18 with the same sign.
     pub fn whole(&self) -> Option<i64>
         ensures { (text : List ℕ) → HoldsWord self.now text → MatchOption result (IsNoWhole text) (IsWhole text) }
     {
@@ -92,8 +93,8 @@ impl Word {
         Some(-(size as i64))
     }
 
-    /// The step that it spells, a mark and the number of an edge, and `None` where it spells none; an edge past 1,000,000 is told as
-    /// 1,000,000.
+    /// The step that the word spells, or `None` if it spells none. A step is one of the marks `+`, `-`, `>` and `<` and
+    /// the number of an edge. An edge above 1,000,000 is read as 1,000,000.
     pub fn step(&self) -> Option<Step>
         ensures { (text : List ℕ) → HoldsWord self.now text → MatchOption result (IsNoStep text) (IsStep text) }
     {

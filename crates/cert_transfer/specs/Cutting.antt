@@ -1,12 +1,12 @@
--- Tours that are cut where a vehicle is full.
+-- Tours that are cut if a vehicle is full.
 use Rattle.std.specs.Prelude.{◌+◌, List, [], ◌∷◌, ◌++◌, if◌then◌else◌, nat_le}
 use Rattle.std.specs.List.{flat_map}
 use Rattle.carp_base.specs.declared.edge.Task.{Task}
 use Rattle.carp_base.specs.Problem.{Problem, edge_at}
 use Rattle.task_tours.specs.Tours.{tour_load}
 
--- the tasks so far and those to come, in their order, cut into tours: a new tour begins exactly where the load with the next task would
--- pass the capacity
+-- the tasks so far and those to come, in their order, cut into tours: a new tour begins exactly if the load with the next task would pass
+-- the capacity
 abbrev pub cut_from : Problem → (tour : List Task) → List Task → List (List Task)
 cut_from p tour [] = tour ∷ []
 cut_from p tour (task ∷ tasks) =

@@ -11,7 +11,7 @@ use Rattle.cert_format.specs.Good.{IsGood, counts_in, support_of}
 
 -- The certificate can be spelled, is good for the instance, and has its numbers. Its shores and price sets are the old ones, and its tree is the
 -- old one carried over. Its bound is no lower than the old one, and is the greatest, up to the cost, that its tree shows. Its tours are the old
--- ones, cut where a vehicle would be too full, and joined by least paths.
+-- ones, cut if a vehicle would be too full, and joined by least paths.
 pub record IsCarriedOver (p : Problem) (old new : Certificate) : Type 0 where
   pub spellable : IsSpellable new
   pub good : IsGood p new

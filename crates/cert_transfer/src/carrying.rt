@@ -16,17 +16,20 @@ use std::alloc::Global;
 use task_tours::{cost_distances, lawful_cost};
 use tree_transfer::{carry_tree, greatest_bound};
 
-/// A certificate that is good for an instance before edits, carried over to the instance `after` them, with the numbers of that one.
+/// A certificate that is good for the instance `before` edits, carried over to the instance `after` them. It has the
+/// numbers of the instance `after`.
 ///
-/// Shores and price sets stay. In the tree a node whose pair is now excluded, and a cut below the lower number of its shore, give way to their second
-/// children. The bound is the greatest, up to the cost, that the tree shows, and no lower than before. Each tour keeps its services in their order and
-/// direction, is cut where the next service would pass the capacity, and is joined again by least paths; so the cost may rise.
+/// Shores and price sets stay. In the tree a node whose pair is now excluded gives way to its second child, and so does
+/// a cut below the lower number of its shore. The bound is the greatest, up to the cost, that the tree shows. It is no
+/// lower than before. Each tour keeps its services in their order and direction. It is cut if the next service would
+/// pass the capacity, and its parts are joined by least paths. So the cost may rise.
 ///
-/// `before` and `edits` tell only what the certificate was good for and what was edited; they are not read. Its error says only that memory was not
-/// to be had.
+/// `before` and `edits` say only for what the certificate was good and what was edited. They are not read. The only
+/// error is want of memory.
 ///
-/// With n nodes, m required edges, d decisions on a path, k weights in a set, v vertices and e edges it takes time in proportion to
-/// n (m * m + d + (m + d) k) and v (v + e) log v, and to the steps of both plans; memory for the new certificate and a table of v * v.
+/// With n nodes, m required edges, d decisions on a path, k weights in a set, v vertices and e edges it takes time in
+/// proportion to n (m * m + d + (m + d) k) and v (v + e) log v, and to the steps of both plans. It takes memory for the
+/// new certificate and for a table of v * v.
 pub fn carry(
     alloc: Global,
     before: &Instance,

@@ -62,10 +62,11 @@ fn add_walk(
     Ok(())
 }
 
-/// The plan of an older instance, carried over to this one: each old tour keeps its services in their order and direction, is cut
-/// exactly where the load with the next service would pass the capacity, and each part is joined by least paths from the
-/// depot and back. A tour without service is left out. The old plan serves each required edge once; its tours may be too
-/// heavy, and nothing is asked of its deadheads. The distances are those by cost. The only error is want of memory.
+/// The plan of an older instance, carried over to this one. Each old tour keeps its services in their order and
+/// direction. It is cut exactly if the load with the next service would pass the capacity. Each part is joined by least
+/// paths from the depot and back. A tour without service is left out. The old plan serves each required edge once. Its
+/// tours may be too heavy, and nothing is asked of its deadheads. The distances are those by cost. The only error is
+/// want of memory.
 ///
 /// The new plan is lawful. It has at most a tour for each required edge and 2,000,000 steps.
 ///

@@ -18,7 +18,7 @@ fn demand_at(inst: &Instance, tasks: &[Task], place: usize) -> u64
     inst.edge(tasks[place].edge).demand
 }
 
-// The place after the tour that begins at a place: the first later place whose task a vehicle can't take as well.
+// The place after the tour that begins at a place: the first later place whose task a vehicle cannot take too.
 pub(crate) fn end_of_tour(inst: &Instance, tasks: &[Task], start: usize) -> usize
     requires required { AllByRecursion (λ t. IsRequired inst.now t.edge) tasks.now }
     requires within { start < length tasks.now }

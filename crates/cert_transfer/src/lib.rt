@@ -9,10 +9,15 @@
 //! bound that is no lower, without any search. The edits, their text and the edited instance are
 //! those of [`instance_edits`].
 //!
-//! If demands rose, a tour of the old plan can be too heavy for a vehicle, and if streets were
-//! closed its way may be gone. [`carry_plan`] keeps the services of each tour in their order and
+//! If demands rose, a tour of the old plan can be too heavy for a vehicle. If streets were closed,
+//! its way may be gone. [`carry_plan`] keeps the services of each tour in their order and
 //! direction, cuts the tour if the vehicle would be too full, and joins the services again by least
 //! paths.
+//!
+//! - `carrying`, `copies`: a certificate that is carried over, and the parts of it that stay.
+//! - `carrying_tours`, `reading`, `cutting`: a plan that is carried over, the services of a walk,
+//!   and the places where a tour is cut.
+//! - `laws`: the laws that a carried certificate stands on, as one.
 #![tactic(auto)]
 
 mod carrying;

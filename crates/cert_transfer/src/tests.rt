@@ -19,8 +19,8 @@ fn street(u: u64, v: u64, cost: u64, demand: u64) -> RawEdge {
     }
 }
 
-// A plan as text, with a `;` after each walk. A sign and a digit are a step on the edge of that number: `+` serves it forward, `-`
-// serves it backward, `>` crosses it forward and `<` backward.
+// A plan as text, with a `;` after each walk. A sign and a digit are a step on the edge of that number: `+` serves it
+// forward, `-` serves it backward, `>` crosses it forward and `<` backward.
 fn plan_of(rt: &impl Abort, alloc: Global, text: &str) -> Result<Plan, Memory> {
     let mut plan = Plan::new(alloc);
     let mut walk = Walk::new(alloc);
@@ -114,7 +114,7 @@ fn expect_carried(
 fn keeps_tours_that_fit(rt: HostRuntime) -> Result<(), Fail> {
     let required = [street(1, 2, 5, 2), street(2, 3, 7, 2)];
     let inst = Instance::build(rt.alloc(), 3, 1, 4, &required, &[street(1, 3, 4, 0)])?;
-    // As it is; a way home of 12 where there is one of 4; two tours that would fit one; and walks without service.
+    // As it is; a way home of 12 though there is one of 4; two tours that would fit one; and walks without service.
     let rows = "\
 +1+2<3; +1+2<3;
 +1+2<2<1; +1+2<3;

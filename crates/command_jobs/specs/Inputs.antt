@@ -15,7 +15,7 @@ pub record IsBadSecond (file cert : List ℕ) (contents : List ℕ → Option (L
   pub read : Holds (instance_at file) contents (λ bytes. IsTextOf bytes instance)
   pub bad : IsBadFile (IsBadCertificate instance) (certificate_at cert) contents status
 
--- the instance file is refused so, or, where it is the text of an instance, the certificate
+-- the instance file is refused so, or, if it is the text of an instance, the certificate
 abbrev pub IsBadPair : (file cert : List ℕ) → (List ℕ → Option (List ℕ)) → Status → Type 0
 IsBadPair file cert contents status = IsBadFile IsBadInstance (instance_at file) contents status ⊎ IsBadSecond file cert contents status
 
@@ -69,7 +69,7 @@ CanBeDone (Fleet file turns) contents = Holds (instance_at file) contents IsInst
 CanBeDone (Edit file cert edits edited carried) contents = AreGoodFiles file cert edits contents
 CanBeDone (Improve file cert improved turns seed) contents = IsGoodPair file cert contents
 
--- a look failed at the first of two files, or at the second one, where the first is the text of an instance
+-- a look failed at the first of two files, or at the second one, if the first is the text of an instance
 abbrev pub IsUnreadPair : (file cert : List ℕ) → (List ℕ → Option (List ℕ)) → (List ℕ → ℕ) → (List ℕ → ℕ) → Type 0
 IsUnreadPair file cert contents before now = Rose (before file) (now file) ⊎ (Holds (instance_at file) contents IsInstance × Rose (before cert) (now cert))
 

@@ -96,7 +96,7 @@ WasRead Reads (Edit file cert edits edited carried) (jobs.Edit read first second
 WasRead Reads (Improve file cert improved turns seed) (jobs.Improve inst c name asked drawn) = AreCertified Reads file cert inst (certificate_in c)
 WasRead Reads _ _ = ⊥
 
--- The job of a command: it rests on bytes that the files gave in this call, whether or not contents are told, and on those that the names hold where
+-- The job of a command: it rests on bytes that the files gave in this call, whether or not contents are told, and on those that the names hold if
 -- contents are told (`contents_told`).
 pub record IsJobOf (contents_told : Bool) (c : Command) (contents : List ℕ → Option (List ℕ)) (given_before given_now : ℕ) (job : Job) : Type 0 where
   pub is_for : IsFor c job

@@ -80,8 +80,8 @@ pub record Seen : Type 0 where
   pub given_before : ℕ
   pub given_now : ℕ
 
--- What becomes of reading these files: each refusal is one of those that belong here (`Refuses`) and has its cause. Where contents are told, a file
--- could not be read only where one of those was not to be had that had to be looked at (`Unread`); and else what is bad is refused and what is good is not.
+-- What becomes of reading these files: each refusal is one of those that belong here (`Refuses`) and has its cause. If contents are told, a file could not
+-- be read only if a look failed at one that had to be looked at (`Unread`). Otherwise what is bad is refused and what is good is not.
 pub record IsTried {X : Type 0} (seen : Seen) (sources : List Source)
     (Refuses : Status → Type 0) (Unread : Type 0) (Bad : Status → Type 0) (Good : Type 0) (result : Result X (Fail Status)) : Type 0 where
   pub refusal : (status : Status) → IsErrOf result (Refused status) → Refuses status

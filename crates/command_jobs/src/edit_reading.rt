@@ -18,7 +18,7 @@ use std::alloc::Global;
 pub const EDITS_LIMIT: u64 = 1_048_576;
 
 /// Reads an instance, a certificate and edits from three files, all of them before it looks at what they hold. It
-/// refuses the first file that can't be read or is too long. Then it refuses the instance, the certificate for it, and
+/// refuses the first file that cannot be read or is too long. Then it refuses the instance, the certificate for it, and
 /// the edits, if they are bad or the edited instance is.
 ///
 /// A refusal is [`Status::ReadFault`], [`Status::TooLong`] with the limit of the file, [`Status::BadInstance`],

@@ -19,7 +19,7 @@ use dat_text::readings_are_unique;
 use std::alloc::Global;
 
 /// Reads the files of a command, each of them whole before the next, and makes its job of them. The first file that
-/// can't be read, is too long or is bad ends it with its status. A command without files has its job at once, and is
+/// cannot be read, is too long or is bad ends it with its status. A command without files has its job at once, and is
 /// never refused.
 ///
 /// A refusal is [`Status::ReadFault`] or [`Status::TooLong`], or one for the bytes of the files that the command reads:
@@ -189,7 +189,7 @@ fn gather_plan<'a, H: Shelf>(
     }
 }
 
-// A certificate that is good, with the numbers of the instance. It is held, since it is written again.
+// A certificate that is good, with the numbers of the instance. All of it is kept in memory, since it is written again.
 fn gather_renewed<'a, H: Shelf>(
     alloc: Global,
     file: &str,
@@ -320,7 +320,7 @@ fn gather_edited<'a, H: Shelf>(
     }
 }
 
-// An instance, and a certificate that is good for it. It is held, since it is gone on with.
+// An instance, and a certificate that is good for it. All of it is kept in memory, since the search goes on from it.
 fn gather_held<'a, H: Shelf>(
     alloc: Global,
     file: &str,

@@ -68,7 +68,7 @@ pub fn read_instance<H: Shelf>(
     }
 }
 
-/// What the certificate of a file states, if it is good for the instance. It does not hold the nodes.
+/// What the certificate of a file states, if it is good for the instance. The nodes are not kept in memory.
 ///
 /// It refuses with [`Status::ReadFault`], [`Status::TooLong`] with [`CERTIFICATE_LIMIT`], [`Status::BadCertificate`] or
 /// [`Status::Rejected`]. `Fail::Memory` says only that there was not enough memory. It takes the time of
@@ -109,7 +109,7 @@ pub fn check_file<H: Shelf>(
     }
 }
 
-// What was checked, where the answer is good.
+// What was checked, if the answer is good.
 fn accept(checked: Checked) -> Result<Stated, Fail<Status>>
     ensures { result ≡ accepted_of checked checked.answer }
 {
@@ -123,7 +123,7 @@ fn accept(checked: Checked) -> Result<Stated, Fail<Status>>
     }
 }
 
-/// Reads the certificate of a file, which is good for the instance.
+/// Reads the certificate of a file, if it is good for the instance.
 ///
 /// It refuses as [`check_file`] does. It takes the time of reading and of [`cert_checker::check`], and memory in
 /// proportion to the bytes.
@@ -213,7 +213,7 @@ pub(crate) fn parse_good(alloc: Global, inst: &Instance, bytes: &[u8]) -> Result
     }
 }
 
-// A certificate that was read from these bytes, where it is good for the instance.
+// A certificate that was read from these bytes, if it is good for the instance.
 fn judge_cert(
     alloc: Global,
     inst: &Instance,

@@ -40,7 +40,7 @@ reads (Fleet file turns) = instance_at file ∷ []
 reads (Edit file cert edits edited carried) = instance_at file ∷ certificate_at cert ∷ edits_at edits ∷ []
 reads (Improve file cert improved turns seed) = instance_at file ∷ certificate_at cert ∷ []
 
--- the names that a command keeps where it is done, in order
+-- the names that a command keeps if it is done, in order
 abbrev pub keeps : Command → List (List ℕ)
 keeps (Solve file cert turns seed) = cert ∷ []
 keeps (Make file seed) = file ∷ []

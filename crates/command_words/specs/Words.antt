@@ -27,8 +27,8 @@ is_number digits = nat_le 1 (length digits) && nat_le (length digits) 18 && list
 abbrev pub number_of : List ℕ → ℕ
 number_of digits = digits_value 10 digits
 
--- What may follow a verb: so many names, and then the options that stand here with the number that holds where they are not given. The
--- command is that of these names, of the turns and of the seed.
+-- What may follow a verb: so many names, and then the options that stand here with the number that holds if they are not given. The command
+-- is that of these names, of the turns and of the seed.
 pub record Form : Type 0 where
   pub verb : List ℕ
   pub names : ℕ
@@ -100,7 +100,7 @@ seed_word = codes "--seed"
 abbrev pub are_turns : List ℕ → Bool
 are_turns digits = is_number digits && nat_le 1 (number_of digits) && nat_le (number_of digits) 1048576
 
--- the two words are an option, where these are taken
+-- the two words are an option, if these are taken
 unfoldable pub is_option : (turns seed : Bool) → (word number : List ℕ) → Bool
 is_option turns seed word number = (bytes_eq word turns_word && (turns && are_turns number)) || (bytes_eq word seed_word && (seed && is_number number))
 
@@ -116,7 +116,7 @@ are_options turns seed [] = true
 are_options turns seed (word ∷ []) = false
 are_options turns seed (word ∷ number ∷ words) = (is_option turns seed word number && not (is_given word words)) && are_options turns seed words
 
--- the number of an option, or this one where it is not given
+-- the number of an option, or this one if it is not given
 abbrev pub given : List ℕ → ℕ → List (List ℕ) → ℕ
 given option default [] = default
 given option default (word ∷ []) = default
@@ -141,7 +141,7 @@ abbrev pub is_plain : List (List ℕ) → Bool
 is_plain [] = false
 is_plain (verb ∷ words) = option_map_or (λ form. is_followed form words) (form_of verb) false
 
--- the command of a plain command line, or none where it is not plain
+-- the command of a plain command line, or none if it is not plain
 abbrev pub command_of : List (List ℕ) → Option Command
 command_of [] = None
 command_of (verb ∷ words) = option_and_then (λ form. if is_followed form words then command_with form words else None) (form_of verb)

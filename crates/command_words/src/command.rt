@@ -1,7 +1,7 @@
 // The commands.
 
 /// A command, with its names and its numbers. A name is not empty and does not begin with `-`, and no two names have
-/// the same bytes. It is not noticed if two names, as `a` and `./a`, are of one file.
+/// the same bytes. Two names of one file, such as `a` and `./a`, are not noticed.
 #[derive(Drop)]
 pub enum Command<'a> {
     /// Solves the instance of `file`, and keeps the certificate at `cert`.

@@ -15,7 +15,7 @@ use clap::error::ErrorKind;
 use clap::{Arg, ArgMatches};
 use std::alloc::{AllocError, Global};
 
-// The turns of a search where none are given.
+// The turns of a search, if none are given.
 const TURNS: &str = "64";
 
 /// The command of plain words.
@@ -44,7 +44,7 @@ fn grammar<'a>(alloc: Global) -> Result<clap::Command<'a>, AllocError>
         .subcommand(improve(alloc)?)
 }
 
-// The verbs but for those that make a new certificate of an old one.
+// The verbs except those that make a new certificate of an old one.
 fn neighbours<'a>(alloc: Global) -> Result<clap::Command<'a>, AllocError>
     ensures { IfOk result (λ c. app_of c ≡ neighbour_app) }
 {
@@ -53,7 +53,7 @@ fn neighbours<'a>(alloc: Global) -> Result<clap::Command<'a>, AllocError>
         .subcommand(fleet(alloc)?)
 }
 
-// The same, but for those that solve a neighbouring problem.
+// The same, except those that solve a neighbouring problem.
 fn middle<'a>(alloc: Global) -> Result<clap::Command<'a>, AllocError>
     ensures { IfOk result (λ c. app_of c ≡ middle_app) }
 {
@@ -117,7 +117,7 @@ fn improve<'a>(alloc: Global) -> Result<clap::Command<'a>, AllocError>
         .arg(option(alloc, "seed", "1"))
 }
 
-// A verb with an instance alone.
+// A verb with only an instance.
 fn one_name<'a>(alloc: Global, verb: &'a str) -> Result<clap::Command<'a>, AllocError>
     ensures app { IfOk result (λ c. app_of c ≡ one_name verb.now) }
     ensures local { IfOk result (λ c. (fields_of c).has_globals ≡ false) }

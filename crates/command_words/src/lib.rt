@@ -4,8 +4,10 @@
 //! options, each at most once and in any order. The table `forms` of `specs/Words.antt` says what each verb takes.
 //! `specs/Commands.antt` says what each command reads and keeps.
 //!
-//! Inside, `plain` tests the form, and `grammar` has plain words read by `clap`, whose reading is proved to be that of
-//! the table.
+//! - `command`, `words`: the commands, and the words that name them.
+//! - `plain`: whether words are in plain form.
+//! - `grammar`: plain words read by `clap`, whose reading is proved to be that of the table.
+//! - `laws`: what is proved of all words.
 #![tactic(auto)]
 
 mod command;

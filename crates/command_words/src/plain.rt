@@ -39,7 +39,7 @@ pub(crate) fn are_plain(words: &[String]) -> bool
     }
 }
 
-// What may follow a verb, where it is one.
+// What may follow a verb, if it is one.
 fn form_of(verb: &str) -> Option<Takes>
     ensures { MatchOption result (form_of verb.now ≡ None) (λ f. IsSomeAnd (form_of verb.now) (IsForm f)) }
 {

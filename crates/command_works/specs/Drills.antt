@@ -8,8 +8,8 @@ use Rattle.command_works.specs.Outputs.{Output}
 use Rattle.command_works.specs.Texts.{drill_text}
 
 -- A summary is to be written, and nothing is kept. The town of the number has a certificate of this cost, this bound and these turns: its plan is lawful and costs
--- no more than single tours or what helpers offered, and no lawful plan costs less than its bound, which is below the cost only where the turns are at
--- least those that were asked for, and not at all where so many were asked for that no tree has them.
+-- no more than single tours or what helpers offered, and no lawful plan costs less than its bound, which is below the cost only if the turns are at least those
+-- that were asked for, and not at all if so many were asked for that no tree has them.
 pub record IsDrilled (seed asked : ℕ) (offered : List (Option ℕ)) (output : Output) : Type 0 where
   pub certificate : Certificate
   pub turns : ℕ

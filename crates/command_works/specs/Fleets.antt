@@ -34,13 +34,13 @@ counts_text count bound turns =
 unfoldable pub fleet_text : Problem → List (List Step) → Packing → List ℕ
 fleet_text p plan found = counts_text found.count found.bound found.turns ++ tours_text p plan ++ nodes_text found.tree.items
 
--- `Proven` only where the bound is the count, and `Gap` only where it is below and the turns of the tree are at least those that were asked for
+-- `Proven` only if the bound is the count, and `Gap` only if it is below and the turns of the tree are at least those that were asked for
 pub record IsCountEnding (found : Packing) (asked : ℕ) (status : Status) : Type 0 where
   pub proven : status ≡ Proven → found.bound ≡ found.count
   pub gap : status ≡ Gap → (found.bound < found.count) × (asked ≤ found.turns)
 
 -- A packing with a tree that proves its bound, and a lawful plan with a tour for each group: its tours, all of which serve and go by least paths, and the tree are to be written. Every lawful plan has
--- at least as many walks that serve as the bound says; where enough turns were asked for, none has fewer than the plan.
+-- at least as many walks that serve as the bound says; if enough turns were asked for, none has fewer than the plan.
 pub record IsFleetFound (p : Problem) (asked : ℕ) (status : Status) (output : Output) : Type 0 where
   pub found : Packing
   pub packed : IsPacked p asked found

@@ -1,4 +1,4 @@
--- What going on from a certificate makes, but for the files.
+-- What going on from a certificate makes, except for the files.
 use Rattle.std.specs.Prelude.{◌≡◌, ℕ, ◌+◌, min, List, [], ◌∷◌, All, Option}
 use Rattle.carp_base.specs.Problem.{Problem}
 use Rattle.cert_lines.specs.Certificates.{Certificate}
@@ -12,7 +12,7 @@ use Rattle.command_jobs.specs.declared.status.Status.{Status}
 
 -- A name is to hold the text of a certificate of the instance, and its report is to be written: the certificate is good, costs no more than the
 -- old one and than what helpers offered, and its bound is no lower than the old one's. The turns are those of its tree; the bound is below the
--- cost only where they are at least those of the old tree and so many more as were asked for, or 1,048,576.
+-- cost only if they are at least those of the old tree and so many more as were asked for, or 1,048,576.
 pub record IsImprovedBy (p : Problem) (old : Certificate) (improved : List ℕ) (asked : ℕ) (offered : List (Option ℕ)) (status : Status) (output : Output) : Type 0 where
   pub certificate : Certificate
   pub turns : ℕ

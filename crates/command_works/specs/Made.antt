@@ -26,7 +26,7 @@ pub record IsKeptAgain (c : Cert) (renewed : List ℕ) (output : Output) : Type 
   pub keeps : output.kept ≡ record { name = renewed; bytes = kept_text } ∷ []
   pub writes : output.text ≡ answer_text (codes "upgraded\n") c.cost c.bound
 
--- a job is done with this answer and this output, where helpers offered such costs
+-- a job is done with this answer and this output, if helpers offered such costs
 abbrev pub IsMade : Job → List (Option ℕ) → Status → Output → Type 0
 IsMade (Solve inst cert turns seed) offered status output = ((status ≡ Proven) ⊎ (status ≡ Gap)) × IsSolvedBy inst cert.now turns offered status output
 IsMade (Check cost bound) offered status output = (status ≡ Accepted) × (output ≡ record { kept = []; text = answer_text (codes "accepted\n") cost bound })

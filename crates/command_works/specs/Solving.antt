@@ -1,4 +1,4 @@
--- What solving an instance makes: the headline, but for the file.
+-- What solving an instance makes: the headline, except for the file.
 use Rattle.std.specs.Prelude.{◌≡◌, ◌≢◌, ℕ, ◌+◌, ◌-◌, ◌*◌, ◌/◌, ◌^◌, ◌≤◌, List, [], ◌∷◌, All, Option}
 use Rattle.carp_base.specs.Problem.{Problem}
 use Rattle.cert_lines.specs.Certificates.{Certificate}
@@ -10,16 +10,15 @@ use Rattle.command_works.specs.Outputs.{Output}
 use Rattle.command_jobs.specs.declared.status.Status.{Status}
 use Rattle.command_jobs.specs.declared.status.Status.TheVariants.{Proven, Gap}
 
--- `Proven` only where the bound is the cost, and `Gap` only where it is not and the turns of the tree are at least the turns that were
--- asked for
+-- `Proven` only if the bound is the cost, and `Gap` only if it is not and the turns of the tree are at least the turns that were asked for
 pub record IsEnding (c : Certificate) (asked turns : ℕ) (status : Status) : Type 0 where
   pub proven : status ≡ Proven → c.bound ≡ c.cost
   pub gap : status ≡ Gap → (c.bound ≢ c.cost) × (asked ≤ turns)
 
 -- A name is to hold the text of a certificate of the instance, and its report is to be written: the certificate's plan is lawful, costs
 -- what is stated and no more than single tours or what helpers offered, and no lawful plan costs less than its bound. The turns are those
--- of its tree; the bound is below the cost only where they are at least the turns asked for, and not at all where so many were asked for
--- that no tree has them.
+-- of its tree; the bound is below the cost only if they are at least the turns asked for, and not at all if so many were asked for that no
+-- tree has them.
 pub record IsSolvedBy (p : Problem) (cert : List ℕ) (asked : ℕ) (offered : List (Option ℕ)) (status : Status) (output : Output) : Type 0 where
   pub certificate : Certificate
   pub turns : ℕ

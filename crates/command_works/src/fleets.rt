@@ -20,7 +20,8 @@ use plan_print::{push_gap, push_line, push_tours, push_words};
 use std::alloc::Global;
 use task_tours::cost_distances;
 
-/// The vehicles that are found in so many turns, with a plan for them and a tree that proves how many it takes at least.
+/// The vehicles that are found in so many turns, with a plan for them, and a tree that proves how many it takes at
+/// least.
 pub(crate) fn count_fleet<'a>(
     alloc: Global,
     inst: &Instance,

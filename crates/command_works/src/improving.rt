@@ -16,8 +16,9 @@ use plan_model::Proposer;
 use plan_print::report;
 use std::alloc::Global;
 
-/// Goes on from a certificate that is good for the instance, with so many turns more and with the aid of the helpers, which are seeded from the seed on; and
-/// builds the texts of the certificate that comes of it, which is to be kept under this name, and of its report.
+/// Goes on from a certificate that is good for the instance, with so many turns more and with the aid of the helpers,
+/// which are seeded from the seed on. Builds the texts of the certificate that comes of it, which is to be kept under
+/// this name, and of its report.
 pub(crate) fn improve_instance<'a, P: Proposer>(
     alloc: Global,
     inst: &Instance,

@@ -20,9 +20,9 @@ use std::alloc::Global;
 /// Does a job. If it solves an instance or goes on from a certificate, the helpers aid it, and are seeded from the
 /// job's seed on. All other jobs leave the helpers as they are.
 ///
-/// Its error says only that there was not enough memory. It takes the time of what the job asks for
-/// ([`carp_engine::solve`], [`carp_engine::improve`], [`fleet_pack::pack`], [`cert_transfer::carry`]) and of the texts,
-/// all of which are held at once.
+/// The only error is want of memory. It takes the time of what the job asks for ([`carp_engine::solve`],
+/// [`carp_engine::improve`], [`fleet_pack::pack`], [`cert_transfer::carry`]) and of the texts, all of which are in
+/// memory at once.
 pub fn make<'a, P: Proposer>(
     alloc: Global,
     job: Job<'a>,

@@ -1,4 +1,4 @@
--- How the yes neighbours of each edge and the chains are kept. Public contracts speak of `IsChainTable` and `IsTangled` alone.
+-- How the yes neighbours of each edge and the chains are kept. Public contracts speak only of `IsChainTable` and `IsTangled`.
 use Rattle.std.specs.Prelude.{◌≡◌, ◌≢◌, ℕ, zero, suc, ◌+◌, ◌-◌, ◌<◌, ◌≤◌, ◌↔◌, ◌==◌, ◌⊎◌, ◌||◌, ◌&&◌, not, Bool, true, false, Option, Some, None, List, length, slice_index_or, nat_lt, if◌then◌else◌, IsTrue}
 use Rattle.std.specs.List.{All, list_any}
 use Rattle.carp_base.specs.Allowed.{Relation, allows}
@@ -62,7 +62,7 @@ abbrev pub near_at : List Near → ℕ → Near
 near_at near zero = Free
 near_at near (suc k) = slice_index_or near k Free
 
--- two edges have one label exactly where they are of one chain
+-- two edges have one label exactly if they are of one chain
 abbrev pub IsLabelled : List Decision → (ℕ → ℕ) → Type 0
 IsLabelled branch label = (a b : ℕ) → (label a ≡ label b) ↔ AreJoined branch a b
 
@@ -85,7 +85,7 @@ pub record AreChains (m : ℕ) (branch : List Decision) (labels : List ℕ) (nea
   pub neighbours : (e : ℕ) → AreNear (yes_of branch e) (near_at near e)
   pub tangle : IsTrue tangled ↔ IsTangled branch
 
--- the label that a label becomes, where one label is given up for another
+-- the label that a label becomes, if one label is given up for another
 abbrev pub merged : ℕ → ℕ → ℕ → ℕ
 merged of_x of_y l = if l == of_y then of_x else l
 
@@ -161,12 +161,12 @@ closes_chain t a b =
 abbrev pub overloads : Chains → ℕ → ℕ → Bool
 overloads t a b = not (label_at t.labels.items a == label_at t.labels.items b) && nat_lt t.inst.now.capacity (chain_load t a + chain_load t b)
 
--- the pair is excluded, but for what decisions say of it
+-- the pair is excluded for another reason than that a decision says no to it
 abbrev pub is_barred : Chains → ℕ → ℕ → Bool
 is_barred t a b =
     (a == b) || has_two_besides (near_at t.near.items a) b || has_two_besides (near_at t.near.items b) a || closes_chain t a b || overloads t a b
 
--- an edge whose chain alone is above the capacity
+-- an edge whose chain is above the capacity by itself
 pub record IsOverloaded (t : Chains) (e : ℕ) : Type 0 where
   pub required : IsRequired t.inst.now e
   pub over : t.inst.now.capacity < chain_load t e

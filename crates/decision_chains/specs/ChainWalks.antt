@@ -7,7 +7,7 @@ use Rattle.decision_chains.specs.Exclusions.{IsYes, AreJoined, IsChainEnd}
 use Rattle.decision_chains.specs.declared.chains.Chains.{Chains}
 use Rattle.decision_chains.specs.declared.decision.Decision.{Decision}
 
--- an edge is marked, where the marks stand in the order of the edges
+-- an edge is marked, if the marks stand in the order of the edges
 abbrev pub is_marked : List Bool → ℕ → Bool
 is_marked marks zero = false
 is_marked marks (suc k) = slice_index_or marks k false
@@ -25,7 +25,7 @@ abbrev pub IsTrail : List Decision → ℕ → List ℕ → Type 0
 IsTrail branch x [] = Unit {0}
 IsTrail branch x (y ∷ ys) = IsYes branch x y × IsTrail branch y ys
 
--- from an edge that was reached from b the yes pairs lead over just these edges, one after another
+-- from an edge that was reached from b the yes pairs lead over exactly these edges, one after another
 abbrev pub Runs : List Decision → ℕ → ℕ → List ℕ → Type 0
 Runs branch b x [] = (z : ℕ) → IsYes branch x z → z ≡ b
 Runs branch b x (y ∷ ys) = IsYes branch x y × (y ≢ b) × ((z : ℕ) → IsYes branch x z → (z ≡ b) ⊎ (z ≡ y)) × Runs branch x y ys

@@ -35,7 +35,7 @@ pub record IsBestStart (p : Problem) (a e : ℕ) (edges : List ℕ) (left : Left
   pub sum : n ≡ out + left_after left forward
   pub best : IsLeastLeft p a (e ∷ edges) n
 
--- what stands where there is nothing
+-- what stands if there is nothing
 abbrev pub no_left : Left
 no_left = record { forward = 0; backward = 0 }
 

@@ -5,7 +5,7 @@ use Rattle.carp_base.specs.Problem.{Problem}
 use Rattle.deadhead_paths.specs.Prices.{price_of, costs_of}
 use Rattle.deadhead_paths.specs.Tours.{LeastDeadhead}
 
--- the tasks serve just these edges in this order, each in one direction
+-- the tasks serve exactly these edges in this order, each in one direction
 abbrev pub Directs : List ℕ → List Task → Type 0
 Directs edges tasks = map (λ t. t.edge) tasks ≡ edges
 

@@ -84,11 +84,11 @@ pub data Excluded (p : Problem) (branch : List Decision) (a b : ℕ) : Type 0 wh
   closes : AreJoined branch a b → IsChainEnd branch a → IsChainEnd branch b → ¬ (IsYes branch a b) → Excluded p branch a b
   heavy : ¬ (AreJoined branch a b) → IsHeavy p branch a b → Excluded p branch a b
 
--- a pair is determined where it is yes or excluded
+-- a pair is determined if it is yes or excluded
 abbrev pub IsDetermined : Problem → List Decision → ℕ → ℕ → Type 0
 IsDetermined p branch a b = IsYes branch a b ⊎ Excluded p branch a b
 
--- a relation on the required edges permits just the pairs that are not excluded
+-- a relation on the required edges permits exactly the pairs that are not excluded
 pub record PermitsUnexcluded (p : Problem) (branch : List Decision) (r : Relation) : Type 0 where
   pub on : r.size ≡ p.required
   pub permitted : (a b : ℕ) → IsRequired p a → IsRequired p b → allows r a b ≡ true → ¬ (Excluded p branch a b)

@@ -18,7 +18,7 @@ abbrev pub ChainsCostLess : (less more : Problem) (branch other : List Decision)
 ChainsCostLess less more branch other =
     (e : ℕ) (walk : List Step) → IsRequired more e → ServesChain more other e walk → IsServedWithin less branch e (walk_cost more walk)
 
--- with as many required edges and the same yes pairs, the fixed value is no more where chains cost no more
+-- with as many required edges and the same yes pairs, the fixed value is no more if chains cost no more
 abbrev pub FixedValuesCompare : Type 0
 FixedValuesCompare =
     (less more : Problem) (branch other : List Decision) (value most : ℕ) → more.required ≡ less.required → ((a b : ℕ) → IsYes other a b ↔ IsYes branch a b) →

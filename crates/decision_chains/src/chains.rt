@@ -13,8 +13,8 @@ use crate::near::Near;
 use carp_base::{Instance, Memory};
 use std::alloc::Global;
 
-/// The chains that the yes pairs of some decisions make of the required edges: the edges that yes pairs join, directly or by
-/// way of others, are one chain, and an edge without a yes pair is one by itself (Bode and Irnich 2012).
+/// The chains that the yes pairs of some decisions make of the required edges (Bode and Irnich 2012). Edges that yes
+/// pairs join, directly or by way of others, are one chain. An edge without a yes pair is a chain by itself.
 #[derive(Drop)]
 pub struct Chains<'a> {
     /// The instance whose required edges these are.
@@ -140,10 +140,11 @@ fn add_up(loads: &mut [u64], inst: &Instance, labels: &[u32])
 }
 
 impl<'a> Chains<'a> {
-    /// The chains of the yes pairs of some decisions, whose pairs are of required edges.
+    /// The chains of the yes pairs of some decisions, whose pairs are of required edges. The only error is want of
+    /// memory.
     ///
-    /// With m required edges and d decisions it takes time in proportion to m * (m + d) at most, and to m * m + d where yes pairs form no
-    /// cycle and give no edge three neighbours; it takes memory in proportion to m.
+    /// With m required edges and d decisions it takes time in proportion to m * (m + d) at most, and to m * m + d if
+    /// yes pairs form no cycle and give no edge three neighbours. It takes memory in proportion to m.
     pub fn of(
         alloc: Global,
         inst: &'a Instance,
@@ -187,9 +188,9 @@ impl<'a> Chains<'a> {
         self.near[edge as usize - 1]
     }
 
-    /// The next edge on the way along yes pairs over an edge that was reached from `before`, which is 0 where the way begins at
-    /// the edge; `None` where the chain ends there. Where `before` is none of two yes neighbours, one of them is the next. It takes no
-    /// memory and a fixed time.
+    /// The next edge on the way along yes pairs over an edge that was reached from `before`, or `None` if the chain
+    /// ends at the edge. `before` is 0 if the way begins at the edge. If the edge has two yes neighbours and `before`
+    /// is neither of them, the next edge is one of them. It takes no memory and a fixed time.
     pub fn next(&self, edge: u32, before: u32) -> Option<u32>
         requires table { IsChainTable self.now }
         requires untangled { self.now.tangled ≡ false }
@@ -230,7 +231,7 @@ impl<'a> Chains<'a> {
         self.label(a) != self.label(b) && self.load(a) + self.load(b) > self.inst.capacity()
     }
 
-    // Whether the pair is excluded, but for what decisions say of it.
+    // Whether the pair is excluded for another reason than that a decision says no to it.
     pub(crate) fn bars(&self, a: u32, b: u32) -> bool
         requires table { IsChainTable self.now }
         requires a { IsRequired self.now.inst.now a }
@@ -244,7 +245,7 @@ impl<'a> Chains<'a> {
             || self.overloads(a, b)
     }
 
-    // Whether a yes to the pair is known. Where an edge has more than two neighbours, none is.
+    // Whether a yes to the pair is known. If an edge has more than two neighbours, none is known.
     pub(crate) fn joins(&self, a: u32, b: u32) -> bool
         requires table { IsChainTable self.now }
         requires a { IsRequired self.now.inst.now a }

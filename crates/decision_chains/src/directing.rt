@@ -11,7 +11,7 @@ use deadhead_paths::Distances;
 use std::alloc::Global;
 use task_tours::{ends, least_cost, tours_are_linked};
 
-// What the deadheads after an edge cost at least, where it is crossed forward and where it is crossed backward.
+// What the deadheads after an edge cost at least, if it is crossed forward and if it is crossed backward.
 #[derive(Clone, Copy)]
 struct Left {
     forward: u64,
@@ -147,11 +147,11 @@ fn follow(
     Ok(tasks)
 }
 
-/// Tasks on required edges in their order, at most 29,999 of them and repeats permitted, each in the direction that makes the
-/// deadheads from the depot over them and back the least of all, by cost (Beullens et al. 2003). Which of equally cheap choices is
-/// taken is not promised. The distances are those by cost.
+/// Tasks on required edges in their order, at most 29,999 of them, and an edge may come again. Their directions are
+/// such that the deadheads from the depot over them and back cost least (Beullens and others 2003). It is not promised
+/// which of equally cheap choices is taken. The distances are those by cost.
 ///
-/// It takes time and memory in proportion to the number of edges. The one error is want of memory.
+/// It takes time and memory in proportion to the number of edges. The only error is want of memory.
 pub fn direct(
     alloc: Global,
     inst: &Instance,

@@ -13,7 +13,8 @@ use carp_base::{Allowed, Memory};
 use std::alloc::Global;
 
 impl Chains<'_> {
-    /// Whether the demand of a chain is above the capacity. It takes no memory, and time in proportion to the required edges.
+    /// Whether the demand of a chain is above the capacity. It takes no memory, and time in proportion to the required
+    /// edges.
     pub fn is_overloaded(&self) -> bool
         requires { IsChainTable self.now }
         ensures yes { IsTrue result → (e : ℕ) × IsHeavy self.now.inst.now self.now.decisions.now e e }
@@ -91,7 +92,7 @@ impl Chains<'_> {
         }
     }
 
-    /// The pairs of required edges that are not excluded.
+    /// The pairs of required edges that are not excluded. The only error is want of memory.
     ///
     /// With m required edges and d decisions it takes time in proportion to m * m + d, and memory in proportion to m * m.
     pub fn allowed(&self, alloc: Global) -> Result<Allowed, Memory>
@@ -113,7 +114,7 @@ impl Chains<'_> {
             .any(|decision| says_no(decision, a, b))
     }
 
-    /// Whether a pair of required edges is determined: it is yes, or it is excluded. It takes no memory, and time in proportion to
+    /// Whether a pair of required edges is determined: yes or excluded. It takes no memory, and time in proportion to
     /// the decisions.
     pub fn determines(&self, a: u32, b: u32) -> bool
         requires table { IsChainTable self.now }
@@ -161,8 +162,8 @@ impl Chains<'_> {
         true
     }
 
-    /// Whether each pair of required edges is determined, where these are the allowed pairs. It takes no memory, and time in
-    /// proportion to the pairs.
+    /// Whether each pair of required edges is determined. `allowed` has the pairs that are not excluded. It takes no
+    /// memory, and time in proportion to the pairs.
     pub fn determines_all(&self, allowed: &Allowed) -> bool
         requires table { IsChainTable self.now }
         requires permits { PermitsUnexcluded self.now.inst.now self.now.decisions.now allowed.now }

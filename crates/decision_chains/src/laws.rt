@@ -1,8 +1,8 @@
 // Laws over yes pairs and excluded pairs, as functions whose contract is the law.
 ghost use Rattle.decision_chains.specs.Laws.{DistinctSumToNoMore, ExcludedIsSymmetric, YesPairsJoin};
 
-/// Yes and no are said of a pair in either order, and what yes pairs join stays joined in either order and along further pairs; an edge is
-/// joined to itself by no pair at all. So the chains are the classes of an equivalence.
+/// Yes and no are said of a pair in either order. What yes pairs join is joined in either order and along further
+/// pairs, and an edge is joined to itself by no pair at all. So the chains are the classes of an equivalence.
 pub fn yes_pairs_join()
     ensures { YesPairsJoin }
 {}

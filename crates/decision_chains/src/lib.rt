@@ -10,6 +10,13 @@
 //! [`plan`] drives each chain as a tour, each edge in the better direction, and costs the fixed
 //! value of the decisions. [`direct`] finds the cheapest directions of a tour whose edges have an
 //! order.
+//!
+//! - `decision`, `chains`, `near`: decisions, the chains of their yes pairs, and the yes neighbours
+//!   of an edge.
+//! - `excluding`: which pairs are excluded and determined, and whether a chain is too heavy.
+//! - `ordering`, `directing`, `planning`: the edges of a chain in order, their directions, and the
+//!   plan of all chains.
+//! - `laws`, `plan_laws`: what is proved of all chains and their plans.
 #![tactic(auto)]
 
 mod chains;

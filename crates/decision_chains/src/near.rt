@@ -25,7 +25,7 @@ impl Near {
         }
     }
 
-    // Whether the edge is known as a neighbour. Where there are more than two, none is.
+    // Whether the edge is known as a neighbour. If there are more than two, none is known.
     pub(crate) fn has(self, edge: u32) -> bool
         ensures { result ≡ near_has self edge }
     {

@@ -45,7 +45,7 @@ fn tour(
     Ok(walk)
 }
 
-// A tour for each chain, where no edge is marked yet.
+// A tour for each chain. No edge is marked before.
 fn tours(
     alloc: Global,
     chains: &Chains<'_>,
@@ -77,11 +77,12 @@ fn tours(
     Ok(plan)
 }
 
-/// A plan of a cheapest tour for each chain, where no edge has three yes neighbours, no yes pairs form a cycle, and no chain is
-/// above the capacity. The distances are those by cost.
+/// A plan of a cheapest tour for each chain. No edge has three yes neighbours, no yes pairs form a cycle, and no chain
+/// is above the capacity. The distances are those by cost. The only error is want of memory.
 ///
-/// The plan is lawful and costs the sum, over the chains, of the least cost of a walk that serves the chain in its order, each
-/// edge in either direction (Bode and Irnich 2012). It has at most a tour for each required edge and 2,000,000 steps.
+/// The plan is lawful. Its cost is the sum, over the chains, of the least cost of a walk that serves the chain in its
+/// order, each edge in either direction (Bode and Irnich 2012). It has at most one tour for each required edge, and at
+/// most 2,000,000 steps.
 ///
 /// With m required edges it takes time in proportion to m * m and to the steps that it writes.
 pub fn plan(alloc: Global, chains: &Chains<'_>, dist: &Distances) -> Result<Plan, Memory>

@@ -29,7 +29,7 @@ pub record IsBestLast (capacity : ℕ) (legs : List Leg) (costs : List ℕ) (fro
   pub fits : LegsFit capacity legs from last
   pub best : (k : ℕ) → from ≤ k → k < n → LegsFit capacity legs from k → onward legs costs last ≤ onward legs costs k
 
--- the first tour of the rest of an order ends where the rest is cheapest, and this is what it costs
+-- the first tour of the rest of an order ends where the rest is cheapest, and this is what the rest costs
 pub record IsCutAt (capacity : ℕ) (legs : List Leg) (costs lasts : List ℕ) (from : ℕ) : Type 0 where
   pub last : IsBestLast capacity legs costs from (length legs) (slice_index lasts from)
   pub cost : slice_index costs from + (leg_at legs from).way ≡ (leg_at legs from).out + onward legs costs (slice_index lasts from)

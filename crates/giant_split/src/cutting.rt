@@ -18,7 +18,7 @@ fn onward(legs: &[Leg], costs: &[u64], last: usize, capacity: u64) -> u64
     leg.way + leg.home + costs[last + 1]
 }
 
-// The place where a tour that starts at a place ends best, where the costs of the rests of the order after it are known.
+// The place where a tour that starts at a place ends best, by the costs of the rests of the order after it.
 fn best_last(legs: &[Leg], costs: &[u64], from: usize, capacity: u64) -> usize
     requires fine { AreFineLegs capacity legs.now }
     requires from { from < length legs.now }

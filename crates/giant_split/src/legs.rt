@@ -9,8 +9,8 @@ use carp_base::{Instance, Task};
 use deadhead_paths::Distances;
 use task_tours::{ends, least_cost};
 
-// The numbers of a task at its place in an order. The ways and loads are sums from the start of the order, so that those of a
-// tour are differences.
+// The numbers of a task at its place in an order. The ways and loads are sums from the start of the order, so that
+// those of a tour are differences.
 #[derive(Clone, Copy)]
 pub(crate) struct Leg {
     // From the depot to the start of the task.

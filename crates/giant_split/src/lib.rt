@@ -2,8 +2,8 @@
 //!
 //! In the field: route first, cluster second.
 //!
-//! [`split`] makes the cheapest plan that serves in an order, and [`Splitter`] is a helper that changes the order of
-//! the best plan by draws and offers such a plan.
+//! [`split`] makes the cheapest plan that serves in a given order, and [`Splitter`] is a helper that changes the order
+//! of the best plan by draws and offers such a plan.
 //!
 //! - `legs`, `cutting`, `cutter`: what is to be known of each task of an order, the least cutting of the order, and the
 //!   memory for it.

@@ -36,7 +36,7 @@ fn add_tasks(order: &mut Vec<Task>, walk: &Walk) -> Result<(), Memory>
 }
 
 /// The tasks of a plan in the order in which it serves them, tour by tour. It takes time in proportion to the steps of
-/// the plan. Its only error is want of memory.
+/// the plan. The only error is want of memory.
 pub fn order_of(alloc: Global, plan: &Plan) -> Result<Vec<Task>, Memory>
     ensures { IfOk result (λ order. order.items ≡ all_tasks (plan_tours plan.now)) }
 {
@@ -114,5 +114,5 @@ impl Finder for SplitFinder {
     }
 }
 
-/// A helper that offers splits of orders that it draws: as [`Helper`] says, with what [`SplitFinder`] finds.
+/// A helper that offers splits of orders that it draws: a [`Helper`] with what [`SplitFinder`] finds.
 pub type Splitter = Helper<SplitFinder>;

@@ -43,7 +43,7 @@ fn join_tours(
 
 /// The cheapest plan whose tours, one after another, do these tasks in this order and in these directions (Beasley 1983
 /// and Ulusoy 1985, route first and cluster second). The distances are those by cost. An empty order gives the plan of
-/// no tours.
+/// no tours. The only error is want of memory.
 ///
 /// A shortest path from the end of the order to its start cuts it. What each rest of the order costs at least is the
 /// least, over the tours with which it can begin within the capacity, of what that tour and the rest after it cost

@@ -45,9 +45,9 @@ IsSpelledNode sets (nodes.Price set) = (1 ≤ set) × (set ≤ sets)
 IsSpelledNode sets nodes.Void = Unit {0}
 IsSpelledNode sets nodes.Fixed = Unit {0}
 
--- A node may stand where it stands, in a lean tree of at most four cuts on a path; its pair is of required edges, its shore and those
--- of the decisions on the way to it are in the pool and belong to the instance. Where it is a price leaf its set fits under the
--- decisions, and reaches the fraction. The number beside it is the greatest bound that it shows, which is no less than the fraction.
+-- A node may stand where it stands, in a lean tree of at most four cuts on a path; its pair is of required edges, its shore and those of
+-- the decisions on the way to it are in the pool and belong to the instance. If it is a price leaf, its set fits under the decisions, and
+-- reaches the fraction. The number beside it is the greatest bound that it shows, which is no less than the fraction.
 pub record IsSoundNode (c : Support) (base : Fraction) (s : Stand) (entry : GrowingNode) : Type 0 where
   pub same : entry.node ≡ s.node
   pub pairs : ArePairsIn c.problem s.branch

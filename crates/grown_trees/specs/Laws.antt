@@ -15,7 +15,7 @@ use Rattle.grown_trees.specs.Places.{IsFineNode, IsLeafAt, branch_to, grown}
 use Rattle.grown_trees.specs.Stands.{stands, PricesFit, with_sets, with_shores, HoldsShores}
 use Rattle.grown_trees.specs.declared.growing.GrowingNode.{GrowingNode}
 
--- where a leaf gives way to another tree, the nodes stay sound if those of the other tree are, under the decisions on the way to the leaf
+-- if a leaf gives way to another tree whose nodes are sound under the decisions on the way to the leaf, the nodes stay sound
 abbrev pub GrownIsSound : Type 0
 GrownIsSound = (c : Support) (base : Fraction) (tree sub : Tree) (i : ℕ) (entries news : List GrowingNode) → IsLeafAt tree i →
     AreSound c base (stands [] tree) entries → AreSound c base (stands (branch_to [] tree i) sub) news →
@@ -44,7 +44,7 @@ pub record IsSoundTree (c : Support) (tree : Tree) (entries : List GrowingNode) 
   pub shows : (bound : ℕ) → bound < 10 ^ 18 → Shows c [] bound tree ↔ All (λ entry. bound ≤ entry.shows) entries
 
 -- a tree of sound nodes has them in preorder, is lean, its price leaves name sets that fit, its turns for a cost are its nodes that show
--- the cost, and it shows a bound where each node does
+-- the cost, and it shows a bound exactly if each node does
 abbrev pub SoundIsTree : Type 0
 SoundIsTree = (c : Support) (base : Fraction) (tree : Tree) (entries : List GrowingNode) → AreSound c base (stands [] tree) entries → IsSoundTree c tree entries
 
@@ -53,7 +53,7 @@ abbrev pub SoundAtPlace : Type 0
 SoundAtPlace = (c : Support) (base : Fraction) (tree : Tree) (entries : List GrowingNode) (i : ℕ) (other : GrowingNode) → AreSound c base (stands [] tree) entries → i < length entries →
     IsSoundNode c base (record { branch = branch_to [] tree i; node = (slice_index_or entries i other).node }) (slice_index_or entries i other)
 
--- where it does not show some bound, it is a leaf
+-- if it does not show some bound, it is a leaf
 abbrev pub UnshownIsLeaf : Type 0
 UnshownIsLeaf = (c : Support) (base : Fraction) (tree : Tree) (entries : List GrowingNode) (i : ℕ) (other : GrowingNode) → AreSound c base (stands [] tree) entries → i < length entries →
     (slice_index_or entries i other).shows + 1 < 10 ^ 18 → IsLeafAt tree i
@@ -65,7 +65,7 @@ IsOpenDecision p branch (No a b) = ¬ (IsDetermined p branch a b)
 IsOpenDecision p branch (Low shore k) = Unit {0}
 IsOpenDecision p branch (High shore k) = Unit {0}
 
--- a price set fits under such a decision where it fitted, and has no lower value there
+-- a price set that fitted fits under such a decision, and has no lower value there
 pub record IsKept (p : Problem) (pool : List (List ℕ)) (branch : List Decision) (decision : Decision) (set : Prices) : Type 0 where
   pub fits : FitsBranch p pool (branch ++ decision ∷ []) set
   pub no_lower : value_of (rules_of p pool branch) set ≤ℤ value_of (rules_of p pool (branch ++ decision ∷ [])) set
@@ -79,7 +79,7 @@ abbrev pub DecisionsKeepExclusions : Type 0
 DecisionsKeepExclusions = (p : Problem) (branch : List Decision) (decision : Decision) → IsOpenDecision p branch decision →
     (a b : ℕ) → Excluded p branch a b → Excluded p (branch ++ decision ∷ []) a b
 
--- where no chain is above the capacity, none is so after such a decision
+-- if no chain is above the capacity, none is so after such a decision
 abbrev pub DecisionsKeepChainsLight : Type 0
 DecisionsKeepChainsLight = (p : Problem) (branch : List Decision) (decision : Decision) → IsOpenDecision p branch decision →
     ((c : ℕ) → ¬ (IsHeavy p branch c c)) → (c : ℕ) → ¬ (IsHeavy p (branch ++ decision ∷ []) c c)

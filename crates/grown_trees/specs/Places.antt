@@ -23,8 +23,8 @@ pub record IsLeafAt (tree : Tree) (i : ℕ) : Type 0 where
   pub inside : i < size_of tree
   pub leaf : IsLeaf (node_at (preorder tree) i)
 
--- the decisions on the way to the node at a place, behind those of the root: the way goes to the first child where the place is
--- among its places, and to the second child otherwise
+-- the decisions on the way to the node at a place, behind those of the root: the way goes to the first child if the place is among its
+-- places, and to the second child otherwise
 abbrev pub branch_to : List Decision → Tree → ℕ → List Decision
 branch_to branch (pair a b together apart) zero = branch
 branch_to branch (pair a b together apart) (suc i) =

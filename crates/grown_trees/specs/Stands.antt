@@ -1,4 +1,4 @@
--- What is true of a tree where something is true of each of its nodes, under the decisions on the way to it.
+-- What is true of a tree if something is true of each of its nodes, under the decisions on the way to it.
 use Rattle.std.specs.Prelude.{ℕ, ◌-◌, ◌≤◌, List, [], ◌∷◌, ◌++◌, length}
 use Rattle.std.specs.List.{All}
 use Rattle.cut_pool.specs.Pools.{IsShoreNumber}

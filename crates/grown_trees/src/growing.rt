@@ -147,7 +147,7 @@ impl GrowingTree {
         first_that_shows(&self.nodes, least)
     }
 
-    /// The nodes as a tree. The only error is want of memory. No clause says how much room it has for more nodes.
+    /// The nodes as a tree. The only error is want of memory. No clause says for how many more nodes it has memory.
     pub fn tree(&self, alloc: Global) -> Result<Tree, Memory>
         ensures nodes { IfOk result (λ tree. tree.nodes ≡ map (λ entry. entry.node) self.now.nodes) }
         ensures few { length self.now.nodes ≤ self.now.room }

@@ -59,7 +59,8 @@ fn entries_of(alloc: Global, text: &[u8]) -> Result<Vec<GrowingNode>, Fail>
     Ok(entries)
 }
 
-// A decision as three signs: `+12` is yes to the edges 1 and 2, `-12` no, `<13` at most 3 over the shore 1, `>13` more than 3.
+// A decision as three signs: `+12` is yes to the edges 1 and 2, `-12` no, `<13` at most 3 over the shore 1, `>13` more
+// than 3.
 fn signs_of(decision: &Decision) -> (u8, u64, u64) {
     match *decision {
         Decision::Yes { a, b } => (b'+', u64::from(a), u64::from(b)),
@@ -231,7 +232,8 @@ fn the_way_to_a_leaf(rt: HostRuntime) -> Result<(), Fail> {
     Ok(())
 }
 
-// The turns for a cost, the greatest bound up to it that is shown, and the place of the first leaf that shows least, or `-`.
+// The turns for a cost, the greatest bound up to it that is shown, and the place of the first leaf that shows least, or
+// `-`.
 fn expect_open(rt: &impl Abort, tree: &GrowingTree, rows: &'static str) -> Result<(), Fail> {
     for row in rows.split('\n') {
         let &[cost, turns, shown, place] = row.as_bytes() else {

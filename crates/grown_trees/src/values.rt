@@ -11,8 +11,8 @@ use carp_base::Instance;
 use cut_pool::ShorePool;
 
 /// The greatest bound that a price set shows under a branch under which it fits: its value divided by its denominator,
-/// rounded up. It is some number of at least 10^18 if that is 10^18 or more. It is never below 0, since the bound 0 is
-/// always shown.
+/// rounded up. If that is 10^18 or more, the answer is some number of at least 10^18. It is never below 0, since the
+/// bound 0 is always shown.
 ///
 /// It takes no memory, and time as [`Branch::value_at`] does.
 pub fn shown_under(inst: &Instance, pool: &ShorePool, branch: &Branch, set: &PriceSet) -> u64
@@ -28,7 +28,7 @@ pub fn shown_under(inst: &Instance, pool: &ShorePool, branch: &Branch, set: &Pri
     }
 }
 
-// A value divided by a unit, rounded up, and 0 for a value below 0; where that is more than fits, the greatest number.
+// A value divided by a unit, rounded up, or 0 for a value below 0. If that does not fit, it is the greatest number.
 fn rounded_up(value: i128, unit: u64) -> u64
     requires some { IsShown unit value 0 }
     requires unit { 1 ≤ unit }

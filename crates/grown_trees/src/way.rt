@@ -10,8 +10,8 @@ use branch_rules::{Branch, Decision, Node};
 use carp_base::Memory;
 use std::alloc::Global;
 
-// The decisions on the way to the node at a place of a list of nodes in preorder, from the root on. The list is that of a whole tree,
-// of which the nodes before the place suffice. It takes time and memory in proportion to the place.
+// The decisions on the way to the node at a place of a list of nodes in preorder, from the root on. The list is that of
+// a whole tree, of which the nodes before the place suffice. It takes time and memory in proportion to the place.
 pub(crate) fn branch_at(
     alloc: Global,
     nodes: &[GrowingNode],
@@ -51,8 +51,9 @@ struct Way {
 }
 
 impl Way {
-    // Reads a node. With no whole subtree behind it a node with two children has the way through its first child, with one
-    // through its second child; with more it is the root of a whole subtree itself, as a leaf is.
+    // Reads a node. If no whole subtree is behind a node with two children, the way goes through its first child. If
+    // one is, it goes through the second child. If more are, the node is the root of a whole subtree itself, as a leaf
+    // is.
     fn read(&mut self, node: &Node) -> Result<(), Memory>
         requires { self.old.whole + 1 < 2 ^ 64 }
         ensures { OnOk result (found_by self.new ≡ node_read (found_by self.old) node.now) }

@@ -17,14 +17,14 @@ use task_tours::lawful_cost;
 
 /// A way to find lawful plans, by the distances of an instance and the best plan so far. It may draw.
 ///
-/// Its one meaning is what holds of each plan that it finds, in an instance with a best plan so far.
+/// Contracts see only what holds of each plan that it finds, in an instance with a best plan so far.
 pub trait Finder: Drop {
     ghost finds: { Problem → List (List Step) → List (List Step) → Type 0 };
 
     /// The finder whose draws begin with this seed.
     fn seeded(word: u64) -> Self;
 
-    /// Finds a lawful plan. The distances are those by cost. The one error is want of memory.
+    /// Finds a lawful plan. The distances are those by cost. The only error is want of memory.
     fn find(
         &mut self,
         alloc: Global,
@@ -41,10 +41,10 @@ pub trait Finder: Drop {
 
 /// A helper that offers what a finder finds.
 ///
-/// An offer takes what the finder takes, and time in proportion to the edges of the instance and to the steps of the plan. The
-/// helper keeps the distances of the instance that it was asked about last ([`KnownDistances`]), so the first offer for
-/// an instance takes time in proportion to n (n + m) log n more, with n vertices and m edges. What it keeps is 20 bytes for
-/// each pair of vertices: 20 MB at 1,000 vertices.
+/// An offer takes what the finder takes, and time in proportion to the edges of the instance and to the steps of the
+/// plan. The helper keeps the distances of the instance that it was asked about last ([`KnownDistances`]), so the first
+/// offer for an instance takes time in proportion to n (n + m) log n more, with n vertices and m edges. What it keeps
+/// is 20 bytes for each pair of vertices: 20 MB at 1,000 vertices.
 #[derive(Drop)]
 pub struct Helper<F: Finder> {
     standing: Standing,

@@ -48,24 +48,26 @@ impl Known {
     }
 }
 
-/// The distances by cost of the instance that was asked for last, kept for the next call.
+/// Keeps the distances by cost of the instance that was asked for last, for the next call.
 ///
-/// With n vertices and m edges it keeps 20 bytes for each of n (n + 1) pairs of vertices and 72 for each edge: 20 MB at 1,000 vertices.
+/// With n vertices and m edges it keeps 20 bytes for each of n (n + 1) pairs of vertices and 72 for each edge: 20 MB at
+/// 1,000 vertices.
 #[derive(Drop)]
 pub struct KnownDistances {
     known: Option<Known>,
 }
 
 impl KnownDistances {
-    /// Before any instance was asked for; it keeps nothing yet.
+    /// Before any instance was asked for. It keeps nothing yet.
     pub fn new() -> KnownDistances {
         KnownDistances { known: None }
     }
 
     /// The distances by cost of an instance.
     ///
-    /// They are made anew if it is not the one that was asked for last, in time in proportion to n (n + m) log n with n vertices and m
-    /// edges; else it takes time in proportion to m. The one error is want of memory, and then it keeps nothing.
+    /// If the instance is the one that was asked for last, it takes time in proportion to m, with n vertices and m
+    /// edges. If not, the distances are made anew, in time in proportion to n (n + m) log n. The only error is want of
+    /// memory, and then it keeps nothing.
     pub fn distances(&mut self, alloc: Global, inst: &Instance) -> Result<&Distances, Memory>
         ensures problem { IfOk result (λ dist. dist.now.problem ≡ inst.now) }
         ensures prices { IfOk result (λ dist. dist.now.prices ≡ costs_of inst.now) }

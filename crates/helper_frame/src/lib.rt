@@ -2,8 +2,12 @@
 //!
 //! In the field: what construction and improvement heuristics share.
 //!
-//! A [`Finder`] finds lawful plans by distances. [`Helper`] makes a [`plan_model::Proposer`] of it: it counts how often it is asked
-//! and what it offers ([`Standing`]), and keeps the distances of the instance that it was asked about last ([`KnownDistances`]).
+//! A [`Finder`] finds lawful plans by distances. [`Helper`] makes a [`plan_model::Proposer`] of it: it counts how often
+//! it is asked and what it offers ([`Standing`]), and keeps the distances of the instance that it was asked about last
+//! ([`KnownDistances`]).
+//!
+//! - `helper`: finders, and the helper of a finder.
+//! - `standing`, `known_distances`: what a helper keeps of itself and of an instance.
 #![tactic(auto)]
 
 mod examples;

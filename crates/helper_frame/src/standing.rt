@@ -9,13 +9,13 @@ pub struct Standing {
     pub id: u64,
     /// The seed that it was given last.
     pub seed: u64,
-    /// How often it was asked since then.
+    /// How often it was asked since it got this seed.
     pub asked: u64,
-    /// How many unlawful plans it offered since then.
+    /// How many unlawful plans it offered since it got this seed.
     pub fouls: u64,
-    /// The least cost of its lawful offers since then.
+    /// The least cost of its lawful offers since it got this seed.
     pub least: Option<u128>,
-    /// The cost of its latest offer, where that was lawful.
+    /// The cost of its latest offer, if that was lawful.
     pub last: Option<u128>,
 }
 
@@ -34,7 +34,7 @@ impl Standing {
         }
     }
 
-    /// Starts afresh from a seed.
+    /// Starts again from a seed, with nothing asked or offered.
     pub fn reseed(&mut self, word: u64)
         ensures { self.new ≡ record { id = self.old.id; seed = word; asked = 0; fouls = 0; least = None; last = None } }
     {
@@ -44,8 +44,8 @@ impl Standing {
         };
     }
 
-    /// Counts that it is asked once more, at most 1,000 times since it was seeded. Until it offers a lawful plan there is no latest
-    /// one.
+    /// Counts that it is asked once more, at most 1,000 times since it was seeded. There is no latest offer until it
+    /// offers a lawful plan.
     pub fn ask(&mut self)
         requires { self.old.asked < 1000 }
         ensures { self.new ≡ record {

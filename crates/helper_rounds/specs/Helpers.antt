@@ -8,7 +8,7 @@ use Rattle.plan_model.specs.Plans.{IsLawful, plan_cost}
 use Rattle.helper_rounds.specs.declared.consulting.Heard.{Heard}
 use Rattle.helper_rounds.specs.declared.consulting.Heard.TheVariants.{Better, Same, Foul}
 
--- this cost is at most that one, where there is one
+-- this cost is at most that one, if there is one
 abbrev pub IsAtMost : ℕ → Option ℕ → Type 0
 IsAtMost cost None = Unit {0}
 IsAtMost cost (Some other) = cost ≤ other

@@ -18,15 +18,15 @@ use task_tours::lawful_cost;
 pub enum Heard {
     /// A lawful plan that costs less than the best one so far.
     Better,
-    /// A lawful plan that does not, or no plan.
+    /// A lawful plan that does not cost less than the best one so far, or no plan.
     Same,
     /// A plan that is not lawful.
     Foul,
 }
 
-/// Asks a helper once. If its offer is lawful and costs less, takes it in place of the best plan, with its services
-/// joined by least paths and without empty tours. After every other answer, and without memory, the best plan stays.
-/// The distances are those by cost.
+/// Asks a helper once. If its offer is lawful and costs less, the offer takes the place of the best plan, with its
+/// services joined by least paths and without empty tours. After every other answer the best plan stays. The only error
+/// is want of memory, and then it stays too. The distances are those by cost.
 ///
 /// Beside what the helper takes, it takes time in proportion to the tours and steps of the two plans, and to the steps
 /// that it writes.
@@ -57,7 +57,7 @@ pub fn consult(
     hear(alloc, inst, dist, best, offer)
 }
 
-// Takes an offer where it is lawful and costs less.
+// Takes an offer, if it is lawful and costs less.
 pub(crate) fn hear(
     alloc: Global,
     inst: &Instance,
@@ -79,7 +79,7 @@ pub(crate) fn hear(
     }
 }
 
-// Takes a plan where it is lawful and costs less.
+// Takes a plan, if it is lawful and costs less.
 fn weigh(
     alloc: Global,
     inst: &Instance,
@@ -105,7 +105,7 @@ fn weigh(
     }
 }
 
-// What a plan costs, where it is lawful.
+// What a plan costs, if it is lawful.
 fn cost_if_lawful(alloc: Global, inst: &Instance, plan: &Plan) -> Result<Option<u128>, Memory>
     ensures { IfOk result (λ found. MatchOption found (¬ (IsLawful inst.now plan.now)) (λ cost. IsLawful inst.now plan.now × (cost ≡ plan_cost inst.now plan.now))) }
 {

@@ -34,7 +34,7 @@ fn reseed<P: Proposer>(helper: &mut P, word: u64)
     helper.reseed(word);
 }
 
-// Asks a helper where it has no foul, and says whether its offer was taken.
+// Asks a helper, if it has no foul, and says whether its offer was taken.
 fn ask<P: Proposer>(
     alloc: Global,
     inst: &Instance,
@@ -96,12 +96,12 @@ fn ask_round<P: Proposer>(
     Ok(better)
 }
 
-/// Gives each helper a seed of its own, the word plus its place from 0, wrapping, and asks all of them in up to four
-/// rounds, each time in the order of the list. A lawful plan that costs less takes the place of the best one at once.
-/// After an unlawful offer a helper is not asked again. A round without a better plan is the last.
+/// Gives each helper a seed of its own: the word plus its place from 0, modulo 2^64. Then it asks all helpers in up to
+/// four rounds, each time in the order of the list. A lawful plan that costs less takes the place of the best one at
+/// once. After an unlawful offer a helper is not asked again. A round without a better plan is the last.
 ///
-/// The best plan is short before and after, and costs no more than before, also if the answer is `Memory`. The list
-/// keeps its helpers in their order. The distances are those by cost.
+/// The best plan is short before and after, and costs no more than before. The only error is want of memory, and this
+/// holds after it too. The list keeps its helpers in their order. The distances are those by cost.
 ///
 /// Beside what the helpers take, it takes time in proportion to the tours and steps of the plans.
 pub fn ask_all<P: Proposer>(

@@ -18,7 +18,7 @@ pub(crate) enum Keyword {
     Close,
 }
 
-// What a line says. Nothing is added where the edge is closed.
+// What a line says. Nothing is added if the edge is closed.
 #[derive(Clone, Copy)]
 pub(crate) struct Line {
     pub(crate) keyword: Keyword,
@@ -48,7 +48,7 @@ fn adding_at(keyword: Keyword, text: &[u8]) -> Option<(Line, &[u8])>
     Some((line, rest))
 }
 
-// An edge alone.
+// Only an edge.
 fn closing_at(text: &[u8]) -> Option<(Line, &[u8])>
     ensures { option_map (λ p. (edit_of p.0, p.1.now)) result ≡ closing_at text.now }
 {

@@ -19,7 +19,7 @@ use std::alloc::Global;
 /// It refuses the first line that is not of this form with [`EditFault::Syntax`], and so bytes behind the last LF. It
 /// refuses the first line that names an edge that it may not name with [`EditFault::Unknown`]: `cost` names any edge,
 /// `service` and `demand` a required one, `close` one that is not required, and none names an edge that an earlier line
-/// closes. The answer is the one of both that stands first. It is never [`EditFault::Refused`]:
+/// closes. If both occur, the answer is the fault of the line that stands first. It is never [`EditFault::Refused`]:
 /// [`edited`](crate::edited) tells whether the edited instance is valid. `Fail::Memory` says only that there was not
 /// enough memory.
 ///

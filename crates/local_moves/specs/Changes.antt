@@ -33,7 +33,7 @@ pub record TakesOutTask (t : Task) (before rest : List (List Task)) : Type 0 whe
   pub was : before ≡ earlier ++ ((left ++ (t ∷ right)) ∷ later)
   pub is : rest ≡ earlier ++ ((left ++ right) ∷ later)
 
--- one service moves, in either direction, to any place of any tour: where it is taken out again, the rest is the same
+-- one service moves, in either direction, to any place of any tour: if it is taken out again, the rest is the same
 pub record MovesOne (before after : List (List Task)) : Type 0 where
   pub t : Task
   pub rest : List (List Task)
@@ -85,6 +85,6 @@ pub data IsChange (before after : List (List Task)) : Type 0 where
   swaps_within : SwapsWithin before after → IsChange before after
   swaps_between : SwapsBetween before after → IsChange before after
 
--- a plan is settled where no lawful plan whose tours are one small change away from its tours costs less
+-- a plan is settled if no lawful plan whose tours are one small change away from its tours costs less
 abbrev pub IsSettledPlan : Problem → List (List Step) → Type 0
 IsSettledPlan p plan = (other : List (List Step)) → IsLawful p other → IsChange (plan_tours plan) (plan_tours other) → plan_cost p plan ≤ plan_cost p other

@@ -9,7 +9,7 @@ use Rattle.local_moves.specs.declared.loads.Loads.{Loads}
 abbrev pub load_with : Board → ℕ → ℕ → ℕ
 load_with b load x = if x == 0 then 0 else load + demand_of b x
 
--- what the last of these tours loads, where the first has a load already
+-- what the last of these tours loads, if the first has a load already
 abbrev pub load_behind : Board → ℕ → List ℕ → ℕ
 load_behind b load [] = load
 load_behind b load (x ∷ xs) = load_behind b (load_with b load x) xs

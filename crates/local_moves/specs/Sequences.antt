@@ -20,7 +20,7 @@ abbrev pub links_of : Board → List ℕ → ℕ
 links_of b [] = 0
 links_of b (x ∷ xs) = links_from b x xs
 
--- no tour loads more than the room, where the first has a load already
+-- no tour loads more than the room, if the first has a load already
 abbrev pub fits_from : Board → ℕ → List ℕ → Bool
 fits_from b load [] = nat_le load b.room
 fits_from b load (x ∷ xs) = if x == 0 then (nat_le load b.room) && fits_from b 0 xs else fits_from b (load + demand_of b x) xs
@@ -55,7 +55,7 @@ pub record IsService (xs : List ℕ) (k : ℕ) : Type 0 where
 abbrev pub IsEitherWay : Board → ℕ → ℕ → Type 0
 IsEitherWay b x y = (y ≡ x) ⊎ (y ≡ turned b x)
 
--- one service is taken out, and goes in one direction to a place of the rest; to its own place in the other direction, where it turns
+-- one service is taken out, and goes in one direction to a place of the rest; to its own place in the other direction, if it turns
 pub record IsMove (b : Board) (before after : List ℕ) : Type 0 where
   pub from : ℕ
   pub service : IsService before from

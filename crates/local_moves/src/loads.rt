@@ -111,7 +111,7 @@ pub(crate) fn fits(board: &Board, sequence: &[u32]) -> bool
     load <= u128::from(board.room)
 }
 
-// The sequence, where no tour of it loads more than the room.
+// The sequence, if no tour of it loads more than the room.
 pub(crate) fn accept(board: &Board, next: Vec<u32>) -> Option<Vec<u32>>
     requires board { IsBoard board.now }
     requires within { All (λ x. x < board.now.width) next.items }

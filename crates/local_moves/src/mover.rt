@@ -11,12 +11,12 @@ use rand_pcg::Lcg64Xsh32;
 use ruin_recreate::board_of;
 use std::alloc::Global;
 
-/// Changes the best plan so far by ruin and recreate, where that makes it no dearer, and settles it.
+/// Changes the best plan so far by ruin and recreate, if that makes it no dearer, and settles it.
 ///
-/// It draws on from call to call, and begins with its seed; no clause speaks of the draws.
+/// The draws begin with the seed, and go on from call to call. No clause speaks of them.
 ///
-/// With r required edges it takes time in proportion to r for each of at most 120,000 steps of ruin and recreate, and to r * r for each
-/// change that settling finds.
+/// With r required edges it takes time in proportion to r for each of at most 120,000 steps of ruin and recreate, and
+/// to r * r for each change that settling finds.
 #[derive(Drop)]
 pub struct MoveFinder {
     generator: Lcg64Xsh32,
@@ -44,5 +44,6 @@ impl Finder for MoveFinder {
     }
 }
 
-/// A helper that offers the best plan so far after ruin and recreate, and settled: as [`Helper`] says, with what [`MoveFinder`] finds.
+/// A helper that offers the best plan so far after ruin and recreate, and settled: a [`Helper`] with what
+/// [`MoveFinder`] finds.
 pub type Mover = Helper<MoveFinder>;

@@ -24,7 +24,7 @@ pub(crate) fn turn(board: &Board, x: u32) -> u32
     board.turn(x)
 }
 
-// The sequence with a service taken from its place and put, as `x`, to a place of the rest, where that is better.
+// The sequence with a service taken from its place and put, as `x`, to a place of the rest, if that is better.
 fn try_insert(
     alloc: Global,
     board: &Board,

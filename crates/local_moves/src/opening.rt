@@ -10,7 +10,7 @@ use carp_base::Memory;
 use ruin_recreate::Board;
 use std::alloc::Global;
 
-// A service taken out and put, as `x`, in a tour of its own at the end, where that is better.
+// The sequence with a service taken out and put, as `x`, in a tour of its own at the end, if that is better.
 fn try_alone(
     alloc: Global,
     board: &Board,

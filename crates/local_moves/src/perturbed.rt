@@ -52,7 +52,7 @@ fn is_proper(sequence: &[u32]) -> bool
     sequence[0] == 0 && sequence[sequence.len() - 1] == 0 && has_services_only(sequence)
 }
 
-// The plan, where it is lawful and costs no more than the best one.
+// The plan, if it is lawful and costs no more than the best one.
 fn no_dearer(
     alloc: Global,
     inst: &Instance,
@@ -71,7 +71,7 @@ fn no_dearer(
     }
 }
 
-// What comes of the best plan by ruin and recreate, where it is lawful and costs no more.
+// The best plan after ruin and recreate, if that is lawful and costs no more.
 pub(crate) fn perturbed(
     alloc: Global,
     inst: &Instance,

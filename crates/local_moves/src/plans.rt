@@ -72,15 +72,17 @@ pub(crate) fn settle_on(
     settle_from(alloc, inst, dist, board, sequence)
 }
 
-/// A plan that no small change makes cheaper, and that costs no more than a lawful plan from which it comes.
+/// A plan that no small change makes cheaper, and that costs no more than the lawful plan from which it comes. The only
+/// error is want of memory.
 ///
-/// A small change turns the direction of one service, moves one service, in either direction, to any place of any tour or to a
-/// tour of its own, or lets two services change places, each in its direction. Of all lawful plans whose tours are one such
-/// change away none costs less. Each tour serves, and goes by least paths. The distances are those by cost.
+/// A small change turns the direction of one service. Or it moves one service, in either direction, to any place of any
+/// tour or to a tour of its own. Or it lets two services change places, each in its direction. No lawful plan whose
+/// tours are one such change away costs less. Each tour serves an edge, and goes by least paths. The distances are
+/// those by cost.
 ///
-/// With m required edges a pass over all changes takes time in proportion to m * m, and so does the table of least prices
-/// that it reads. Passes go on until one finds nothing; each change found lowers the cost, so there
-/// are at most as many as the cost has units.
+/// With m required edges a pass over all changes takes time in proportion to m * m, and so does the table of least
+/// prices that it reads. Passes go on until one finds no change. Each change lowers the cost, so there are at most as
+/// many changes as the cost has units.
 pub fn settle(alloc: Global, inst: &Instance, dist: &Distances, plan: &Plan) -> Result<Plan, Memory>
     requires problem { dist.now.problem ≡ inst.now }
     requires prices { dist.now.prices ≡ costs_of inst.now }

@@ -8,7 +8,7 @@ use carp_base::Memory;
 use ruin_recreate::Board;
 use std::alloc::Global;
 
-// The sequence with the services at two places changed over, where that is better.
+// The sequence with the services at two places changed over, if that is better.
 fn try_swap(
     alloc: Global,
     board: &Board,
@@ -30,7 +30,7 @@ fn try_swap(
     }
     let before = sequence[first - 1];
     let after = sequence[second + 1];
-    // The stops between the two, where the first is already changed
+    // The stops between the two, after the first is changed
     let next = sequence[first + 1];
     let last = if first + 1 == second {
         y
@@ -54,7 +54,7 @@ fn try_swap(
     Ok(accept(board, changed))
 }
 
-// Whether the services at two places fit where the other one stands, if these places are in two tours.
+// Whether each of the services at two places fits in place of the other one, if these places are in two tours.
 fn swap_fits(board: &Board, sequence: &[u32], loads: &Loads, first: usize, second: usize) -> bool
     requires board { IsStopBoard board.now }
     requires sequence { IsSequence board.now sequence.now }

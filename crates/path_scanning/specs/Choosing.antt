@@ -17,7 +17,7 @@ pub record IsFirstOf (tie : Tie) (c d first : Candidate) : Type 0 where
   pub left : TaskNoLater tie first c
   pub right : TaskNoLater tie first d
 
--- the first of the candidates on edges below e, or none where none of these fits
+-- the first of the candidates on edges below e, or none if none of these fits
 pub record IsFirstBelow (p : Problem) (tie : Tie) (m : ScanMoment) (e : ℕ) (c : Candidate) : Type 0 where
   pub can : IsCandidate p m c
   pub first : (other : Candidate) → IsCandidate p m other → other.task.edge < e → TaskNoLater tie c other

@@ -10,12 +10,12 @@ use Rattle.path_scanning.specs.declared.candidate.Candidate.{Candidate}
 use Rattle.path_scanning.specs.declared.rule.Rule.{Rule}
 use Rattle.path_scanning.specs.Ties.{TaskNoLater, tie_of}
 
--- whether the edge of a number from 1 is served, where the list says so for each required edge in turn
+-- whether the edge of a number from 1 is served, by a list that says so for each required edge in turn
 abbrev pub is_served : List Bool → ℕ → Bool
 is_served served zero = false
 is_served served (suc k) = slice_index_or served k false
 
--- the list where this edge is served too
+-- the list in which this edge is served too
 abbrev pub with_served : List Bool → ℕ → List Bool
 with_served served zero = served
 with_served served (suc k) = slice_set served k true
@@ -32,7 +32,7 @@ pub record FitsNext (p : Problem) (m : ScanMoment) (e : ℕ) : Type 0 where
   pub unserved : is_served m.served e ≡ false
   pub room : m.load + (edge_at p e).demand ≤ p.capacity
 
--- the numbers of a task by which it is compared, where a tour stands at a vertex; distances are by cost
+-- the numbers of a task by which it is compared, for a tour that stands at a vertex; distances are by cost
 pub record IsMeasured (p : Problem) (at : ℕ) (c : Candidate) : Type 0 where
   pub near : IsLeastPrice p (price_of (costs_of p)) at (tail_of (edge_at p c.task.edge) c.task.forward) c.near
   pub home : IsLeastPrice p (price_of (costs_of p)) (head_of (edge_at p c.task.edge) c.task.forward) p.depot c.home
@@ -63,7 +63,7 @@ moment_after p m t = record {
   load = m.load + (edge_at p t.edge).demand;
 }
 
--- from a moment on the tour takes just these tasks: each is the next one, and after the last one nothing fits
+-- from a moment on the tour takes exactly these tasks: each is the next one, and after the last one nothing fits
 abbrev pub TakesNext : Problem → Rule → ScanMoment → List Task → Type 0
 TakesNext p rule m [] = (e : ℕ) → ¬ (FitsNext p m e)
 TakesNext p rule m (t ∷ ts) = IsNextTask p rule m t × TakesNext p rule (moment_after p m t) ts
@@ -83,11 +83,11 @@ pub record IsScannedTour (p : Problem) (rule : Rule) (served : List Bool) (walk 
   pub tasks : TakesNext p rule (tour_start p served) (tasks_of walk)
   pub paths : GoByLeastPaths p (served_steps walk) p.depot p.depot walk
 
--- tour after tour, where these edges are served before, until all are
+-- tour after tour, if these edges are served before, until all are
 abbrev pub IsScannedFrom : Problem → Rule → List Bool → List (List Step) → Type 0
 IsScannedFrom p rule served [] = (e : ℕ) → IsRequired p e → is_served served e ≡ true
 IsScannedFrom p rule served (walk ∷ plan) = IsScannedTour p rule served walk × IsScannedFrom p rule (served_after served (tasks_of walk)) plan
 
--- the plan that a scan by the rule makes, where no edge is served before
+-- the plan that a scan by the rule makes, if no edge is served before
 abbrev pub IsScanned : Problem → Rule → List (List Step) → Type 0
 IsScanned p rule plan = IsScannedFrom p rule (replicate p.required false) plan

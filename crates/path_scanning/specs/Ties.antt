@@ -6,7 +6,7 @@ use Rattle.path_scanning.specs.declared.rule.Rule.TheVariants.{Far, Near, Cheap,
 use Rattle.path_scanning.specs.declared.rule.Tie.{Tie}
 use Rattle.path_scanning.specs.declared.rule.Tie.TheVariants.{Farther, Nearer, Cheaper, Dearer}
 
--- what a rule compares, where a vehicle of this capacity has this load before it takes the next task
+-- what a rule compares, if a vehicle of this capacity has this load before it takes the next task
 abbrev pub tie_of : Rule → ℕ → ℕ → Tie
 tie_of Far capacity load = Farther
 tie_of Near capacity load = Nearer

@@ -48,7 +48,7 @@ impl Candidate {
         self.task.forward
     }
 
-    // The one of the two that goes first.
+    // That of the two candidates that goes first.
     pub(crate) fn first_of(self, other: Candidate, tie: Tie) -> Candidate
         ensures { IsFirstOf tie self other result }
     {

@@ -11,7 +11,7 @@ use carp_base::{Instance, Task};
 use deadhead_paths::Distances;
 use task_tours::{ends, least_cost};
 
-// A task, with what it is compared by where a tour stands at a vertex.
+// A task with the numbers by which it is compared, for a tour that stands at a vertex.
 fn measure(inst: &Instance, dist: &Distances, at: u32, task: Task) -> Candidate
     requires problem { dist.now.problem ≡ inst.now }
     requires prices { dist.now.prices ≡ costs_of inst.now }
@@ -32,7 +32,7 @@ fn measure(inst: &Instance, dist: &Distances, at: u32, task: Task) -> Candidate
     }
 }
 
-// The first of the tasks that a tour can take at a moment, or none where nothing fits.
+// The first of the tasks that a tour can take at a moment, or none if nothing fits.
 pub(crate) fn nearest(
     inst: &Instance,
     dist: &Distances,

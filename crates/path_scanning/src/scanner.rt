@@ -61,7 +61,8 @@ impl Scan {
     }
 }
 
-/// Finds the cheapest of the five rules' scans, by the first rule among equal ones. It draws nothing, and the best plan so far changes nothing.
+/// Finds the cheapest of the plans of the five rules, and that of the first rule among equal ones. It draws nothing,
+/// and the best plan so far changes nothing.
 ///
 /// With r required edges it takes time in proportion to r * r.
 #[derive(Drop)]
@@ -86,5 +87,5 @@ impl Finder for ScanFinder {
     }
 }
 
-/// A helper that offers the cheapest of the five rules' scans: as [`Helper`] says, with what [`ScanFinder`] finds.
+/// A helper that offers the cheapest of the plans of the five rules: a [`Helper`] with what [`ScanFinder`] finds.
 pub type Scanner = Helper<ScanFinder>;

@@ -38,12 +38,13 @@ fn grow(
     Ok(tasks)
 }
 
-/// The plan that path scanning makes by a rule (Golden, DeArmon and Baker 1983). The distances are those by cost.
+/// The plan that path scanning makes by a rule (Golden, DeArmon and Baker 1983). The distances are those by cost. The
+/// only error is want of memory.
 ///
-/// One tour grows at a time, from the depot. It takes next, of all tasks on unserved edges whose demand still fits, one
-/// whose start is nearest to where the tour stands; of those the one that the rule takes, then the one of the least edge
-/// number, and then the forward one. Where nothing fits it returns to the depot, and the next tour begins, until all
-/// required edges are served. The tasks are joined by least paths.
+/// One tour grows at a time, from the depot. Of all tasks on unserved edges whose demand still fits, it takes one whose
+/// start is nearest to where the tour stands. Among equally near ones it takes the one of the rule, then the one of the
+/// least edge number, and then the forward one. If nothing fits, the tour returns to the depot and the next one begins,
+/// until all required edges are served. The tasks are joined by least paths.
 ///
 /// With m required edges it takes time in proportion to m * m, and to the steps that it writes.
 pub fn scan(alloc: Global, inst: &Instance, dist: &Distances, rule: Rule) -> Result<Plan, Memory>

@@ -1,4 +1,4 @@
--- What an annealing keeps: stops of the board alone. No public contract speaks of this.
+-- What an annealing keeps: only stops of the board. No public contract speaks of this.
 use Rattle.std.specs.Prelude.{◌≡◌, ℕ, ◌+◌, ◌/◌, ◌<◌, List, length}
 use Rattle.std.specs.List.{All}
 use Rattle.ruin_recreate.specs.declared.sequences.Connection.{Connection}

@@ -1,4 +1,4 @@
-// Annealing: the sequence is varied, and the trial taken up where it is dearer by no more than a limit that falls.
+// Annealing: the sequence is varied, and the trial taken up if it is dearer by no more than a limit that falls.
 ghost use Rattle.std.specs.Prelude.{◌≡◌, ◌<◌, ◌≤◌, IfOk, OnOk, length};
 ghost use Rattle.std.specs.List.{All};
 ghost use Rattle.ruin_recreate.specs.Boards.{IsBoard};
@@ -108,7 +108,7 @@ impl Annealing {
                 .saturating_add(rise)
     }
 
-    // Makes the trial the current sequence, and notes it where it is the cheapest.
+    // Makes the trial the current sequence, and notes it if it is the cheapest.
     fn take(&mut self, board: &Board) -> Result<(), Memory>
         requires board { IsBoard board.now }
         requires annealing { IsAnnealingOn board.now.width self.old }

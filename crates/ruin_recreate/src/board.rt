@@ -8,14 +8,14 @@ ghost use Rattle.ruin_recreate.specs.Boards.{IsBoard, demand_of, link, turned};
 /// backward. Stop 1 stands at the depot too, and no search needs it.
 #[derive(Drop)]
 pub struct Board {
-    /// How many stops there are: 2 to 1,202, and for the board of an instance twice the number of its required edges, and 2 more.
+    /// How many stops there are, 2 to 1,202. The board of an instance has two for each required edge, and two more.
     pub width: usize,
-    /// The least price by the costs of edges from the end of stop x to the start of stop y, at place x * width + y; 0 to
-    /// 999,000,000.
+    /// The least price by the costs of edges from the end of stop x to the start of stop y, at place x * width + y.
+    /// Each is 0 to 999,000,000.
     pub links: Vec<u32>,
-    /// What a stop loads, 0 to 30,000; the depot loads nothing.
+    /// What a stop loads, 0 to 30,000. The depot loads nothing.
     pub demands: Vec<u32>,
-    /// The service of the same edge in the other direction; a stop at the depot is its own.
+    /// The service of the same edge in the other direction. A stop at the depot is its own.
     pub turns: Vec<u32>,
     /// The capacity of a vehicle, at most 30,000.
     pub room: u32,
@@ -43,7 +43,7 @@ impl Board {
         self.demands[x as usize]
     }
 
-    /// The same service in the other direction.
+    /// The service of the same edge in the other direction. A stop at the depot is its own.
     pub fn turn(&self, x: u32) -> u32
         requires board { IsBoard self.now }
         requires x { x < self.now.width }

@@ -2,8 +2,8 @@
 //!
 //! In the field: large neighbourhood search by ruin and recreate, accepted by simulated annealing.
 //!
-//! A [`Board`] has the numbers of an instance as flat tables for a search over stops, the depot and the services of its required
-//! edges: [`board_of`] makes it. [`ruin_and_recreate`] looks for a cheaper sequence of stops.
+//! A [`Board`] has the numbers of an instance as flat tables for a search over stops, the depot and the services of its
+//! required edges: [`board_of`] makes it. [`ruin_and_recreate`] looks for a cheaper sequence of stops.
 //!
 //! - `board`, `tables`: the board, and how it is made.
 //! - `sequences`: tours one after another, as connections between stops.

@@ -9,7 +9,7 @@ use std::alloc::Global;
 // How many neighbours an edge has.
 const COUNT: usize = 60;
 
-// The nearest edges of an edge, nearest first, and 0 where there are no more.
+// The nearest edges of an edge, nearest first, and 0 if there are no more.
 pub(crate) type Neighbours = [u32; COUNT];
 
 // The least of the links between two edges, in any directions.
@@ -50,7 +50,7 @@ fn nearest(others: &[(u32, u32)]) -> Neighbours {
     near
 }
 
-// The neighbours of each edge, by number; 0 has none.
+// The neighbours of each edge, by number. Number 0 has none.
 pub(crate) fn neighbours(alloc: Global, board: &Board) -> Result<Vec<Neighbours>, Memory>
     requires { IsBoard board.now }
     ensures { IfOk result (λ near. length near.items ≡ board.now.width / 2) }

@@ -18,8 +18,8 @@ enum Rule {
 }
 
 impl Rule {
-    // The rule of a number below 11; four numbers leave the services in random order (the weights of Christiaens and Vanden Berghe
-    // 2020).
+    // The rule of a number below 11. Four numbers leave the services in random order (the weights of Christiaens and
+    // Vanden Berghe 2020).
     fn of(number: u32) -> Option<Rule> {
         match number {
             0..4 => None,

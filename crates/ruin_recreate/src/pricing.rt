@@ -30,7 +30,7 @@ pub(crate) fn first_price(board: &Board, scale: u64) -> u64
         .min(GREATEST)
 }
 
-// The next price: by a 16th higher where too few sequences were lawful, and else by a 16th lower.
+// The next price: a 16th higher if too few sequences were lawful, and else a 16th lower.
 pub(crate) fn next_price(price: u64, too_few: bool) -> u64 {
     if too_few {
         price.saturating_add(price / 16 + 1).min(GREATEST)

@@ -1,4 +1,4 @@
-// Putting services back where they cost least.
+// Puts services back where they cost least.
 ghost use Rattle.std.specs.Prelude.{◌≡◌, ◌^◌, ◌<◌, ◌≤◌, OnOk, length};
 ghost use Rattle.std.specs.List.{All};
 ghost use Rattle.ruin_recreate.specs.Boards.{IsBoard};
@@ -27,9 +27,9 @@ struct Seat {
     turned: bool,
 }
 
-// A seat for a service, or a tour of its own, and what it costs there: the deadheads that it adds, the fine for loads above
-// the room, and a crossing of its edge. With that crossing it is never below 0: by way of the edge one comes over the connection, and
-// so for no less than its price.
+// A seat for a service, or a tour of its own, and what it costs there: the deadheads that it adds, the fine for loads
+// above the room, and a crossing of its edge. With that crossing the cost is never below 0. The way over the edge joins
+// the ends of the connection, so it costs no less than the connection.
 #[derive(Clone, Copy)]
 struct Offer {
     cost: u64,
@@ -81,7 +81,8 @@ fn best_in_tour(
     best
 }
 
-// The best offer for a service: a tour of its own, or a seat in a tour whose fine alone is less than the best so far.
+// The best offer for a service: a tour of its own, or a seat in a tour whose fine by itself is less than the best so
+// far.
 fn best_offer(board: &Board, sequence: &Sequence, service: Service, price: u64) -> Offer
     requires board { IsBoard board.now }
     requires sequence { IsSequenceOn board.now.width sequence.now }

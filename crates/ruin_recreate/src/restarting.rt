@@ -19,19 +19,21 @@ fn steps(edges: u32) -> u32
     (8_000 + 18 * edges * edges).min(MOST_STEPS)
 }
 
-/// Looks for a cheaper sequence by ruin and recreate (Schrimpf, Schneider, Stamm-Wilbrandt and Dueck 2000): strings of services near
-/// one another are taken out of their tours (Christiaens and Vanden Berghe 2020) and each is put back where it costs least, and
-/// annealing decides whether to go on from there. Loads above the room are permitted on the way, at a price that follows how
-/// many sequences are lawful.
+/// Looks for a cheaper sequence by ruin and recreate (Schrimpf, Schneider, Stamm-Wilbrandt and Dueck 2000). It takes
+/// strings of services near one another out of their tours (Christiaens and Vanden Berghe 2020), and puts each service
+/// back where it costs least. Annealing decides whether to go on from there. Loads above the room are permitted on the
+/// way, at a price that follows how many sequences are lawful.
 ///
-/// A sequence is a list of stops of the board: the depot before, between and after the tours. `costs` has what a crossing of its
-/// edge costs, for each stop. The answer is meant to be the start, or a sequence with the same services that costs fewer deadheads
-/// and loads no tour above the room. It is promised to have stops of the board alone, so the caller has to test it.
+/// A sequence is a list of stops of the board: the depot before, between and after the tours. `costs` has for each stop
+/// what a crossing of its edge costs. The answer is meant to be the start, or a sequence with the same services whose
+/// deadheads cost less and whose tours load no more than the room. The contract promises only that its stops are stops
+/// of the board, so the caller has to test it. The only error is want of memory.
 ///
-/// The same generator gives the same answer. With m required edges there are up to six annealings, the first from the start and
-/// the others from one tour for each service, of 8,000 + 18 * m * m steps in all and at most 120,000, rounded down to as many for
-/// each. With fewer than two required edges the start is given back. A step takes time in proportion to m, and the neighbours of
-/// all edges, once, in proportion to m * m log m. Beside the board it takes space in proportion to m.
+/// The same generator gives the same answer. With m required edges there are up to six annealings, the first from the
+/// start and the others from one tour for each service. Together they take 8,000 + 18 * m * m steps and at most
+/// 120,000, rounded down to as many for each. With fewer than two required edges the answer is the start. A step takes
+/// time in proportion to m. The neighbours of all edges, found once, take time in proportion to m * m log m. Beside the
+/// board it takes memory in proportion to m.
 pub fn ruin_and_recreate(
     alloc: Global,
     board: &Board,
@@ -48,7 +50,7 @@ pub fn ruin_and_recreate(
     if edges < 2 {
         return Ok(start);
     }
-    // New starts gain where there are few edges; where there are many one long annealing is better than some short ones.
+    // If there are few edges, new starts gain. If there are many, one long annealing is better than some short ones.
     let annealings = (600 / edges).clamp(1, 6);
     let steps = steps(edges) / annealings;
     let mut annealing = Annealing::new(alloc, board, start)?;

@@ -1,4 +1,4 @@
-// Taking strings of services out of the tours near one another.
+// Takes strings of services out of the tours near one another.
 ghost use Rattle.std.specs.Prelude.{◌≡◌, ℕ, ◌+◌, ◌/◌, ◌<◌, ◌≤◌, IfOk, OnOk, length};
 ghost use Rattle.ruin_recreate.specs.Boards.{IsBoard};
 ghost use Rattle.ruin_recreate.specs.Annealing.{IsSequenceOn, IsRuinOn};

@@ -11,8 +11,8 @@ use std::alloc::Global;
 // Two stops that follow each other, and the link between them.
 #[derive(Clone, Copy)]
 pub(crate) struct Connection {
-    // The first one, in its other direction: the link from it to a service is that from the service, in its other direction,
-    // to here, and so stands in a row of the service.
+    // The first one, in its other direction. The link from the first one to a service is that from the service, in its
+    // other direction, to this stop. So it stands in a row of the service.
     pub(crate) turned: u32,
     pub(crate) to: u32,
     pub(crate) price: u32,
@@ -49,8 +49,8 @@ pub(crate) struct Tour {
     pub(crate) load: u32,
 }
 
-// Tours one after another, from the depot to the depot, as the list of their connections. No sum comes near the end of its type;
-// that sums saturate there saves saying so.
+// Tours one after another, from the depot to the depot, as the list of their connections. No sum comes near the end of
+// its type. Sums saturate, so that this need not be proved.
 #[derive(Drop)]
 pub(crate) struct Sequence {
     pub(crate) connections: Vec<Connection>,

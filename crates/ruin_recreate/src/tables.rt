@@ -125,9 +125,9 @@ fn turns_of(alloc: Global, inst: &Instance) -> Result<Vec<u32>, Memory>
     Ok(turns)
 }
 
-/// The board of an instance. The distances are those by cost.
+/// The board of an instance. The distances are those by cost. The only error is want of memory.
 ///
-/// With m required edges it takes time and space in proportion to m * m.
+/// With m required edges it takes time and memory in proportion to m * m.
 pub fn board_of(alloc: Global, inst: &Instance, dist: &Distances) -> Result<Board, Memory>
     requires problem { dist.now.problem ≡ inst.now }
     requires prices { dist.now.prices ≡ costs_of inst.now }

@@ -18,7 +18,7 @@ pub record WouldBeShowing (c : Support) (bound : ℕ) (tree : Tree) : Type 0 whe
   pub lean : IsLean c [] 4 tree
   pub shows : WouldShow c [] bound tree
 
--- where numbers rise, a carried tree shows what the tree showed
+-- if numbers rise, a carried tree shows what the tree showed
 abbrev pub CarriedTreesShow : Type 0
 CarriedTreesShow = (old new : Problem) (pool : List (List ℕ)) (sets : List Prices) (bound : ℕ) (tree carried : Tree) → IsValid old → IsValid new → IsRaised old new →
     IsShowing (record { problem = old; pool = pool; sets = sets }) bound tree → IsCarried new pool [] tree carried →

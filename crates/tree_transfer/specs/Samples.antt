@@ -35,7 +35,7 @@ pub record IsLight (p : Problem) (set : Prices) : Type 0 where
   pub one_each : length set.services ≡ p.required
   pub paid : (e : ℕ) → 1 ≤ e → e ≤ p.required → IsPaidFor p set e
 
--- the nodes would show 0 where those from a place on would
+-- the nodes would show 0 if those from a place on would
 pub record IsTestedTo (c : Support) (nodes : List Node) (place : ℕ) (path : Path) : Type 0 where
   pub is_path : IsPath path
   pub path_in : IsPathIn c path

@@ -204,7 +204,8 @@ fn the_least_of_the_leaves(rt: HostRuntime) -> Result<(), Fail> {
     expect_bound(&rt, alloc, 5, "c14s03s01", 100, 9)
 }
 
-// Two streets are too much for a vehicle of capacity 3, so that the yes pair is void, and each street is served by a tour of its own.
+// Two streets are too much for a vehicle of capacity 3, so that the yes pair is void, and each street is served by a
+// tour of its own.
 #[test]
 fn void_and_fixed_leaves(rt: HostRuntime) -> Result<(), Fail> {
     let alloc = rt.alloc();

@@ -44,8 +44,8 @@ impl Given<'_> {
 /// under the decisions on the way to it. A price leaf shows its value divided by its denominator, rounded up. A fixed
 /// leaf shows the fixed value of its branch, and a void leaf every bound. The distances are those by cost.
 ///
-/// The tree would show some bound: its void and fixed leaves are so, and its sets fit under the decisions on the way to
-/// them. The only error is want of memory.
+/// Each leaf of the tree shows some bound: void leaves are void, fixed leaves are fixed, and sets fit under the
+/// decisions on the way to them. The only error is want of memory.
 ///
 /// With n nodes, m required edges, k weights in a set and at most d decisions on a path it takes time in proportion to
 /// n (m + d) k, and for each fixed leaf besides to m * m + d and to the steps of a plan.
@@ -115,7 +115,7 @@ fn bound_node(
     Ok(least.min(shown))
 }
 
-// The greatest bound that a node shows by itself; an inner node and a void leaf show each bound.
+// The greatest bound that a node shows by itself. An inner node and a void leaf show each bound.
 pub(crate) fn shown_by(
     alloc: Global,
     given: &Given<'_>,
@@ -146,7 +146,7 @@ fn shown_by_set(given: &Given<'_>, branch: &Branch, set: u32) -> u64
     shown_under(given.inst, given.pool, branch, given.set(set))
 }
 
-// The fixed value of a fixed branch; where that is more than fits, the greatest number.
+// The fixed value of a fixed branch. If that does not fit, it is the greatest number.
 fn fixed_value(alloc: Global, given: &Given<'_>, branch: &Branch) -> Result<u64, Memory>
     requires given { IsGiven given.now }
     requires pairs { ArePairsIn given.now.inst.now branch.now }

@@ -104,7 +104,7 @@ fn behind(tree: &Tree, from: usize) -> usize
     tree.len()
 }
 
-// How many subtrees are open after a node, where so many were open before it.
+// How many subtrees are open after a node, if so many were open before it.
 fn open_after(before: usize, node: &Node) -> usize
     requires some { 1 ≤ before }
     requires small { before + 1 < 2 ^ 64 }

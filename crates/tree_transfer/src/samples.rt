@@ -11,7 +11,7 @@ use std::alloc::{AllocError, Global};
 use std::process::Abort;
 use std::test::Fail;
 
-// A street that is served for 5 at each demand; without demand it need not be served.
+// A street that is served for 5 at each demand. Without demand it need not be served.
 fn street(u: u64, v: u64, cost: u64, demand: u64) -> RawEdge {
     RawEdge {
         u,
@@ -29,8 +29,8 @@ pub(crate) fn star(alloc: Global, capacity: u64) -> Result<Instance, Fail> {
     Ok(inst)
 }
 
-// The pool of the shore of all vertices but the depot. Six units of demand need two vehicles of capacity 3 to 5, so that its lower number
-// is 4.
+// The pool of the shore of all vertices except the depot. Six units of demand need two vehicles of capacity 3 to 5, so
+// that its lower number is 4.
 pub(crate) fn one_shore(rt: &impl Abort, alloc: Global) -> Result<ShorePool, Fail> {
     let mut pool = ShorePool::new(alloc);
     let number = pool.add(Shore::from_list(alloc, &[2, 3, 4, 5])?);
@@ -125,7 +125,7 @@ fn are_nodes_of(inst: &Instance, pool: &ShorePool, nodes: &[Node]) -> bool
     true
 }
 
-// One number fewer, where there are two at least.
+// One number fewer, if there are at least two.
 fn joined(trees: usize) -> Option<usize>
     ensures { IfSome result (λ more. (2 ≤ trees) × (trees ≡ more + 1)) }
 {
@@ -135,7 +135,7 @@ fn joined(trees: usize) -> Option<usize>
     Some(trees - 1)
 }
 
-// How many whole trees there are with one more node in front of so many, where it has its children.
+// How many whole trees there are with one more node in front of so many, if its children are among them.
 fn trees_with(trees: usize, node: &Node) -> Option<usize>
     requires { trees + 1 < 2 ^ 64 }
     ensures { IfSome result (λ more. Gathers trees node.now more) }

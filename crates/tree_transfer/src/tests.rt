@@ -45,7 +45,7 @@ fn a_pair_below_another_one_gives_way(rt: HostRuntime) -> Result<(), Fail> {
     expect_carried(&rt, alloc, 5, "p12p13s01s02p23s03s04", "p12s02p23s03s04")
 }
 
-// The lower number of the shore is 4, and 6 where more than 4 are asked for.
+// The lower number of the shore is 4, or 6 if more than 4 are asked for.
 #[test]
 fn a_cut_below_the_lower_number_gives_way(rt: HostRuntime) -> Result<(), Fail> {
     let alloc = rt.alloc();
