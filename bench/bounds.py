@@ -8,7 +8,7 @@ import re
 import subprocess
 import sys
 
-from solving import Solved, at_the_limits
+from solving import at_the_limits, solved
 
 
 def floor(program, path):
@@ -38,16 +38,16 @@ def main(program, floors, folder, work, names):
     reached = []
     for name in names or programs:
         path = os.path.join(folder, name + ".dat")
-        solved = Solved(program, path, os.path.join(work, "cert"), ["--turns", "1"])
+        found = solved(program, path, os.path.join(work, "cert"), ["--turns", "1"])
         base, lp = services(path), programs[name]
-        percent = 100 * (solved.bound - base) / (lp - base) if lp > base else 100
+        percent = 100 * (found.bound - base) / (lp - base) if lp > base else 100
         reached.append(percent)
-        print(f"| {name} | {base} | {floor(floors, path)} | {solved.bound} | {lp:.2f} | {percent:.1f} % | {solved.cost} | {solved.gap():.2f} % | {solved.seconds:.2f} s | {solved.memory:.0f} MB |", flush=True)
+        print(f"| {name} | {base} | {floor(floors, path)} | {found.bound} | {lp:.2f} | {percent:.1f} % | {found.cost} | {found.gap():.2f} % | {found.seconds:.2f} s | {found.memory:.0f} MB |", flush=True)
     print(f"| mean of {len(reached)} | | | | | {sum(reached) / len(reached):.1f} % | | | | |")
     print(f"| least | | | | | {min(reached):.1f} % | | | | |")
     for name, path in at_the_limits(work):
-        solved = Solved(program, path, os.path.join(work, "cert"), ["--turns", "1"])
-        print(f"| {name} | {services(path)} | {floor(floors, path)} | {solved.bound} | | | {solved.cost} | {solved.gap():.2f} % | {solved.seconds:.2f} s | {solved.memory:.0f} MB |")
+        found = solved(program, path, os.path.join(work, "cert"), ["--turns", "1"])
+        print(f"| {name} | {services(path)} | {floor(floors, path)} | {found.bound} | | | {found.cost} | {found.gap():.2f} % | {found.seconds:.2f} s | {found.memory:.0f} MB |")
 
 
 main(sys.argv[1], sys.argv[2], sys.argv[3], sys.argv[4], sys.argv[5:])

@@ -6,7 +6,7 @@ import csv
 import os
 import sys
 
-from solving import Solved
+from solving import solved
 
 
 def held(certificate):
@@ -26,10 +26,10 @@ def main(program, folder, work, turns, names):
     certificate = os.path.join(work, "cert")
     gaps = []
     for name in names or known:
-        solved = Solved(program, os.path.join(folder, name + ".dat"), certificate, ["--turns", turns])
+        found = solved(program, os.path.join(folder, name + ".dat"), certificate, ["--turns", turns])
         sets, nodes = held(certificate)
-        gaps.append(solved.gap())
-        print(f"| {name} | {solved.cost} | {solved.bound} | {solved.gap():.2f} % | {solved.turns} | {sets} | {nodes} | {solved.seconds:.2f} s | {solved.memory:.0f} MB |", flush=True)
+        gaps.append(found.gap())
+        print(f"| {name} | {found.cost} | {found.bound} | {found.gap():.2f} % | {found.turns} | {sets} | {nodes} | {found.seconds:.2f} s | {found.memory:.0f} MB |", flush=True)
     print(f"| mean of {len(gaps)} | | | {sum(gaps) / len(gaps):.2f} % | | | | | |")
 
 

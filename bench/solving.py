@@ -1,4 +1,4 @@
-"""One run of `carp solve`, for the scripts that print what it found."""
+"""Runs of `carp` that print a report, for the scripts that print what they found."""
 import os
 import subprocess
 import sys
@@ -13,12 +13,12 @@ def at_the_limits(work):
             yield f"at the limits, capacity {capacity:,}", path
 
 
-class Solved:
+class Reported:
     """What a run found and took: the cost, the bound, the turns, the seconds, and the greatest memory in megabytes."""
 
-    def __init__(self, program, path, certificate, options=()):
+    def __init__(self, program, path, words):
         begun = time.perf_counter()
-        run = subprocess.Popen([program, "solve", path, certificate, *options], stdout=subprocess.PIPE, text=True)
+        run = subprocess.Popen([program, *words], stdout=subprocess.PIPE, text=True)
         written = run.stdout.read()
         _, status, usage = os.wait4(run.pid, 0)
         self.seconds = time.perf_counter() - begun
@@ -32,3 +32,13 @@ class Solved:
     def gap(self):
         """How far the bound lies below the cost, in percent of the cost."""
         return 100 * (self.cost - self.bound) / self.cost if self.cost else 0.0
+
+
+def solved(program, path, certificate, options=()):
+    """A run of `carp solve`."""
+    return Reported(program, path, ["solve", path, certificate, *options])
+
+
+def improved(program, path, old, new, options=()):
+    """A run of `carp improve`."""
+    return Reported(program, path, ["improve", path, old, new, *options])

@@ -6,7 +6,7 @@ import csv
 import os
 import sys
 
-from solving import Solved, at_the_limits
+from solving import at_the_limits, solved
 
 
 def main(program, folder, work, names):
@@ -14,15 +14,15 @@ def main(program, folder, work, names):
         best = {row["name"]: int(row["cost"]) for row in csv.DictReader(file)}
     over = []
     for name in names or best:
-        solved = Solved(program, os.path.join(folder, name + ".dat"), os.path.join(work, "cert"), ["--turns", "1"])
-        percent = 100 * (solved.cost - best[name]) / best[name]
+        found = solved(program, os.path.join(folder, name + ".dat"), os.path.join(work, "cert"), ["--turns", "1"])
+        percent = 100 * (found.cost - best[name]) / best[name]
         over.append(percent)
-        print(f"| {name} | {solved.cost} | {best[name]} | {percent:.2f} % | {solved.seconds:.2f} s |", flush=True)
+        print(f"| {name} | {found.cost} | {best[name]} | {percent:.2f} % | {found.seconds:.2f} s |", flush=True)
     print(f"| mean of {len(over)} | | | {sum(over) / len(over):.2f} % | |")
     print(f"| greatest | | | {max(over):.2f} % | |")
     for name, path in at_the_limits(work):
-        solved = Solved(program, path, os.path.join(work, "cert"), ["--turns", "1"])
-        print(f"| {name} | {solved.cost} | | | {solved.seconds:.2f} s |")
+        found = solved(program, path, os.path.join(work, "cert"), ["--turns", "1"])
+        print(f"| {name} | {found.cost} | | | {found.seconds:.2f} s |")
 
 
 main(sys.argv[1], sys.argv[2], sys.argv[3], sys.argv[4:])
