@@ -3,6 +3,7 @@ use Rattle.std.specs.Prelude.{◌≡◌, ℕ, ◌+◌, ◌/◌, ◌<◌, List, l
 use Rattle.std.specs.List.{All}
 use Rattle.ruin_recreate.specs.declared.sequences.Connection.{Connection}
 use Rattle.ruin_recreate.specs.declared.sequences.Sequence.{Sequence}
+use Rattle.ruin_recreate.specs.declared.regretting.Out.{Out}
 use Rattle.ruin_recreate.specs.declared.ruining.Removed.{Removed}
 use Rattle.ruin_recreate.specs.declared.ruining.Ruin.{Ruin}
 use Rattle.ruin_recreate.specs.declared.annealing.Annealing.{Annealing}
@@ -20,6 +21,10 @@ pub record IsSequenceOn (width : ℕ) (r : Sequence) : Type 0 where
 -- services below a width
 abbrev pub AreOn : ℕ → List Removed → Type 0
 AreOn width removed = All (λ s. s.stop < width) removed
+
+-- services below a width that are to be put back by regret
+abbrev pub AreOut : ℕ → List Out → Type 0
+AreOut width out = All (λ s. s.stop < width) out
 
 -- a place and a mark for each edge, and services below a width
 pub record IsRuinOn (width : ℕ) (r : Ruin) : Type 0 where

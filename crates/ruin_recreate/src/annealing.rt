@@ -7,9 +7,10 @@ ghost use Rattle.ruin_recreate.specs.Annealing.{IsAnnealingOn};
 use crate::board::Board;
 use crate::draws::draw;
 use crate::neighbours::{Neighbours, neighbours};
-use crate::ordering::order;
+use crate::ordering::{order, shuffle};
 use crate::pricing::{fine_of, first_price, next_price};
 use crate::recreating::put;
+use crate::regretting::Regret;
 use crate::ruining::{Ruin, locate};
 use crate::sequences::Sequence;
 use carp_base::Memory;
@@ -25,6 +26,9 @@ const STEPS_AT_A_PRICE: u32 = 16;
 pub(crate) struct Annealing {
     near: Vec<Neighbours>,
     ruin: Ruin,
+    regret: Regret,
+    // Whether services are put back by regret, or else in an order that is drawn.
+    pub(crate) by_regret: bool,
     pub(crate) current: Sequence,
     trial: Sequence,
     // The load above the room in the current sequence.
@@ -50,6 +54,8 @@ impl Annealing {
         Ok(Annealing {
             near: neighbours(alloc, board)?,
             ruin: Ruin::new(alloc, board.width)?,
+            regret: Regret::new(alloc),
+            by_regret: false,
             current,
             trial: Sequence::new(alloc, board.width)?,
             excess: 0,
@@ -70,6 +76,43 @@ impl Annealing {
         locate(&self.current, &mut self.ruin.places);
     }
 
+    // Puts services back one after another, each where it costs least.
+    fn put_in_order(&mut self, board: &Board, costs: &[u32]) -> Result<(), Memory>
+        requires board { IsBoard board.now }
+        requires annealing { IsAnnealingOn board.now.width self.old }
+        requires costs { length costs.now ≡ board.now.width }
+        ensures { OnOk result (IsAnnealingOn board.now.width self.new) }
+    {
+        for i in 0..self.ruin.removed.len() {
+            let stop = self.ruin.removed[i].stop;
+            put(board, costs, &mut self.trial, self.price, stop)?;
+        }
+        Ok(())
+    }
+
+    // Puts services back by regret, or in an order that is drawn.
+    fn recreate(
+        &mut self,
+        board: &Board,
+        costs: &[u32],
+        generator: &mut Lcg64Xsh32,
+    ) -> Result<(), Memory>
+        requires board { IsBoard board.now }
+        requires annealing { IsAnnealingOn board.now.width self.old }
+        requires costs { length costs.now ≡ board.now.width }
+        ensures { OnOk result (IsAnnealingOn board.now.width self.new) }
+    {
+        if self.by_regret {
+            shuffle(&mut self.ruin.removed, generator);
+            let removed = &self.ruin.removed;
+            self.regret
+                .put_back(board, costs, &mut self.trial, self.price, removed)
+        } else {
+            order(board, &mut self.ruin.removed, generator);
+            self.put_in_order(board, costs)
+        }
+    }
+
     // Makes the trial: some services of the current sequence are taken out and put back.
     fn vary(
         &mut self,
@@ -86,13 +129,8 @@ impl Annealing {
         self.ruin
             .take_out(board, &self.current, &self.near, generator)?;
         self.trial.rest(board, &self.current, &self.ruin.gone)?;
-        order(board, &mut self.ruin.removed, generator);
-        for i in 0..self.ruin.removed.len() {
-            let stop = self.ruin.removed[i].stop;
-            put(board, costs, &mut self.trial, self.price, stop)?;
-            self.ruin.gone[stop as usize / 2] = false;
-        }
-        Ok(())
+        self.ruin.unmark(board);
+        self.recreate(board, costs, generator)
     }
 
     // Whether the trial costs no more than the current sequence and a limit, which is in 256ths and is rounded at random.

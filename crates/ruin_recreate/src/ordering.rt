@@ -1,5 +1,5 @@
 // The order in which services are put back.
-ghost use Rattle.std.specs.Prelude.{◌<◌};
+ghost use Rattle.std.specs.Prelude.{ℕ, ◌<◌};
 ghost use Rattle.std.specs.List.Sorted.{IsPermutation};
 ghost use Rattle.ruin_recreate.specs.Boards.{IsBoard};
 ghost use Rattle.ruin_recreate.specs.Annealing.{AreOn};
@@ -42,8 +42,10 @@ impl Rule {
     }
 }
 
-fn shuffle(removed: &mut [Removed], generator: &mut Lcg64Xsh32)
-    ensures { IsPermutation removed.old removed.new }
+// Puts services in random order.
+pub(crate) fn shuffle(removed: &mut [Removed], generator: &mut Lcg64Xsh32)
+    ensures permutation { IsPermutation removed.old removed.new }
+    ensures within { (width : ℕ) → AreOn width removed.old → AreOn width removed.new }
 {
     for i in 1..removed.len() {
         let Ok(limit) = u32::try_from(i + 1) else {

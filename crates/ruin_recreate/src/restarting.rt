@@ -1,7 +1,8 @@
 // Ruin and recreate.
-ghost use Rattle.std.specs.Prelude.{◌≡◌, ◌<◌, ◌≤◌, IfOk, length};
+ghost use Rattle.std.specs.Prelude.{◌≡◌, ◌<◌, ◌≤◌, IfOk, OnOk, length};
 ghost use Rattle.std.specs.List.{All};
 ghost use Rattle.ruin_recreate.specs.Boards.{IsBoard};
+ghost use Rattle.ruin_recreate.specs.Annealing.{IsAnnealingOn};
 
 use crate::annealing::Annealing;
 use crate::board::Board;
@@ -9,20 +10,46 @@ use carp_base::Memory;
 use rand_pcg::Lcg64Xsh32;
 use std::alloc::Global;
 
-// The greatest number of steps in all.
+// Up to so many edges there are annealings by regret. With more edges they take too long.
+const FEW_EDGES: u32 = 64;
+
+// The greatest number of steps in all annealings of a kind.
 const MOST_STEPS: u32 = 120_000;
 
-// How many steps there are in all: more for more pairs of edges, so that few edges are done soon.
+// How many steps all annealings of a kind have: more for more pairs of edges, so that few edges are done soon.
 fn steps(edges: u32) -> u32
     requires { edges ≤ 600 }
 {
     (8_000 + 18 * edges * edges).min(MOST_STEPS)
 }
 
-/// Looks for a cheaper sequence by ruin and recreate (Schrimpf, Schneider, Stamm-Wilbrandt and Dueck 2000). It takes
-/// strings of services near one another out of their tours (Christiaens and Vanden Berghe 2020), and puts each service
-/// back where it costs least. Annealing decides whether to go on from there. Loads above the room are permitted on the
-/// way, at a price that follows how many sequences are lawful.
+// So many annealings, each from one tour for each service.
+fn anneal_anew(
+    annealing: &mut Annealing,
+    board: &Board,
+    costs: &[u32],
+    times: u32,
+    steps: u32,
+    generator: &mut Lcg64Xsh32,
+) -> Result<(), Memory>
+    requires board { IsBoard board.now }
+    requires some { 4 ≤ board.now.width }
+    requires annealing { IsAnnealingOn board.now.width annealing.old }
+    requires costs { length costs.now ≡ board.now.width }
+    ensures { OnOk result (IsAnnealingOn board.now.width annealing.new) }
+{
+    for _ in 0..times {
+        annealing.current.scatter(board)?;
+        annealing.anneal(board, costs, steps, generator)?;
+    }
+    Ok(())
+}
+
+/// Looks for a cheaper sequence by simulated annealing over steps of ruin and recreate. A step takes strings of services
+/// near one another out of their tours. It puts them back in an order that is drawn, each where it costs least, or by
+/// regret: the service goes first whose second best tour costs the most more than its best one. Each way finds sequences
+/// that the other one misses. Loads above the room are permitted on the way, at a price that follows how many sequences
+/// are lawful.
 ///
 /// A sequence is a list of stops of the board: the depot before, between and after the tours. `costs` has for each stop
 /// what a crossing of its edge costs. The answer is meant to be the start, or a sequence with the same services whose
@@ -31,9 +58,10 @@ fn steps(edges: u32) -> u32
 ///
 /// The same generator gives the same answer. With m required edges there are up to six annealings, the first from the
 /// start and the others from one tour for each service. Together they take 8,000 + 18 * m * m steps and at most
-/// 120,000, rounded down to as many for each. With fewer than two required edges the answer is the start. A step takes
-/// time in proportion to m. The neighbours of all edges, found once, take time in proportion to m * m log m. Beside the
-/// board it takes memory in proportion to m.
+/// 120,000, rounded down to as many for each. If m is at most 64, as many annealings with as many steps follow, and put
+/// services back by regret. With fewer than two required edges the answer is the start. A step takes out at most 28
+/// services. It takes time in proportion to m for each of them. The neighbours of all edges, found once, take time in
+/// proportion to m * m log m. Beside the board it takes memory in proportion to m.
 pub fn ruin_and_recreate(
     alloc: Global,
     board: &Board,
@@ -55,9 +83,17 @@ pub fn ruin_and_recreate(
     let steps = steps(edges) / annealings;
     let mut annealing = Annealing::new(alloc, board, start)?;
     annealing.anneal(board, costs, steps, generator)?;
-    for _ in 1..annealings {
-        annealing.current.scatter(board)?;
-        annealing.anneal(board, costs, steps, generator)?;
+    anneal_anew(
+        &mut annealing,
+        board,
+        costs,
+        annealings - 1,
+        steps,
+        generator,
+    )?;
+    if edges <= FEW_EDGES {
+        annealing.by_regret = true;
+        anneal_anew(&mut annealing, board, costs, annealings, steps, generator)?;
     }
     Ok(annealing.top)
 }

@@ -157,4 +157,15 @@ impl Ruin {
         }
         Ok(())
     }
+
+    // Notes that no edge is out: what was taken out is about to be put back.
+    pub(crate) fn unmark(&mut self, board: &Board)
+        requires board { IsBoard board.now }
+        requires ruin { IsRuinOn board.now.width self.old }
+        ensures { IsRuinOn board.now.width self.new }
+    {
+        for i in 0..self.removed.len() {
+            self.gone[self.removed[i].stop as usize / 2] = false;
+        }
+    }
 }

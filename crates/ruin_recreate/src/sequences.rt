@@ -203,6 +203,14 @@ impl Sequence {
         Ok(())
     }
 
+    // The place of the first connection of a tour, or one behind all connections if there is no such tour.
+    pub(crate) fn start(&self, tour: usize) -> usize {
+        match self.tours.get(tour) {
+            Some(found) => found.first,
+            None => usize::MAX,
+        }
+    }
+
     // The place behind the last connection of a tour.
     pub(crate) fn end(&self, tour: usize) -> usize
         ensures { result ≤ length self.now.connections.items }

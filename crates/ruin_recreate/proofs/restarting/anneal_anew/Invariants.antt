@@ -1,5 +1,5 @@
 use Rattle.ruin_recreate.specs.Annealing.{IsAnnealingOn}
-use Rattle.ruin_recreate.proofs.restarting.ruin_and_recreate.Given as goal
+use Rattle.ruin_recreate.proofs.restarting.anneal_anew.Given as goal
 
 abbrev pub invariant-loop : goal.invariant-loop
 invariant-loop l = IsAnnealingOn l.board.width l.annealing
