@@ -15,7 +15,7 @@ use std::alloc::Global;
 ///
 /// The draws begin with the seed, and go on from call to call. No clause speaks of them.
 ///
-/// With r required edges it takes time in proportion to r for each service that one of at most 163,456 steps of ruin
+/// With r required edges it takes time in proportion to r for each service that one of at most 240,000 steps of ruin
 /// and recreate puts back, and to r * r for each change that settling finds.
 #[derive(Drop)]
 pub struct MoveFinder {

@@ -21,14 +21,23 @@ use std::mem;
 // After so many steps the price of load follows how many of their sequences were lawful.
 const STEPS_AT_A_PRICE: u32 = 16;
 
+// How the steps of an annealing put services back.
+#[derive(Clone, Copy)]
+pub(crate) enum Recreation {
+    // In an order that is drawn, each where it costs least.
+    InOrder,
+    // One step of four by regret, and the others in order.
+    Mixed,
+    ByRegret,
+}
+
 // What an annealing works on.
 #[derive(Drop)]
 pub(crate) struct Annealing {
     near: Vec<Neighbours>,
     ruin: Ruin,
     regret: Regret,
-    // Whether services are put back by regret, or else in an order that is drawn.
-    pub(crate) by_regret: bool,
+    pub(crate) recreation: Recreation,
     pub(crate) current: Sequence,
     trial: Sequence,
     // The load above the room in the current sequence.
@@ -43,7 +52,12 @@ pub(crate) struct Annealing {
 }
 
 impl Annealing {
-    pub(crate) fn new(alloc: Global, board: &Board, start: Vec<u32>) -> Result<Annealing, Memory>
+    pub(crate) fn new(
+        alloc: Global,
+        board: &Board,
+        start: Vec<u32>,
+        recreation: Recreation,
+    ) -> Result<Annealing, Memory>
         requires board { IsBoard board.now }
         requires within { All (λ x. x < board.now.width) start.items }
         ensures { IfOk result (IsAnnealingOn board.now.width) }
@@ -55,7 +69,7 @@ impl Annealing {
             near: neighbours(alloc, board)?,
             ruin: Ruin::new(alloc, board.width)?,
             regret: Regret::new(alloc),
-            by_regret: false,
+            recreation,
             current,
             trial: Sequence::new(alloc, board.width)?,
             excess: 0,
@@ -90,6 +104,15 @@ impl Annealing {
         Ok(())
     }
 
+    // Whether the next step puts services back by regret.
+    fn is_by_regret(&self, generator: &mut Lcg64Xsh32) -> bool {
+        match self.recreation {
+            Recreation::InOrder => false,
+            Recreation::Mixed => draw(generator, 4) == 0,
+            Recreation::ByRegret => true,
+        }
+    }
+
     // Puts services back by regret, or in an order that is drawn.
     fn recreate(
         &mut self,
@@ -102,7 +125,7 @@ impl Annealing {
         requires costs { length costs.now ≡ board.now.width }
         ensures { OnOk result (IsAnnealingOn board.now.width self.new) }
     {
-        if self.by_regret {
+        if self.is_by_regret(generator) {
             shuffle(&mut self.ruin.removed, generator);
             let removed = &self.ruin.removed;
             self.regret

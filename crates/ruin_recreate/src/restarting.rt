@@ -4,23 +4,30 @@ ghost use Rattle.std.specs.List.{All};
 ghost use Rattle.ruin_recreate.specs.Boards.{IsBoard};
 ghost use Rattle.ruin_recreate.specs.Annealing.{IsAnnealingOn};
 
-use crate::annealing::Annealing;
+use crate::annealing::{Annealing, Recreation};
 use crate::board::Board;
 use carp_base::Memory;
 use rand_pcg::Lcg64Xsh32;
 use std::alloc::Global;
 
 // Up to so many edges there are annealings by regret. With more edges they take too long.
-const FEW_EDGES: u32 = 64;
+const FEW_EDGES: u32 = 120;
 
-// The greatest number of steps in all annealings of a kind.
+// The greatest number of steps in order.
 const MOST_STEPS: u32 = 120_000;
+
+// The number of steps if there are more edges: one of four is by regret, which takes longer.
+const MIXED_STEPS: u32 = 90_000;
 
 // How many steps all annealings of a kind have: more for more pairs of edges, so that few edges are done soon.
 fn steps(edges: u32) -> u32
     requires { edges ≤ 600 }
 {
-    (8_000 + 18 * edges * edges).min(MOST_STEPS)
+    if edges <= FEW_EDGES {
+        (8_000 + 18 * edges * edges).min(MOST_STEPS)
+    } else {
+        MIXED_STEPS
+    }
 }
 
 // So many annealings, each from one tour for each service.
@@ -57,11 +64,12 @@ fn anneal_anew(
 /// of the board, so the caller has to test it. The only error is want of memory.
 ///
 /// The same generator gives the same answer. With m required edges there are up to six annealings, the first from the
-/// start and the others from one tour for each service. Together they take 8,000 + 18 * m * m steps and at most
-/// 120,000, rounded down to as many for each. If m is at most 64, as many annealings with as many steps follow, and put
-/// services back by regret. With fewer than two required edges the answer is the start. A step takes out at most 28
-/// services. It takes time in proportion to m for each of them. The neighbours of all edges, found once, take time in
-/// proportion to m * m log m. Beside the board it takes memory in proportion to m.
+/// start and the others from one tour for each service. If m is at most 120, they put services back in order, with 8,000
+/// + 18 * m * m steps together and at most 120,000, and as many annealings with as many steps follow that put them back
+/// by regret. If m is more, they have 90,000 steps together, one of four by regret. The steps are rounded down to as many
+/// for each. With fewer than two required edges the answer is the start. A step takes out at most 28 services. It takes
+/// time in proportion to m for each of them. The neighbours of all edges, found once, take time in proportion to m * m
+/// log m. Beside the board it takes memory in proportion to m.
 pub fn ruin_and_recreate(
     alloc: Global,
     board: &Board,
@@ -81,7 +89,13 @@ pub fn ruin_and_recreate(
     // If there are few edges, new starts gain. If there are many, one long annealing is better than some short ones.
     let annealings = (600 / edges).clamp(1, 6);
     let steps = steps(edges) / annealings;
-    let mut annealing = Annealing::new(alloc, board, start)?;
+    let few = edges <= FEW_EDGES;
+    let first = if few {
+        Recreation::InOrder
+    } else {
+        Recreation::Mixed
+    };
+    let mut annealing = Annealing::new(alloc, board, start, first)?;
     annealing.anneal(board, costs, steps, generator)?;
     anneal_anew(
         &mut annealing,
@@ -91,8 +105,8 @@ pub fn ruin_and_recreate(
         steps,
         generator,
     )?;
-    if edges <= FEW_EDGES {
-        annealing.by_regret = true;
+    if few {
+        annealing.recreation = Recreation::ByRegret;
         anneal_anew(&mut annealing, board, costs, annealings, steps, generator)?;
     }
     Ok(annealing.top)
