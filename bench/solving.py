@@ -2,7 +2,6 @@
 import os
 import subprocess
 import sys
-import time
 
 
 def at_the_limits(work):
@@ -14,14 +13,13 @@ def at_the_limits(work):
 
 
 class Reported:
-    """What a run found and took: the cost, the bound, the turns, the seconds, and the greatest memory in megabytes."""
+    """What a run found and took: the cost, the bound, the turns, the seconds of processor time, and the greatest memory in megabytes."""
 
     def __init__(self, program, path, words):
-        begun = time.perf_counter()
         run = subprocess.Popen([program, *words], stdout=subprocess.PIPE, text=True)
         written = run.stdout.read()
         _, status, usage = os.wait4(run.pid, 0)
-        self.seconds = time.perf_counter() - begun
+        self.seconds = usage.ru_utime + usage.ru_stime
         run.returncode = os.waitstatus_to_exitcode(status)
         if run.returncode not in (0, 1):
             sys.exit(f"{path}: ended with {run.returncode}: {written}")
