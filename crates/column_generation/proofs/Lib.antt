@@ -1,0 +1,3 @@
+pub mod Surcharges
+pub mod Offered
+pub mod Pushed

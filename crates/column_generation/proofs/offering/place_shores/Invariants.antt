@@ -1,0 +1,13 @@
+use Rattle.std.proofs.Common.{◌≡◌, All, length}
+use Rattle.cut_pool.specs.Shores.{Belongs}
+use Rattle.branch_rules.specs.Limits.{IsPriceNumber}
+use Rattle.shore_prices.specs.Proposals.{IsGrown}
+use Rattle.column_generation.proofs.offering.place_shores.Given as goal
+
+abbrev pub invariant-loop-place : goal.invariant-loop-place
+invariant-loop-place l = record {
+  one_each : length l.placed.items ≡ 2001;
+  within : All IsPriceNumber l.placed.items;
+  grown : IsGrown l.fn.pool l.pool;
+  belong : All (Belongs l.inst) l.pool;
+}

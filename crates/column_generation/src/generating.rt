@@ -1,0 +1,396 @@
+// The loop: the program, the point between its multipliers and the best point, tours, and rows.
+ghost use Rattle.std.specs.Prelude.{◌≡◌, IfOk, IfSome};
+ghost use Rattle.route_pricing.specs.Tables.{IsRoom};
+ghost use Rattle.price_points.specs.Towns.{IsTown};
+ghost use Rattle.column_generation.specs.Points.{IsGeneration, IsPoint, IsStart};
+
+use crate::boxing::{BoxSize, is_at_border};
+use crate::master::Master;
+use crate::offers::Offer;
+use crate::pace::{Due, Pace, Turn};
+use crate::points::Point;
+use crate::querying::{Reply, query};
+use crate::separating::Separator;
+use crate::setting_out::{Start, first_program, use_tour};
+use crate::trimming::{drop_slack_rows, trim_columns};
+use carp_base::{Instance, Memory};
+use deadhead_paths::Distances;
+use linear_program::{Caps, Program};
+use price_points::{Town, UNIT};
+use route_pricing::Table;
+use std::alloc::Global;
+
+// So many turns are made at most: two fills make one, and so do a search, a box that is doubled and a ratio that rises.
+const MOST_TURNS: u32 = 8000;
+
+// So many entries of the program are touched at most, but for the last turn.
+const MOST_WORK: u64 = 20_000_000_000;
+
+// So many tours of one point are added at most.
+const MOST_ADDED: u32 = 30;
+
+// The least tolerance of the program, and that of a gap is one part in so many of it.
+const LEAST_TOLERANCE: u64 = 16;
+
+const FINER: i128 = 8192;
+
+/// Where a generation of columns stands.
+#[derive(Drop)]
+pub(crate) struct Generation {
+    pub(crate) master: Master,
+    /// The best point that pays.
+    pub(crate) best: Point,
+    program: Program,
+    box_size: BoxSize,
+    separator: Separator,
+    pace: Pace,
+    due: Due,
+    // By how much the program's value is above that of the best point.
+    gap: i128,
+    // That of the program when it was solved last.
+    tolerance: u64,
+    fills: u32,
+}
+
+// What became of the tours of a point.
+#[derive(Clone, Copy)]
+struct Asked {
+    // The value of the point made one that pays.
+    value: i128,
+    // How many tours came into use.
+    added: u32,
+    // How many of them the program gains by.
+    useful: u32,
+}
+
+impl Generation {
+    /// A generation from a start, with so many fills to come, or `None` if no edge is required.
+    pub(crate) fn begin(
+        alloc: Global,
+        town: &Town<'_>,
+        table: &mut Table,
+        dist: &Distances,
+        start: Start,
+        fills: u32,
+    ) -> Result<Option<Generation>, Memory>
+        requires town { IsTown town.now }
+        requires room { IsRoom town.now.inst.now table.old }
+        requires dist { dist.now.problem ≡ town.now.inst.now }
+        requires start { IsStart town.now.inst.now start }
+        ensures room { IsRoom town.now.inst.now table.new }
+        ensures begun { IfOk result (λ found. IfSome found (IsGeneration town.now.inst.now)) }
+    {
+        let Start { mut master, point } = start;
+        let Some(reply) = query(alloc, town, table, &master.constraints, &point)? else {
+            return Ok(None);
+        };
+        let Reply {
+            point: best,
+            offers,
+        } = reply;
+        let program = first_program(alloc, town.inst, dist, &mut master, offers)?;
+        let generation = Generation::new(master, best, program, fills);
+        Ok(Some(generation))
+    }
+
+    // Before the first turn.
+    fn new(master: Master, best: Point, program: Program, fills: u32) -> Generation
+        ensures { result.best ≡ best }
+    {
+        let value = best.value;
+        Generation {
+            box_size: BoxSize::new(master.scale.mean),
+            separator: Separator::new(),
+            pace: Pace::new(value),
+            due: Due::Solve,
+            gap: (value / 8).saturating_add(i128::from(UNIT)),
+            tolerance: LEAST_TOLERANCE,
+            master,
+            best,
+            program,
+            fills,
+        }
+    }
+
+    /// Makes turns until the value of the best point is near that of the program, and no row is found any more, or
+    /// until a count ends it.
+    pub(crate) fn run(
+        &mut self,
+        alloc: Global,
+        town: &Town<'_>,
+        table: &mut Table,
+    ) -> Result<(), Memory>
+        requires town { IsTown town.now }
+        requires room { IsRoom town.now.inst.now table.old }
+        requires generation { IsGeneration town.now.inst.now self.old }
+        ensures room { IsRoom town.now.inst.now table.new }
+        ensures generation { IsGeneration town.now.inst.now self.new }
+    {
+        self.place_box(town.inst);
+        'turns: for _ in 0..MOST_TURNS {
+            match self.turn(alloc, town, table)? {
+                Turn::End => break 'turns,
+                Turn::Go(due) => self.due = due,
+            }
+        }
+        Ok(())
+    }
+
+    // Solves the program, and comes nearer to it or searches for rows.
+    fn turn(&mut self, alloc: Global, town: &Town<'_>, table: &mut Table) -> Result<Turn, Memory>
+        requires town { IsTown town.now }
+        requires room { IsRoom town.now.inst.now table.old }
+        requires generation { IsGeneration town.now.inst.now self.old }
+        ensures room { IsRoom town.now.inst.now table.new }
+        ensures generation { IsGeneration town.now.inst.now self.new }
+    {
+        self.solve(alloc)?;
+        let target = Point::of_program(alloc, town.inst, &self.master.constraints, &self.program)?;
+        self.gap = target.value.saturating_sub(self.best.value);
+        if self.is_spent() {
+            return Ok(Turn::End);
+        }
+        if self.pace.is_small(self.gap, self.best.value) {
+            self.search(alloc, town)
+        } else {
+            self.come_nearer(alloc, town, table, &target)
+        }
+    }
+
+    // Whether a count is used up.
+    fn is_spent(&self) -> bool {
+        self.fills == 0 || self.program.work() > MOST_WORK || self.master.is_full()
+    }
+
+    // Solves the program if that is due.
+    fn solve(&mut self, alloc: Global) -> Result<(), Memory>
+        ensures { self.new.best ≡ self.old.best }
+    {
+        self.tolerance = tolerance_for(self.gap);
+        self.program.set_tolerance(self.tolerance);
+        let caps = Caps::by_rows(self.program.rows().len());
+        let columns = &self.master.columns;
+        match self.due {
+            Due::Nothing => {}
+            Due::Solve => {
+                self.program.solve(alloc, columns, false, &caps)?;
+            }
+            Due::SolveWithNewRows => {
+                self.program.solve(alloc, columns, true, &caps)?;
+            }
+        }
+        Ok(())
+    }
+
+    // Places the box around the best point.
+    fn place_box(&mut self, inst: &Instance)
+        ensures { self.new.best ≡ self.old.best }
+    {
+        self.box_size.place(inst, &self.best, &mut self.program);
+    }
+
+    // Doubles the box if the program stands at its border, and answers whether it did.
+    fn widens_box(&mut self, inst: &Instance) -> bool
+        ensures { self.new.best ≡ self.old.best }
+    {
+        if !is_at_border(inst, &self.program) {
+            return false;
+        }
+        let doubled = self.box_size.doubled();
+        if doubled {
+            self.place_box(inst);
+        }
+        doubled
+    }
+
+    // Doubles the box if the program stands at its border, and searches for rows if not.
+    fn search(&mut self, alloc: Global, town: &Town<'_>) -> Result<Turn, Memory>
+        requires town { IsTown town.now }
+        ensures { self.new.best ≡ self.old.best }
+    {
+        if self.widens_box(town.inst) {
+            return Ok(Turn::Go(Due::Solve));
+        }
+        self.box_size.rest();
+        if !self.pace.may_search() {
+            return Ok(Turn::End);
+        }
+        let now = self.separator.count;
+        drop_slack_rows(town.inst, &self.master, &self.best, now, &mut self.program);
+        let found = self.separator.separate(
+            alloc,
+            town,
+            &mut self.master,
+            &mut self.program,
+            self.pace.effort,
+        )?;
+        Ok(self.pace.after_search(found, self.gap, self.best.value))
+    }
+
+    // Asks the table for the point halfway to the program, and for the program's own point if that gives nothing.
+    fn come_nearer(
+        &mut self,
+        alloc: Global,
+        town: &Town<'_>,
+        table: &mut Table,
+        target: &Point,
+    ) -> Result<Turn, Memory>
+        requires town { IsTown town.now }
+        requires room { IsRoom town.now.inst.now table.old }
+        requires generation { IsGeneration town.now.inst.now self.old }
+        requires target { IsPoint town.now.inst.now target.now }
+        ensures room { IsRoom town.now.inst.now table.new }
+        ensures generation { IsGeneration town.now.inst.now self.new }
+    {
+        let old = self.best.value;
+        let quarter = old.saturating_add(self.gap / 4);
+        let middle = target.halfway(alloc, town.inst, &self.master.constraints, &self.best)?;
+        let Some(asked) = self.ask(alloc, town, table, &middle)? else {
+            return Ok(Turn::End);
+        };
+        if asked.useful > 0 || asked.value > quarter {
+            return self.after_point(alloc, town.inst, old);
+        }
+        self.ask_program(alloc, town, table, target, old)
+    }
+
+    // Asks the table for the program's own point.
+    fn ask_program(
+        &mut self,
+        alloc: Global,
+        town: &Town<'_>,
+        table: &mut Table,
+        target: &Point,
+        old: i128,
+    ) -> Result<Turn, Memory>
+        requires town { IsTown town.now }
+        requires room { IsRoom town.now.inst.now table.old }
+        requires generation { IsGeneration town.now.inst.now self.old }
+        requires target { IsPoint town.now.inst.now target.now }
+        ensures room { IsRoom town.now.inst.now table.new }
+        ensures generation { IsGeneration town.now.inst.now self.new }
+    {
+        let Some(asked) = self.ask(alloc, town, table, target)? else {
+            return Ok(Turn::End);
+        };
+        if asked.added == 0 && self.best.value <= old.saturating_add(self.gap / 4) {
+            return Ok(self.without_tours());
+        }
+        self.after_point(alloc, town.inst, old)
+    }
+
+    // Moves or halves the box, and takes columns out of use if there are many.
+    fn after_point(&mut self, alloc: Global, inst: &Instance, old: i128) -> Result<Turn, Memory>
+        ensures { self.new.best ≡ self.old.best }
+    {
+        let gained = self.best.value > old.saturating_add(self.gap / 10);
+        if self.box_size.take(gained) {
+            self.place_box(inst);
+        }
+        trim_columns(alloc, inst, &self.master, &mut self.program)?;
+        Ok(Turn::Go(Due::Solve))
+    }
+
+    // What follows if no tour was new: the program is solved more finely, or the pace changes.
+    fn without_tours(&mut self) -> Turn
+        ensures { self.new.best ≡ self.old.best }
+    {
+        if self.tolerance > LEAST_TOLERANCE {
+            self.gap = 0;
+            return Turn::Go(Due::Solve);
+        }
+        self.pace.without_tours()
+    }
+
+    // Makes of a point one that pays, keeps it if it is the best, and adds its tours.
+    fn ask(
+        &mut self,
+        alloc: Global,
+        town: &Town<'_>,
+        table: &mut Table,
+        point: &Point,
+    ) -> Result<Option<Asked>, Memory>
+        requires town { IsTown town.now }
+        requires room { IsRoom town.now.inst.now table.old }
+        requires generation { IsGeneration town.now.inst.now self.old }
+        requires point { IsPoint town.now.inst.now point.now }
+        ensures room { IsRoom town.now.inst.now table.new }
+        ensures generation { IsGeneration town.now.inst.now self.new }
+    {
+        self.fills = self.fills.saturating_sub(1);
+        let Some(reply) = query(alloc, town, table, &self.master.constraints, point)? else {
+            return Ok(None);
+        };
+        let Reply {
+            point: paying,
+            offers,
+        } = reply;
+        let value = paying.value;
+        self.keep(town.inst, paying);
+        Ok(Some(self.add_offers(alloc, town.inst, value, offers)?))
+    }
+
+    // Keeps a point that pays if it is the best.
+    fn keep(&mut self, inst: &Instance, point: Point)
+        requires generation { IsGeneration inst.now self.old }
+        requires point { IsPoint inst.now point }
+        ensures { IsGeneration inst.now self.new }
+    {
+        if point.value > self.best.value {
+            self.best = point;
+        }
+    }
+
+    // Adds the tours of the least values below 0.
+    fn add_offers(
+        &mut self,
+        alloc: Global,
+        inst: &Instance,
+        value: i128,
+        offers: Vec<Offer>,
+    ) -> Result<Asked, Memory>
+        ensures { self.new.best ≡ self.old.best }
+    {
+        let mut asked = Asked {
+            value,
+            added: 0,
+            useful: 0,
+        };
+        for offer in offers {
+            if offer.value < 0 && asked.added < MOST_ADDED {
+                asked = self.add_offer(alloc, inst, offer, asked)?;
+            }
+        }
+        Ok(asked)
+    }
+
+    // Adds a tour, and counts it if it is new to the program.
+    fn add_offer(
+        &mut self,
+        alloc: Global,
+        inst: &Instance,
+        offer: Offer,
+        asked: Asked,
+    ) -> Result<Asked, Memory>
+        ensures { self.new.best ≡ self.old.best }
+    {
+        let Offer { tour, .. } = offer;
+        let used = use_tour(alloc, inst, &mut self.master, &mut self.program, tour)?;
+        let Some(column) = used else {
+            return Ok(asked);
+        };
+        let reduced = self.program.reduced_cost(&self.master.columns, column);
+        let useful = reduced < 0 && reduced.unsigned_abs() > LEAST_TOLERANCE;
+        Ok(Asked {
+            value: asked.value,
+            added: asked.added.saturating_add(1),
+            useful: asked.useful.saturating_add(u32::from(useful)),
+        })
+    }
+}
+
+// How far below 0 a reduced cost has to be at a gap.
+fn tolerance_for(gap: i128) -> u64 {
+    let part = (gap / FINER).clamp(0, i128::from(UNIT)) as u64;
+    part.max(LEAST_TOLERANCE)
+}

@@ -1,0 +1,159 @@
+// Groups of required edges, and weights on them.
+ghost use Rattle.std.specs.Prelude.{◌<◌, ◌≤◌, pos, ◌<ℤ◌, All, IfOk, IsTrue, OnOk, length};
+ghost use Rattle.std.specs.List.Sorted.{IsStrictlyIncreasing};
+ghost use Rattle.branch_rules.specs.Bonds.{IsGroup};
+ghost use Rattle.carp_base.specs.Problem.{IsRequired};
+ghost use Rattle.route_pricing.specs.Pricing.{IsServicePrice};
+ghost use Rattle.column_generation.specs.Groups.{AreOffered};
+
+use crate::constraints::{Constraint, Demand};
+use branch_rules::WeightedGroup;
+use carp_base::{Instance, Memory};
+use price_points::number_at;
+use std::alloc::Global;
+
+// So many groups have a weight at most, and so many edges each: together they have no more edges than a price set may
+// have.
+const MOST_GROUPS: usize = 500;
+
+const MOST_EDGES: usize = 120;
+
+/// The edges of a group, by their rising numbers.
+#[derive(Drop)]
+pub(crate) struct Members {
+    pub(crate) edges: Vec<u32>,
+    // Whether each number is one of them.
+    marks: Vec<bool>,
+}
+
+impl Members {
+    /// The group of these edges, which are numbers up to `required`. Others do not count.
+    pub(crate) fn new(alloc: Global, required: u32, edges: &[u32]) -> Result<Members, Memory> {
+        let mut marks = vec![in alloc; false; required as usize + 1]?;
+        mark_all(&mut marks, edges);
+        Ok(Members {
+            edges: Vec::from_slice(alloc, edges)?,
+            marks,
+        })
+    }
+
+    /// Whether an edge is one of them. It takes constant time.
+    pub(crate) fn has(&self, e: u32) -> bool {
+        let place = e as usize;
+        place < self.marks.len() && self.marks[place]
+    }
+}
+
+// Marks these numbers.
+fn mark_all(marks: &mut [bool], edges: &[u32]) {
+    for e in edges {
+        let place = *e as usize;
+        if place < marks.len() {
+            marks[place] = true;
+        }
+    }
+}
+
+// Whether the numbers of the edges rise.
+fn rise(edges: &[u32]) -> bool
+    ensures { IsTrue result → IsStrictlyIncreasing edges.now }
+{
+    for place in 1..edges.len() {
+        if edges[place - 1] >= edges[place] {
+            return false;
+        }
+    }
+    true
+}
+
+// Whether the edges are required.
+fn are_required(inst: &Instance, edges: &[u32]) -> bool
+    ensures { IsTrue result → All (IsRequired inst.now) edges.now }
+{
+    let required = inst.required();
+    for e in edges {
+        if *e < 1 || required < *e {
+            return false;
+        }
+    }
+    true
+}
+
+/// Whether these are a group of at most 120 edges.
+pub(crate) fn is_small_group(inst: &Instance, edges: &[u32]) -> bool
+    ensures group { IsTrue result → IsGroup inst.now edges.now }
+    ensures small { IsTrue result → length edges.now ≤ 120 }
+{
+    if edges.len() < 2 || MOST_EDGES < edges.len() {
+        return false;
+    }
+    if !rise(edges) {
+        return false;
+    }
+    are_required(inst, edges)
+}
+
+/// The groups with a weight above 0, at most 500 of at most 120 edges each.
+pub(crate) fn weighted_groups(
+    alloc: Global,
+    inst: &Instance,
+    constraints: &[Constraint],
+    weights: &[i64],
+) -> Result<Vec<WeightedGroup>, Memory>
+    requires { All IsServicePrice weights.now }
+    ensures { IfOk result (λ groups. AreOffered inst.now groups.items) }
+{
+    let mut groups = Vec::new(alloc);
+    for place in 0..constraints.len() {
+        if let Demand::Bonds(members) = &constraints[place].demand {
+            let weight = number_at(weights, place);
+            add_group(alloc, inst, &members.edges, weight, &mut groups)?;
+        }
+    }
+    Ok(groups)
+}
+
+// Adds a group if its weight is above 0.
+fn add_group(
+    alloc: Global,
+    inst: &Instance,
+    edges: &[u32],
+    weight: i64,
+    groups: &mut Vec<WeightedGroup>,
+) -> Result<(), Memory>
+    requires weight { IsServicePrice weight }
+    requires offered { AreOffered inst.now groups.old.items }
+    ensures offered { OnOk result (AreOffered inst.now groups.new.items) }
+{
+    if weight <= 0 || MOST_GROUPS <= groups.len() {
+        return Ok(());
+    }
+    if !is_small_group(inst, edges) {
+        return Ok(());
+    }
+    push_group(alloc, inst, edges, weight, groups)
+}
+
+// Adds a group, for which there is room.
+#[tactic(auto, using(crate::proofs::Offered::fine_group))]
+fn push_group(
+    alloc: Global,
+    inst: &Instance,
+    edges: &[u32],
+    weight: i64,
+    groups: &mut Vec<WeightedGroup>,
+) -> Result<(), Memory>
+    requires group { IsGroup inst.now edges.now }
+    requires small { length edges.now ≤ 120 }
+    requires above { pos 0 <ℤ weight }
+    requires weight { IsServicePrice weight }
+    requires room { length groups.old.items < 500 }
+    requires offered { AreOffered inst.now groups.old.items }
+    ensures offered { OnOk result (AreOffered inst.now groups.new.items) }
+{
+    // What a read of the instance says is needed: that it is valid.
+    let _ = inst.vertices();
+    let group = WeightedGroup::new(alloc, edges, weight)?;
+    groups.push(group)?;
+    Ok(())
+}

@@ -1,0 +1,4 @@
+pub mod Flows
+pub mod Violation
+pub mod Tables
+pub mod Examples

@@ -1,0 +1,4 @@
+pub mod Corners
+pub mod Programs
+pub mod Selections
+pub mod Stores

@@ -1,0 +1,48 @@
+//! A linear program whose rows and columns come and go, in whole numbers.
+//!
+//! In the field: the revised simplex method with an explicit inverse (Dantzig and Orchard-Hays 1954), as a primal and
+//! as a dual method (Lemke 1954).
+//!
+//! [`Columns`] holds rows and columns that many programs share. A [`Program`] takes some of them in use, and looks for
+//! multipliers of its rows at which no column in use has a reduced cost below 0. It works in fixed point, so what it
+//! finds is a proposal. Whoever uses it judges it anew.
+//!
+//! - `fixed`, `ids`: numbers in fixed point, and the numbers of rows and columns.
+//! - `columns`: the store of rows and columns.
+//! - `selection`, `costs`: what a program has in use, and what its variables cost.
+//! - `corner`, `workspace`: the basis with its inverse, and lists that the steps work in.
+//! - `direction`, `pivoting`: a column through the inverse, and the step from one basis to the next.
+//! - `refreshing`, `rebuilding`: activities and multipliers from the inverse, and the inverse from the basis.
+//! - `shortlist`, `entering`, `leaving`, `primal`: the primal method.
+//! - `dual_leaving`, `dual_entering`, `dual`: the dual method.
+//! - `rows`, `trimming`: rows that come and go, and columns that go.
+//! - `solving`, `program`: both methods in turn, and the public calls.
+#![tactic(auto)]
+
+mod columns;
+mod corner;
+mod costs;
+mod direction;
+mod dual;
+mod dual_entering;
+mod dual_leaving;
+mod entering;
+mod fixed;
+mod ids;
+mod leaving;
+mod pivoting;
+mod primal;
+mod program;
+mod rebuilding;
+mod refreshing;
+mod rows;
+mod selection;
+mod shortlist;
+mod solving;
+mod trimming;
+mod workspace;
+
+pub use columns::{Columns, Entry, RowBounds};
+pub use ids::{ColumnId, RowId};
+pub use program::{Basic, Caps, Program};
+pub use selection::Variable;
