@@ -1,7 +1,7 @@
 import re,os,sys
-ROOT='/work/w/h4/crates/'
-OUT='/tmp/h4rs/src/'
-CR='carp_base plan_model road_network flow_cut deadhead_paths cut_pool edge_components capacity_cuts shore_program shore_search task_tours route_pricing decision_chains branch_rules tight_prices shore_prices price_points group_search linear_program column_generation'.split()
+ROOT='/work/w/rsrc/crates/'
+OUT='/work/w/rs/src/'
+CR='carp_base plan_model road_network flow_cut deadhead_paths cut_pool edge_components capacity_cuts shore_program shore_search task_tours route_pricing decision_chains branch_rules tight_prices shore_prices price_points price_ascent group_search linear_program column_generation'.split()
 def strip_block(s,start_re):
     while True:
         m=re.search(start_re,s,re.M)

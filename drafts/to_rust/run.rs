@@ -17,9 +17,15 @@ pub fn main(){
   let mut pool=cut_pool::ShorePool::new(g);
   let branch=branch_rules::Branch::new(g);
   let t0=std::time::Instant::now();
-  let start=shore_prices::shore_prices(g,&inst,&net,&mut pool,&branch,60).ok().unwrap();
+  let start=shore_prices::shore_prices(g,&inst,&net,&mut pool,&branch,400).ok().unwrap();
   println!("start fits {:?} value {:?} {:?}",tight_prices::fits(g,&inst,&net,&mut table,&pool,&branch,&start).ok(),branch.value_at(&inst,&pool,&start).ok(),t0.elapsed());
+  let t2=std::time::Instant::now();
+  let mut start=start;
+  if let Some(up)=price_ascent::ascend(g,&inst,&net,&mut table,&mut pool,&branch,&start,400).ok().unwrap(){ if tight_prices::fits(g,&inst,&net,&mut table,&pool,&branch,&up).ok()==Some(true){
+    let a=branch.value_at(&inst,&pool,&up).ok().unwrap();let b=branch.value_at(&inst,&pool,&start).ok().unwrap();
+    println!("ascent {} of {} {:?}",a as f64/up.unit() as f64,b as f64/start.unit() as f64,t2.elapsed());
+    if a*(start.unit() as i128)>b*(up.unit() as i128){start=up;}}}
   let t1=std::time::Instant::now();
   let found=column_generation::generate_columns(g,&inst,&net,&mut table,&mut pool,&branch,&start,fills).ok().unwrap();
-  match found{Some(set)=>println!("found fits {:?} value {:?} shores {} groups {} pool {} {:?}",tight_prices::fits(g,&inst,&net,&mut table,&pool,&branch,&set).ok(),branch.value_at(&inst,&pool,&set).ok(),set.weights(),set.groups().len(),pool.len(),t1.elapsed()),None=>println!("none {:?}",t1.elapsed())}
+  match found{Some(set)=>println!("found {} fits {:?} value {:?} shores {} groups {} pool {} {:?}",branch.value_at(&inst,&pool,&set).ok().unwrap() as f64/set.unit() as f64,tight_prices::fits(g,&inst,&net,&mut table,&pool,&branch,&set).ok(),branch.value_at(&inst,&pool,&set).ok(),set.weights(),set.groups().len(),pool.len(),t1.elapsed()),None=>println!("none {:?}",t1.elapsed())}
 }

@@ -1,0 +1,74 @@
+import re,os,sys
+ROOT='/work/w/h5/crates/'
+OUT='/work/w/h5rs/src/'
+CR='carp_base plan_model road_network flow_cut deadhead_paths cut_pool edge_components capacity_cuts shore_program shore_search task_tours route_pricing decision_chains branch_rules tight_prices shore_prices price_points price_ascent group_search linear_program column_generation'.split()
+def strip_block(s,start_re):
+    while True:
+        m=re.search(start_re,s,re.M)
+        if not m: return s
+        i=s.index('{',m.end()-1) if s[m.end()-1]!='{' else m.end()-1
+        d=0;j=i
+        while True:
+            if s[j]=='{':d+=1
+            elif s[j]=='}':
+                d-=1
+                if d==0:break
+            j+=1
+        s=s[:m.start()]+s[j+1:]
+def conv(s,crate):
+    if os.environ.get('DBG'): s=re.sub(r'^\s*//DBG ','',s,flags=re.M)
+    s=re.sub(r'^\s*ghost use [^;]*;\n','',s,flags=re.M)
+    s=strip_block(s,r'^impl(<[^>]*>)? Model for [^\n{]*\{')
+    # clauses
+    out=[];lines=s.split('\n');k=0
+    while k<len(lines):
+        l=lines[k]
+        if re.match(r'^\s*(requires|ensures)\*?(\s+\w+)?\s*\{',l) or re.match(r'^\s*ghost \w+\s*[:=]\s*\{',l) or re.match(r'^\s*pub ghost \w+\s*[:=]\s*\{',l):
+            d=0;first=l
+            while True:
+                d+=lines[k].count('{')-lines[k].count('}')
+                if d<=0:break
+                k+=1
+            if lines[k].rstrip().endswith(';') and re.match(r'^\s*(requires|ensures)',first): out[-1]+=';'
+            k+=1;continue
+        out.append(l);k+=1
+    s='\n'.join(out)
+    s=re.sub(r'^#!?\[tactic\(.*\)\]\n','',s,flags=re.M)
+    s=re.sub(r'^\s*#\[tactic\(.*\)\]\n','',s,flags=re.M)
+    s=re.sub(r'^\s*#\[error\(.*\)\]\n','',s,flags=re.M)
+    s=re.sub(r'^\s*#\[from\]\n','',s,flags=re.M)
+    def der(m):
+        xs=[x.strip() for x in m.group(1).split(',')]
+        xs=[x for x in xs if x not in('Drop','Error','thiserror::Error')]
+        return '#[derive(%s)]'%', '.join(xs) if xs else ''
+    s=re.sub(r'#\[derive\(([^)]*)\)\]',der,s)
+    s=re.sub(r'^use thiserror::Error;\n','',s,flags=re.M)
+    s=re.sub(r'vec!\[in ([\w.()]+);','vec_in![$A \\1;',s).replace('$A ','')
+    s=re.sub(r'^use std::marker::Model;\n','',s,flags=re.M)
+    s=re.sub(r'use std::alloc::','use crate::shim::',s)
+    s=re.sub(r'use std::collections::HashMap;','use crate::shim::HashMap;',s)
+    s=re.sub(r'use indexmap::IndexSet;','use crate::shim::IndexSet;',s)
+    s=re.sub(r'use rand_pcg::Lcg64Xsh32;','use crate::shim::Lcg64Xsh32;',s)
+    s=re.sub(r'use rand_core::[^;]*;\n','',s)
+    s=re.sub(r'#\[cfg\(test\)\]\n\s*mod \w+;\n','',s)
+    i=s.find('#[cfg(test)]')
+    if i>=0: s=s[:i]
+    s=re.sub(r'\bcrate::(?!shim)',f'crate::{crate}::',s)
+    for c in CR:
+        s=re.sub(r'(?<![\w:])'+c+r'::','crate::'+c+'::',s)
+    s=s.replace('crate::crate::','crate::').replace(f'crate::{crate}::shim','crate::shim')
+    s=re.sub(r'<(\w+): Drop>',r'<\1>',s); s=re.sub(r' \+ Drop\b','',s); s=re.sub(r': Drop \+ ',': ',s)
+    s=s.replace('.collect(alloc)?','.collect_in()?'); s=s.replace('use std::collections::BinaryHeap;','use crate::shim::BinaryHeap;'); s=re.sub(r'<(\w+): Drop, ',r'<\1, ',s); s=re.sub(r', (\w+): Drop>',r', \1>',s)
+    s=re.sub(r'^//!.*\n','',s,flags=re.M)
+    return s.replace('RUNNOW()','crate::run::now()')
+for c in CR:
+    os.makedirs(OUT+c,exist_ok=True)
+    for f in os.listdir(ROOT+c+'/src'):
+        if not f.endswith('.rt'):continue
+        s=conv(open(ROOT+c+'/src/'+f).read(),c)
+        if f=='examples.rt' or f.endswith('_examples.rt') : s=''
+        if c=='route_pricing' and f=='table.rt': s=s.replace('        self.grid\n            .copy_from','        crate::run::FILLS.fetch_add(1,std::sync::atomic::Ordering::Relaxed);\n        self.grid\n            .copy_from',1)
+        name='mod.rs' if f=='lib.rt' else f[:-3]+'.rs'
+        open(OUT+c+'/'+name,'w').write('#[allow(unused_imports)]\nuse crate::shim::*;\n'+s)
+main='#![allow(warnings)]\n#[macro_use]\nmod shim;\n'+''.join(f'pub mod {c};\n' for c in CR)+'mod run;\nfn main(){run::main()}\n'
+open(OUT+'main.rs','w').write(main)
