@@ -27,5 +27,13 @@ pub fn main(){
     if a*(start.unit() as i128)>b*(up.unit() as i128){start=up;}}}
   let t1=std::time::Instant::now();
   let found=column_generation::generate_columns(g,&inst,&net,&mut table,&mut pool,&branch,&start,fills).ok().unwrap();
+  let known=pool.len();
+  let t3=std::time::Instant::now();
+  let _=tight_prices::tighten(g,&inst,&net,&mut table,&pool,&branch,&start,known).ok().unwrap();
+  println!("tighten of the start {:?}",t3.elapsed());
+  if let Some(set)=&found{ let t3=std::time::Instant::now(); let s2=tight_prices::tighten(g,&inst,&net,&mut table,&pool,&branch,set,known).ok().unwrap(); println!("tighten of the found {:?} value {}",t3.elapsed(),branch.value_at(&inst,&pool,&s2).ok().unwrap());
+   let t4=std::time::Instant::now(); for _ in 0..20{let _=tight_prices::fits(g,&inst,&net,&mut table,&pool,&branch,set).ok();} println!("20 fits of the found {:?}",t4.elapsed());
+   let t4=std::time::Instant::now(); for _ in 0..20{let _=tight_prices::fits(g,&inst,&net,&mut table,&pool,&branch,&start).ok();} println!("20 fits of the start {:?}",t4.elapsed());
+  }
   match found{Some(set)=>println!("found {} fits {:?} value {:?} shores {} groups {} pool {} {:?}",branch.value_at(&inst,&pool,&set).ok().unwrap() as f64/set.unit() as f64,tight_prices::fits(g,&inst,&net,&mut table,&pool,&branch,&set).ok(),branch.value_at(&inst,&pool,&set).ok(),set.weights(),set.groups().len(),pool.len(),t1.elapsed()),None=>println!("none {:?}",t1.elapsed())}
 }
