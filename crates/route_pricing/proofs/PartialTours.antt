@@ -93,7 +93,7 @@ pub partial_heavy : (g : Grid) → IsGrid g → (us : List Task) (t : Task) (l v
 partial_heavy g grid [] t l v partial = omega (arith, partial.load_is, (grid.valid.tasks t.edge partial.required).some_demand)
 partial_heavy g grid (u ∷ us) t l v partial = omega (arith, partial.3.load_is, (grid.valid.tasks t.edge partial.3.required).some_demand)
 
-least_small : (x : Charge) → least_raised x ≤ base
+pub least_small : (x : Charge) → least_raised x ≤ base
 least_small Free = omega arith
 least_small Charged = omega arith
 least_small Gained = omega arith
@@ -120,15 +120,6 @@ module _ (g : Grid) (grid : IsGrid g) where
 
   pub leg_least : (u t : Task) (x : Charge) → IsRequired g.inst u.edge → IsRequired g.inst t.edge → x ≡ charge_at g t.edge → least_raised x ≤ leg g u t
   leg_least u t x u_in t_in is = omega (arith, raised_least u t x u_in t_in is)
-
-  join_least : (load : ℕ) (t : Task) (x : Charge) (n : ℕ) → IsRequired g.inst t.edge → x ≡ charge_at g t.edge → IsJoin g load t n → least_raised x ≤ n
-  join_least load t x n t_in is j = omega (arith, j.sum, leg_least j.last t x (reaches_required j.last load j.value j.reaches) t_in is)
-
-  pub bound_least : (load : ℕ) (t : Task) (x : Charge) (n : ℕ) → IsRequired g.inst t.edge → x ≡ charge_at g t.edge → (n < no_value → IsJoin g load t n) → least_raised x ≤ n
-  bound_least load t x n t_in is known = elim (cases_lt n no_value) [
-    | inl less ↦ join_least load t x n t_in is (known less)
-    | inr more ↦ omega (arith, least_small x, more)
-  ]
 
   pub first_small : (t : Task) → IsRequired g.inst t.edge → between g g.inst.depot (task_start g t) ≤ 2 ^ 73
   first_small t t_in = grid.small_dist g.inst.depot (task_start g t) (depot_reached g.inst) (tail_reached g.inst t.edge t.forward grid.valid t_in)

@@ -9,7 +9,7 @@ use Rattle.route_pricing.specs.Partial.{base, no_value, IsGrid, width, column_ta
 use Rattle.route_pricing.specs.declared.grid.Grid.{Grid}
 use Rattle.route_pricing.specs.declared.labels.Labels.{Labels}
 use Rattle.route_pricing.specs.declared.charging.Charge.{Charge}
-use Rattle.route_pricing.specs.declared.charging.Charge.TheVariants.{Free}
+use Rattle.route_pricing.specs.declared.charging.Charge.TheVariants.{Charged, Free}
 use Rattle.route_pricing.specs.Labels.{no_labels, labels_at, AreTwo, IsBounded, IsInserted, IsFromEither, AreLabelsJoined, IsLayer, IsCarried, AreSoundAt, AreLabelsSound, Keeps, BoundsEnds, label_sum, AreStreetsSettled, AreSpread, label_joined}
 use Rattle.route_pricing.specs.Charging.{IsGain}
 use Rattle.route_pricing.proofs.PartialTours.{leads_more, column_of, task_is, column_in, reaches_required, reaches_small, head_reached, tail_reached}
@@ -281,6 +281,9 @@ module _ (g : Grid) (grid : IsGrid g) where
         ];
         least = lesser k (omega (arith, above, free)) (omega (arith, free));
       }
+
+    pub none_gain : charge_at g t.edge ≡ Charged → (low m : ℕ) (j : IsJoin g load t m) → IsGain g j.last t → low ≤ m
+    none_gain charged low m j is = absurd (omega (arith, is, grid.charged j.last.edge t.edge (reaches_required g grid j.last load j.value j.reaches) t_in charged))
 
     module _ (free : charge_at g t.edge ≡ Free) where
       free_true : (v e : ℕ) → may_edge e ≡ true → v + base ≡ label_joined g v e t

@@ -1,5 +1,5 @@
 -- Tours of two streets side by side.
-use Rattle.std.proofs.Common.{◌≡◌, ℕ, zero, suc, pos, ◌≤◌, List, [], ◌∷◌, ◌++◌, length, get_or, ap, refl, arith}
+use Rattle.std.proofs.Common.{◌≡◌, ℕ, zero, suc, pos, ◌≤◌, List, [], ◌∷◌, ◌++◌, length, ap, refl, arith}
 use Rattle.std.proofs.lemmas.List.Sums.{sum_by-cons}
 use Rattle.std.proofs.lemmas.List.{length-append}
 use Rattle.plan_model.specs.declared.step.Step.{Step}

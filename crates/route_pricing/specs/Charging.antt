@@ -1,10 +1,10 @@
 -- What is known of the surcharges of an edge, and what is copied of them. No public contract speaks of this.
-use Rattle.std.specs.Prelude.{◌≡◌, ℕ, ◌+◌, ◌*◌, ◌^◌, ◌<◌, ◌≤◌, List, length, true, ℤ, pos, ◌+ℤ◌, ◌≤ℤ◌, slice_index_or, ⊤}
+use Rattle.std.specs.Prelude.{◌≡◌, ℕ, ◌+◌, ◌*◌, ◌^◌, ◌<◌, ◌≤◌, List, length, ℤ, pos, ◌+ℤ◌, ◌≤ℤ◌, slice_index_or, ⊤}
 use Rattle.route_pricing.specs.declared.charging.Charge.{Charge}
 use Rattle.route_pricing.specs.declared.charging.Charge.TheVariants.{Free, Charged, Gained}
 use Rattle.carp_base.specs.declared.edge.Task.{Task}
 use Rattle.route_pricing.specs.declared.grid.Grid.{Grid}
-use Rattle.route_pricing.specs.Partial.{base, no_value, charge_in, raised_in, surcharge_at, column_task, leg, may_follow, Reaches, IsJoin}
+use Rattle.route_pricing.specs.Partial.{base, charge_in, raised_in, surcharge_at}
 use Rattle.route_pricing.specs.Pricing.{surcharge_in}
 
 -- what is known is so of a surcharge
@@ -28,18 +28,3 @@ pub record AreCharged (required : ℕ) (surcharges : List ℤ) (charges : List C
 -- a surcharge below 0 where the second task is done directly after the first
 abbrev pub IsGain : Grid → Task → Task → Type 0
 IsGain g u t = surcharge_at g u.edge t.edge < base
-
--- a join, which is at most each from one task, if that gains
-pub record IsLeastGainFrom (g : Grid) (load : ℕ) (u t : Task) (n : ℕ) : Type 0 where
-  pub attained : n < no_value → IsJoin g load t n
-  pub least : (w : ℕ) → Reaches g u load w → may_follow g u t ≡ true → IsGain g u t → n ≤ w + leg g u t
-
--- a join, which is at most each that gains from a task of the first columns
-pub record IsLeastGainUpTo (g : Grid) (load : ℕ) (t : Task) (columns n : ℕ) : Type 0 where
-  pub attained : n < no_value → IsJoin g load t n
-  pub least : (c w : ℕ) → c < columns → Reaches g (column_task c) load w → may_follow g (column_task c) t ≡ true → IsGain g (column_task c) t → n ≤ w + leg g (column_task c) t
-
--- a join, which is at most each that gains
-pub record IsLeastGain (g : Grid) (load : ℕ) (t : Task) (n : ℕ) : Type 0 where
-  pub attained : n < no_value → IsJoin g load t n
-  pub least : (m : ℕ) (j : IsJoin g load t m) → IsGain g j.last t → n ≤ m

@@ -1,10 +1,9 @@
 // The least of the partial tours that a task may follow, found among all tasks.
 ghost use Rattle.std.specs.Prelude.{◌≡◌, ◌+◌, ◌*◌, ◌^◌, ◌<◌, ◌≤◌};
-ghost use Rattle.route_pricing.specs.Partial.{no_value, least_raised, IsGrid, IsSuccessor, IsJoin, IsLeastJoin, IsLeastUpTo, AreFilled, leg, may_follow, surcharge_at, width, column_task};
+ghost use Rattle.route_pricing.specs.Partial.{least_raised, IsGrid, IsSuccessor, IsLeastJoin, IsLeastUpTo, AreFilled, leg, may_follow, surcharge_at, width, column_task};
 
 use crate::charging::Charge;
-use crate::grid::Grid;
-use crate::labels::lesser;
+use crate::grid::{Grid, UNREACHED};
 
 // A task after the partial tours of one load, with what a grid holds of it, read once for all of them.
 #[derive(Clone, Copy)]
@@ -16,31 +15,42 @@ pub(crate) struct Successor {
     pairs: usize,
     ways: usize,
     // What is known of the surcharges of its edge.
-    charge: Charge,
+    pub(crate) charge: Charge,
 }
 
 impl Grid {
-    // The least value of a partial tour of this load that the task may follow, with the raised leg to it, where one such value is known, or
-    // else `UNREACHED`. Values stand here less the least raised surcharge that the leg can have, so that a tour whose value alone is no less
-    // than the limit is passed over.
-    pub(crate) fn least_join(&self, cells: &[u128], load: usize, column: usize, bound: u128) -> u128
+    // The task of a column after the partial tours of a load.
+    pub(crate) fn successor(&self, load: usize, column: usize) -> Successor
         requires grid { IsGrid self.now }
-        requires filled { AreFilled self.now cells.now load column }
         requires load { load ≤ self.now.inst.capacity }
         requires column { column < width self.now }
-        requires bound { bound < no_value → IsJoin self.now load (column_task column) bound }
-        ensures { IsLeastJoin self.now load (column_task column) result }
+        ensures successor { IsSuccessor self.now result }
+        ensures load { result.load ≡ load }
+        ensures column { result.column ≡ column }
     {
-        let next = Successor {
+        let _capacity = self.inst.capacity();
+        Successor {
             load,
             column,
             cells: load * self.width(),
             pairs: column / 2 * self.inst.required() as usize,
             ways: self.start(column) as usize * (self.inst.vertices() as usize + 1),
             charge: self.charge(column),
-        };
+        }
+    }
+
+    // The least value of a partial tour of this load that the task may follow, with the raised leg to it. Values stand here less the
+    // least raised surcharge that the leg can have, so that a tour whose value alone is no less than the limit is passed over.
+    pub(crate) fn least_join(&self, cells: &[u128], load: usize, column: usize) -> u128
+        requires grid { IsGrid self.now }
+        requires filled { AreFilled self.now cells.now load column }
+        requires load { load ≤ self.now.inst.capacity }
+        requires column { column < width self.now }
+        ensures { IsLeastJoin self.now load (column_task column) result }
+    {
+        let next = self.successor(load, column);
         let least = next.charge.least_raised();
-        let mut limit = bound - least;
+        let mut limit = UNREACHED - least;
         for before in 0..self.width() {
             limit = self.lowered(cells, &next, before, limit);
         }
@@ -64,10 +74,10 @@ impl Grid {
         if !self.may_precede(next, before) {
             return limit;
         }
-        lesser(limit, value + self.leg_above(next, before))
+        limit.min(value + self.leg_above(next, before))
     }
 
-    fn may_precede(&self, next: &Successor, before: usize) -> bool
+    pub(crate) fn may_precede(&self, next: &Successor, before: usize) -> bool
         requires grid { IsGrid self.now }
         requires next { IsSuccessor self.now next.now }
         requires before { before < width self.now }
@@ -77,7 +87,7 @@ impl Grid {
     }
 
     // The raised leg from the task of a column, less the least raised surcharge.
-    fn leg_above(&self, next: &Successor, before: usize) -> u128
+    pub(crate) fn leg_above(&self, next: &Successor, before: usize) -> u128
         requires grid { IsGrid self.now }
         requires next { IsSuccessor self.now next.now }
         requires before { before < width self.now }

@@ -3,10 +3,11 @@ ghost use Rattle.std.specs.Prelude.{◌≡◌, ◌+◌, ◌<◌, All, IfOk, IsTr
 ghost use Rattle.route_pricing.specs.Partial.{AreFilled, IsGrid};
 ghost use Rattle.route_pricing.specs.Pricing.{IsGridRoom, IsServicePrice};
 
+use crate::route_pricing_surcharge_tests::are_surcharges;
 use carp_base::{Allowed, Instance, RawEdge};
 use deadhead_paths::{Distances, cost_prices, distances};
 use road_network::Network;
-use route_pricing::{Grid, LIFT, NO_LABELS, UNREACHED};
+use route_pricing::{Grid, LIFT, Rooms, UNREACHED};
 use samples::street;
 use std::alloc::Global;
 use std::process::Abort;
@@ -54,11 +55,9 @@ fn cells_of(alloc: Global, inst: &Instance, grid: &Grid) -> Result<Vec<u128>, Fa
     ensures { IfOk result (λ cells. AreFilled grid.now cells.items (grid.now.inst.capacity + 1) 0) }
 {
     let size = (inst.capacity() as usize + 1) * grid.width();
-    let places = inst.vertices() as usize + 1;
     let mut cells = vec![in alloc; 0u128; size]?;
-    let mut layer = vec![in alloc; NO_LABELS; places]?;
-    let mut marks = vec![in alloc; false; places]?;
-    grid.fill_by_labels(&mut cells, &mut layer, &mut marks);
+    let mut rooms = Rooms::new(alloc, inst)?;
+    grid.fill_by_labels(&mut cells, &mut rooms);
     Ok(cells)
 }
 
@@ -69,6 +68,7 @@ fn grid_of(
     inst: &Instance,
     services: &[i64],
     allowed: &Allowed,
+    surcharges: &[i64],
 ) -> Result<Grid, Fail>
     requires { allowed.now.size ≡ inst.now.required }
     ensures room { IfOk result (IsGridRoom inst.now) }
@@ -77,7 +77,12 @@ fn grid_of(
     assert!(rt; services.len() == inst.required() as usize && are_prices(services));
     let dist = least_ways(alloc, inst)?;
     let mut grid = Grid::new(alloc, inst)?;
-    grid.copy_from(inst, &dist, 1, services, allowed, &[]);
+    if surcharges.is_empty() {
+        grid.copy_from(inst, &dist, 1, services, allowed, &[]);
+        return Ok(grid);
+    }
+    assert!(rt; are_surcharges(inst.required() as usize, surcharges));
+    grid.copy_from(inst, &dist, 1, services, allowed, surcharges);
     Ok(grid)
 }
 
@@ -93,11 +98,12 @@ fn expect_cells(
     alloc: Global,
     inst: &Instance,
     allowed: &Allowed,
+    surcharges: &[i64],
     want: &[u128],
 ) -> Result<(), Fail>
     requires { allowed.now.size ≡ inst.now.required }
 {
-    let grid = grid_of(rt, alloc, inst, &[4, 1], allowed)?;
+    let grid = grid_of(rt, alloc, inst, &[4, 1], allowed, surcharges)?;
     let cells = cells_of(alloc, inst, &grid)?;
     assert!(rt; cells[..] == want[..]);
     Ok(())
@@ -127,7 +133,7 @@ fn each_cell_of_two_streets(rt: HostRuntime) -> Result<(), Fail> {
         two,
         two + 1,
     ];
-    expect_cells(&rt, alloc, &inst, &allowed, &want)
+    expect_cells(&rt, alloc, &inst, &allowed, &[], &want)
 }
 
 #[test]
@@ -152,5 +158,40 @@ fn no_cell_after_an_excluded_edge(rt: HostRuntime) -> Result<(), Fail> {
         NONE,
         NONE,
     ];
-    expect_cells(&rt, alloc, &inst, &allowed, &want)
+    expect_cells(&rt, alloc, &inst, &allowed, &[], &want)
+}
+
+// The rows with a surcharge of the two streets, where `two` is what two units of load and the surcharge add.
+fn expect_charged(rt: &impl Abort, alloc: Global, surcharge: i64, two: u128) -> Result<(), Fail> {
+    let inst = two_streets(rt, alloc);
+    let allowed = Allowed::all(alloc, &inst)?;
+    let one = LIFT;
+    assert!(rt; two <= 4 * LIFT);
+    let want = [
+        NONE,
+        NONE,
+        NONE,
+        NONE,
+        one,
+        one + 4,
+        one + 4,
+        one + 5,
+        two + 9,
+        two + 5,
+        two,
+        two + 1,
+    ];
+    let surcharges = [0, surcharge, surcharge, 0];
+    expect_cells(rt, alloc, &inst, &allowed, &surcharges, &want)
+}
+
+// With the greatest surcharge no leg fits in 64 bits, and with the least one each does.
+#[test]
+fn cells_with_surcharges_at_the_limits(rt: HostRuntime) -> Result<(), Fail> {
+    let alloc = rt.alloc();
+    let most: i64 = 1 << 61;
+    expect_charged(&rt, alloc, most, 2 * LIFT + (1 << 61))?;
+    expect_charged(&rt, alloc, 3, 2 * LIFT + 3)?;
+    expect_charged(&rt, alloc, -3, 2 * LIFT - 3)?;
+    expect_charged(&rt, alloc, -most, 2 * LIFT - (1 << 61))
 }

@@ -69,7 +69,7 @@ fn is_row_column(required: usize, table: &[i64], row: usize) -> bool
     true
 }
 
-fn are_surcharges(required: usize, table: &[i64]) -> bool
+pub(crate) fn are_surcharges(required: usize, table: &[i64]) -> bool
     requires { required ≤ 600 }
     ensures { IsTrue result → AreSurcharges required table.now }
 {

@@ -22,3 +22,6 @@ loop-shore-preserved c =
           next_shores c.least_prices_are_there.ensures.tasks (ground_of c.args.setting.now) c.requires.setting.valid c.loop-shore.priced.set c.in_ok-priced-2.priced.set is.priced.fitting next.rises
           next.priced.fitting.fine c.loop-shore.shore next.tight is.tight;
     }
+
+pub returns-clause-tight : goal.returns-clause-tight
+returns-clause-tight c = λ shore known needed. c.loop-shore.invariant.tight shore (omega (arith, known, c.loop-shore-test.false)) needed

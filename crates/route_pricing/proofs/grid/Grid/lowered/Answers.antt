@@ -1,4 +1,5 @@
-use Rattle.std.proofs.Common.{◌<◌, ◌+◌, ◌∙◌, get_or, sym, ap, arith, inl, inr}
+use Rattle.std.proofs.lemmas.Bool.{cases_lt}
+use Rattle.std.proofs.Common.{◌<◌, ◌+◌, ◌∙◌, get_or, sym, arith, inl, inr}
 use Rattle.route_pricing.specs.Partial.{no_value, column_task, least_raised}
 use Rattle.route_pricing.proofs.PartialTours.{cell_small, from_cell, up_to_more}
 use Rattle.route_pricing.proofs.Succeeding.{passed_over, excluded, cell_is, may_back}
@@ -36,5 +37,7 @@ returns-clause-least c =
     let cell = cell_is g r.grid x r.next c.args.before r.before c.args.cells.now r.filled in
     let allowed = sym (may_back g r.grid x r.next c.args.before r.before c.may_precede.result c.may_precede.ensures) ∙ c.if-not-may_precede.false in
     let one = from_cell g r.grid x.load u t value (value + c.leg_above.result + least) cell r.next.fits allowed there (omega (arith, c.leg_above.ensures.value)) in
-    up_to_more g r.grid x.load t c.args.before (c.args.limit + least) (value + c.leg_above.result + least) (c.lesser.result + least) r.limit one (omega (arith, c.lesser.ensures.first)) (omega (arith, c.lesser.ensures.second))
-    (elim c.lesser.ensures.either [ inl is ↦ inl (ap (λ k. k + least) is) | inr is ↦ inr (ap (λ k. k + least) is) ])
+    let other = value + c.leg_above.result in
+    let now = c.min.result + least in
+    up_to_more g r.grid x.load t c.args.before (c.args.limit + least) (other + least) now r.limit one (omega (arith, c.min.ensures)) (omega (arith, c.min.ensures))
+    (elim (cases_lt c.args.limit other) [ inl less ↦ inl (omega (arith, c.min.ensures, less)) | inr more ↦ inr (omega (arith, c.min.ensures, more)) ])
