@@ -1,9 +1,8 @@
 // A column through the inverse: by how much the activity at each basis place falls for each unit of it.
-ghost use Rattle.std.specs.Prelude.{◌≡◌, ◌*◌, ◌<◌, ◌≤◌, ◌^◌, IfSome, length};
-ghost use Rattle.std.specs.Int.RustNames.{unsigned_abs};
+ghost use Rattle.std.specs.Prelude.{◌≡◌, ◌*◌, ◌<◌, ◌≤◌, IfSome, length};
 
 use crate::columns::{Columns, Entry};
-use crate::fixed::{Amount, Fraction, ONE};
+use crate::fixed::Fraction;
 use crate::selection::{MOST_ROWS, Selection, Variable};
 
 // Coefficients that sum to at most this, without their signs, times entries of the inverse fit in 64 bits.
@@ -30,15 +29,10 @@ fn add_light(sums: &mut [i64], line: &[Fraction], coefficient: i64) {
     }
 }
 
-// Adds a multiple of a line of the inverse, within the range of amounts.
-fn add_heavy(sums: &mut [i64], line: &[Fraction], coefficient: i64)
-    requires { unsigned_abs coefficient ≤ 2 ^ 15 }
-{
-    let multiple = coefficient * ONE;
+// Adds a multiple of a line of the inverse. Sums that pass 64 bits are held at their border.
+fn add_heavy(sums: &mut [i64], line: &[Fraction], coefficient: i64) {
     for (sum, entry) in sums.iter_mut().zip(line) {
-        *sum = Amount::of(*sum)
-            .plus_product(multiple, entry.value())
-            .value();
+        *sum = sum.saturating_add(coefficient.saturating_mul(entry.value()));
     }
 }
 

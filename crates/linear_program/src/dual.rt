@@ -8,11 +8,15 @@ use crate::costs::reduced_cost;
 use crate::direction::write_direction;
 use crate::dual_entering::{dual_entering, entries_in_use};
 use crate::dual_leaving::{Leaving, dual_leaving};
-use crate::fixed::LEAST_PIVOT;
+use crate::fixed::{Amount, LEAST_PIVOT};
 use crate::pivoting::Exchange;
+use crate::program::Caps;
 use crate::rebuilding::{is_due, rebuild};
 use crate::selection::{Selection, Variable};
 use crate::workspace::Workspace;
+
+// Two numbers agree if they differ by less than one part in 2^8.
+const FEW_BITS: u32 = 8;
 
 // How a step went.
 #[derive(Clone, Copy)]
@@ -25,6 +29,22 @@ enum Outcome {
     Taken,
 }
 
+// A reduced cost as the multipliers take it. With a slack, one below 0 counts as 0: if not, the others would fall
+// further and further below 0.
+fn shifted(reduced: Amount, slack: i64) -> Amount {
+    if slack > 0 && reduced.value() < 0 {
+        Amount::ZERO
+    } else {
+        reduced
+    }
+}
+
+// Whether the entry of a pivot is the same by its line and by its direction, except for a little. Without a slack
+// nothing is asked.
+fn agree(size: i64, entry: i64, slack: i64) -> bool {
+    slack == 0 || size.abs_diff(entry) <= entry.unsigned_abs() >> FEW_BITS
+}
+
 // The variable that enters for a place that leaves, if its entry there is great enough. Its direction is written.
 fn partner(
     store: &Columns,
@@ -32,11 +52,13 @@ fn partner(
     corner: &Corner,
     space: &mut Workspace,
     leaving: &Leaving,
+    slack: i64,
 ) -> Option<Variable>
     requires corner { IsCorner (length selection.now.rows.items) corner.now }
     requires leaving { leaving.now.place < length selection.now.rows.items }
 {
-    let variable = dual_entering(store, selection, corner, leaving, &mut space.line)?;
+    let entrant = dual_entering(store, selection, corner, leaving, slack, &mut space.line)?;
+    let variable = entrant.variable;
     write_direction(
         store,
         selection,
@@ -46,7 +68,7 @@ fn partner(
         &mut space.direction,
     );
     let size = space.direction[leaving.place].value().abs();
-    if size >= LEAST_PIVOT {
+    if size >= LEAST_PIVOT && agree(size, entrant.entry, slack) {
         Some(variable)
     } else {
         None
@@ -60,6 +82,7 @@ fn advance(
     corner: &mut Corner,
     space: &mut Workspace,
     leaving: &Leaving,
+    slack: i64,
     entries: usize,
 ) -> Outcome
     requires corner { IsCorner (length selection.now.rows.items) corner.old }
@@ -67,12 +90,15 @@ fn advance(
     ensures { IsCorner (length selection.now.rows.items) corner.new }
 {
     corner.work = more_work(corner.work, entries);
-    match partner(store, selection, corner, space, leaving) {
+    match partner(store, selection, corner, space, leaving, slack) {
         Some(variable) => {
             let exchange = Exchange {
                 place: leaving.place,
                 variable,
-                reduced: reduced_cost(store, selection, &corner.multipliers, variable),
+                reduced: shifted(
+                    reduced_cost(store, selection, &corner.multipliers, variable),
+                    slack,
+                ),
             };
             corner.pivot(
                 &selection.rows,
@@ -96,6 +122,7 @@ fn step(
     selection: &Selection,
     corner: &mut Corner,
     space: &mut Workspace,
+    slack: i64,
     entries: usize,
 ) -> Outcome
     requires { IsCorner (length selection.now.rows.items) corner.old }
@@ -105,25 +132,29 @@ fn step(
         rebuild(store, selection, corner, space);
     }
     match dual_leaving(selection, corner) {
-        Some(leaving) => advance(store, selection, corner, space, &leaving, entries),
+        Some(leaving) => advance(store, selection, corner, space, &leaving, slack, entries),
         None => Outcome::Ended,
     }
 }
 
-/// At most so many steps of the dual method. It answers whether all activities fit.
+/// Steps of the dual method, within caps. It answers whether all activities fit.
 pub(crate) fn run_dual(
     store: &Columns,
     selection: &Selection,
     corner: &mut Corner,
     space: &mut Workspace,
-    steps: u32,
+    slack: i64,
+    caps: &Caps,
 ) -> bool
     requires { IsCorner (length selection.now.rows.items) corner.old }
     ensures { IsCorner (length selection.now.rows.items) corner.new }
 {
     let entries = entries_in_use(store, selection);
-    for _ in 0..steps {
-        match step(store, selection, corner, space, entries) {
+    for _ in 0..caps.dual {
+        if corner.work > caps.work {
+            return false;
+        }
+        match step(store, selection, corner, space, slack, entries) {
             Outcome::Taken => {}
             Outcome::Ended => return true,
             Outcome::Stuck => return false,

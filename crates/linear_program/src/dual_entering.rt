@@ -18,17 +18,49 @@ struct Ratio {
     entry: i64,
 }
 
-// The lower one of two ratios, and of equal ones that of the greater entry.
-fn lower(best: Option<Ratio>, next: Ratio) -> Ratio {
-    let Some(best) = best else {
-        return next;
-    };
-    let left = product(next.reduced, best.entry);
-    let right = product(best.reduced, next.entry);
-    if left < right || left == right && next.entry > best.entry {
-        next
-    } else {
-        best
+// The ratio that is taken so far. It is no higher than the bound, which is the least ratio with a slack added to each
+// reduced cost: among ratios that differ by no more than that, a great entry is better (Harris 1973).
+#[derive(Clone, Copy)]
+struct Choice {
+    best: Option<Ratio>,
+    // The bound, as a number and a divisor above 0.
+    number: i64,
+    divisor: i64,
+    slack: i64,
+}
+
+impl Choice {
+    fn new(slack: i64) -> Choice {
+        Choice {
+            best: None,
+            number: 0,
+            divisor: 1,
+            slack,
+        }
+    }
+
+    // Whether a ratio is no higher than the bound.
+    fn takes(&self, ratio: &Ratio) -> bool {
+        product(ratio.reduced, self.divisor) <= product(self.number, ratio.entry)
+    }
+
+    // Takes another ratio into account.
+    fn look(&mut self, next: Ratio) {
+        let number = next.reduced.saturating_add(self.slack);
+        let Some(best) = self.best else {
+            self.best = Some(next);
+            self.number = number;
+            self.divisor = next.entry;
+            return;
+        };
+        if product(number, self.divisor) < product(self.number, next.entry) {
+            self.number = number;
+            self.divisor = next.entry;
+        }
+        let is_better = next.entry > best.entry || !self.takes(&best);
+        if is_better && self.takes(&next) {
+            self.best = Some(next);
+        }
     }
 }
 
@@ -45,45 +77,42 @@ fn write_line(rows: &[RowId], inverse: &[Fraction], leaving: &Leaving, line: &mu
     }
 }
 
-// The lower one of a ratio and that of a unit, if its entry is great enough and it is not the one that leaves.
-fn with_unit(
+// Looks at a unit, if its entry is great enough.
+fn look_at_unit(
     store: &Columns,
     selection: &Selection,
     multipliers: &[Amount],
-    best: Option<Ratio>,
     variable: Variable,
     entry: i64,
-) -> Option<Ratio>
+    choice: &mut Choice,
+)
     requires { length multipliers.now ≡ 4000 }
 {
     if entry < LEAST_PIVOT {
-        return best;
+        return;
     }
     let reduced = reduced_cost(store, selection, multipliers, variable)
         .value()
         .max(0);
-    Some(lower(
-        best,
-        Ratio {
-            variable,
-            reduced,
-            entry,
-        },
-    ))
+    choice.look(Ratio {
+        variable,
+        reduced,
+        entry,
+    });
 }
 
-// The least ratio of the units of all rows.
-fn least_of_units(
+// Looks at the units of all rows except the one that leaves.
+fn look_at_units(
     store: &Columns,
     selection: &Selection,
     multipliers: &[Amount],
     line: &[Amount],
     leaving: Variable,
-) -> Option<Ratio>
+    choice: &mut Choice,
+)
     requires multipliers { length multipliers.now ≡ 4000 }
     requires line { length line.now ≡ 4000 }
 {
-    let mut best = None;
     for row in &selection.rows {
         let entry = line[row.number()].value();
         let unit = if entry < 0 {
@@ -92,34 +121,31 @@ fn least_of_units(
             Variable::Penalty(*row)
         };
         if unit != leaving {
-            best = with_unit(store, selection, multipliers, best, unit, entry.abs());
+            look_at_unit(store, selection, multipliers, unit, entry.abs(), choice);
         }
     }
-    best
 }
 
-// The least ratio of a ratio and those of the columns in use that may enter.
-fn least_of_columns(
+// Looks at the columns in use that may enter.
+fn look_at_columns(
     store: &Columns,
     selection: &Selection,
     corner: &Corner,
     line: &[Amount],
-    start: Option<Ratio>,
-) -> Option<Ratio>
+    choice: &mut Choice,
+)
     requires corner { IsCorner (length selection.now.rows.items) corner.now }
     requires line { length line.now ≡ 4000 }
 {
-    let mut best = start;
     for column in &selection.columns {
         let number = column.number();
         if !corner.basic[number] && !selection.forbidden[number] {
             let entry = Amount::clamped(weighted_sum(line, store.entries(*column))).value();
             if entry >= LEAST_PIVOT {
-                best = Some(lower(best, ratio_of(store, selection, corner, *column, entry)));
+                choice.look(ratio_of(store, selection, corner, *column, entry));
             }
         }
     }
-    best
 }
 
 // The ratio of a column with an entry that is great enough.
@@ -140,23 +166,44 @@ fn ratio_of(
     }
 }
 
-/// The variable that enters if a place leaves, by the least ratio, or `None` if no entry is great enough.
+/// A variable that enters in the dual method.
+#[derive(Clone, Copy)]
+pub(crate) struct Entrant {
+    pub variable: Variable,
+    /// Its entry at the place that leaves, by the line, without its sign.
+    pub entry: i64,
+}
+
+/// The variable that enters if a place leaves, by the least ratio except for a slack of the reduced costs, or `None` if
+/// no entry is great enough.
 pub(crate) fn dual_entering(
     store: &Columns,
     selection: &Selection,
     corner: &Corner,
     leaving: &Leaving,
+    slack: i64,
     line: &mut [Amount],
-) -> Option<Variable>
+) -> Option<Entrant>
     requires corner { IsCorner (length selection.now.rows.items) corner.now }
     requires leaving { leaving.now.place < length selection.now.rows.items }
     requires line { length line.old ≡ 4000 }
 {
     write_line(&selection.rows, &corner.inverse, leaving, line);
     let basic = corner.basis[leaving.place];
-    let unit = least_of_units(store, selection, &corner.multipliers, line, basic);
-    let best = least_of_columns(store, selection, corner, line, unit);
-    best.map(|ratio| ratio.variable)
+    let mut choice = Choice::new(slack);
+    look_at_units(
+        store,
+        selection,
+        &corner.multipliers,
+        line,
+        basic,
+        &mut choice,
+    );
+    look_at_columns(store, selection, corner, line, &mut choice);
+    choice.best.map(|ratio| Entrant {
+        variable: ratio.variable,
+        entry: ratio.entry,
+    })
 }
 
 /// How many entries the columns in use have.

@@ -1,5 +1,5 @@
 // Numbers in fixed point, with 40 fraction bits. What leaves the range is held at its border.
-ghost use Rattle.std.specs.Prelude.{◌≤◌, ◌^◌, ◌≤ℤ◌, IsTrue, pos, neg_ℤ};
+ghost use Rattle.std.specs.Prelude.{◌≡◌, ◌≤◌, ◌^◌, ◌≤ℤ◌, IsTrue, pos, neg_ℤ};
 ghost use Rattle.std.specs.Int.RustNames.{unsigned_abs};
 
 /// 1 in fixed point.
@@ -145,7 +145,8 @@ impl Amount {
     }
 
     pub(crate) fn value(self) -> i64
-        ensures { unsigned_abs result ≤ 2 ^ 61 }
+        ensures small { unsigned_abs result ≤ 2 ^ 61 }
+        ensures same { result ≡ self.value }
     {
         self.value
     }

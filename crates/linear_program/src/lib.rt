@@ -44,5 +44,5 @@ mod workspace;
 
 pub use columns::{Columns, Entry, RowBounds};
 pub use ids::{ColumnId, RowId};
-pub use program::{Basic, Caps, Program};
+pub use program::{Basic, Caps, Program, Range};
 pub use selection::Variable;

@@ -9,6 +9,7 @@ use crate::entering::entering;
 use crate::fixed::Amount;
 use crate::leaving::leaving;
 use crate::pivoting::Exchange;
+use crate::program::Caps;
 use crate::rebuilding::{is_due, renew};
 use crate::refreshing::{price, refresh_multipliers, write_costs};
 use crate::selection::{Selection, Variable};
@@ -182,15 +183,15 @@ fn step(
     }
 }
 
-/// At most so many steps of the primal method. It answers whether no reduced cost is below 0 by more than the
-/// tolerance, as far as the inverse can tell.
+/// Steps of the primal method, within caps. It answers whether no reduced cost is below 0 by more than the tolerance,
+/// as far as the inverse can tell.
 pub(crate) fn run_primal(
     store: &Columns,
     selection: &Selection,
     corner: &mut Corner,
     space: &mut Workspace,
     tolerance: Amount,
-    steps: u32,
+    caps: &Caps,
 ) -> bool
     requires { IsCorner (length selection.now.rows.items) corner.old }
     ensures { IsCorner (length selection.now.rows.items) corner.new }
@@ -201,7 +202,10 @@ pub(crate) fn run_primal(
         fresh: false,
         stale: true,
     };
-    for _ in 0..steps {
+    for _ in 0..caps.primal {
+        if corner.work > caps.work {
+            return false;
+        }
         if step(store, selection, corner, space, &mut pace, tolerance) {
             return true;
         }

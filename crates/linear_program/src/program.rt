@@ -12,7 +12,7 @@ use crate::ids::{ColumnId, RowId};
 use crate::rows::{drop_row, use_row};
 use crate::selection::{Bounds, MOST_ROWS, Selection, Variable};
 use crate::solving::{solve, start_from};
-use crate::trimming;
+use crate::{solving, trimming};
 use carp_base::Memory;
 use std::alloc::Global;
 use std::marker::Model;
@@ -23,23 +23,42 @@ const TOLERANCE: i64 = 16;
 // The greatest tolerance.
 const MOST_TOLERANCE: u64 = 1 << 60;
 
-/// At most how many steps each method takes.
+/// At most how many steps each method takes, and how many entries a program touches.
 #[derive(Clone, Copy)]
 pub struct Caps {
     /// Steps of the dual method.
     pub dual: u32,
     /// Steps of the primal method.
     pub primal: u32,
+    /// Entries that the program touches, counted as in `work`. No step begins beyond this, so that the last one may
+    /// pass it.
+    pub work: u64,
 }
 
 impl Caps {
     /// Caps that grow with the number of rows in use: 8 steps a row and 100 of the dual method, and 10 a row and 500 of
-    /// the primal one.
-    pub fn by_rows(rows: usize) -> Caps {
+    /// the primal one. Entries have no cap.
+    pub fn by_rows(rows: usize) -> Caps
+        ensures { result.work ≡ u64.MAX }
+    {
         let rows = rows.min(MOST_ROWS) as u32;
         Caps {
             dual: 8 * rows + 100,
             primal: 10 * rows + 500,
+            work: u64::MAX,
+        }
+    }
+
+    /// The same caps of steps, with this cap of entries.
+    pub fn within(self, work: u64) -> Caps
+        ensures dual { result.dual ≡ self.dual }
+        ensures primal { result.primal ≡ self.primal }
+        ensures work { result.work ≡ work }
+    {
+        Caps {
+            dual: self.dual,
+            primal: self.primal,
+            work,
         }
     }
 }
@@ -51,6 +70,15 @@ pub struct Basic {
     pub variable: Variable,
     /// Its activity, in parts of 2^40.
     pub activity: i64,
+}
+
+/// The range of a multiplier, in units of cost.
+#[derive(Clone, Copy)]
+pub struct Range {
+    /// The least multiplier.
+    pub least: i64,
+    /// The greatest multiplier.
+    pub most: i64,
 }
 
 /// A linear program over some rows and columns of a store. Contracts see what is in use.
@@ -66,6 +94,7 @@ pub struct Program {
     selection: Selection,
     corner: Corner,
     tolerance: Amount,
+    slack: i64,
 }
 
 impl Model for Program {
@@ -90,6 +119,7 @@ impl Program {
             selection: Selection::new(alloc)?,
             corner: Corner::new(alloc)?,
             tolerance: Amount::of(TOLERANCE),
+            slack: 0,
         })
     }
 
@@ -102,6 +132,7 @@ impl Program {
             selection: self.selection.copy(alloc)?,
             corner,
             tolerance: self.tolerance,
+            slack: self.slack,
         })
     }
 
@@ -185,6 +216,20 @@ impl Program {
         };
     }
 
+    /// The range of the multiplier of a row: that of the store if the row came in use, unless it was set since. It is
+    /// 0 at both ends for a row that never did.
+    pub fn range(&self, row: RowId) -> Range
+        ensures least { (d : Bounds) → result.least ≡ (slice_index_or self.now.bounds row.number d).least.value }
+        ensures most { (d : Bounds) → result.most ≡ (slice_index_or self.now.bounds row.number d).most.value }
+        ensures small { (unsigned_abs result.least ≤ 2 ^ 61) × (unsigned_abs result.most ≤ 2 ^ 61) }
+    {
+        let bounds = &self.selection.bounds[row.number()];
+        Range {
+            least: bounds.least.value(),
+            most: bounds.most.value(),
+        }
+    }
+
     /// Forbids a column here. It does not enter the basis any more, and the basis gives it up.
     pub fn forbid(&mut self, column: ColumnId)
         ensures rows { self.new.rows ≡ self.old.rows }
@@ -201,6 +246,14 @@ impl Program {
         ensures { self.new ≡ self.old }
     {
         self.tolerance = Amount::of(tolerance.min(MOST_TOLERANCE) as i64);
+    }
+
+    /// Sets by how much a reduced cost may fall below 0 in the dual method for the sake of a greater pivot, in units of
+    /// cost, at most 2^60. It is 0 at first, and then pivots are not looked at twice.
+    pub fn set_slack(&mut self, slack: u64)
+        ensures { self.new ≡ self.old }
+    {
+        self.slack = slack.min(MOST_TOLERANCE) as i64;
     }
 
     /// Goes from basis to basis: by the dual method if rows are new, which is taken back if it does not end before its
@@ -222,9 +275,33 @@ impl Program {
             &mut self.selection,
             &mut self.corner,
             self.tolerance,
+            self.slack,
             after_new_rows,
             caps,
         )
+    }
+
+    /// Takes at most so many steps of the dual method, as after new rows, and answers the value that the multipliers
+    /// come to then, as `value` does. Without a slack, and if the program was at its least cost before rows came and
+    /// columns were forbidden, that is a lower estimate of the least cost with them. It does not go on to the primal
+    /// method, so the activities may not fit. A step takes time as in `solve`.
+    pub fn estimate(&mut self, alloc: Global, store: &Columns, steps: u32) -> Result<i64, Memory>
+        ensures same { self.new ≡ self.old }
+        ensures small { IfOk result (λ value. unsigned_abs value ≤ 2 ^ 61) }
+    {
+        solving::estimate(
+            alloc,
+            store,
+            &mut self.selection,
+            &mut self.corner,
+            self.slack,
+            &Caps {
+                dual: steps,
+                primal: 0,
+                work: u64::MAX,
+            },
+        )?;
+        Ok(self.value(store))
     }
 
     /// Begins anew from a basis, by place, that another program with the same rows in use had. A column that does not

@@ -86,7 +86,8 @@ fn make_fit(
     selection: &mut Selection,
     corner: &mut Corner,
     space: &mut Workspace,
-    steps: u32,
+    slack: i64,
+    caps: &Caps,
 ) -> Result<(), Memory>
     requires { IsCorner (length selection.old.rows.items) corner.old }
     ensures corner { IsCorner (length selection.new.rows.items) corner.new }
@@ -95,7 +96,7 @@ fn make_fit(
     let kept = corner.copy(alloc, selection.rows.len())?;
     selection.charged = false;
     refresh_multipliers(store, selection, corner, &mut space.costs);
-    let fits = run_dual(store, selection, corner, space, steps);
+    let fits = run_dual(store, selection, corner, space, slack, caps);
     selection.charged = true;
     if fits {
         refresh_multipliers(store, selection, corner, &mut space.costs);
@@ -106,6 +107,27 @@ fn make_fit(
     Ok(())
 }
 
+/// Takes steps of the dual method within caps, from multipliers that no charge changes.
+pub(crate) fn estimate(
+    alloc: Global,
+    store: &Columns,
+    selection: &mut Selection,
+    corner: &mut Corner,
+    slack: i64,
+    caps: &Caps,
+) -> Result<(), Memory>
+    requires { IsCorner (length selection.old.rows.items) corner.old }
+    ensures corner { IsCorner (length selection.new.rows.items) corner.new }
+    ensures selection { in_use selection.new ≡ in_use selection.old }
+{
+    let mut space = Workspace::new(alloc)?;
+    selection.charged = false;
+    refresh_multipliers(store, selection, corner, &mut space.costs);
+    run_dual(store, selection, corner, &mut space, slack, caps);
+    selection.charged = true;
+    Ok(())
+}
+
 /// Solves the program. It answers whether the primal method ended before its cap.
 pub(crate) fn solve(
     alloc: Global,
@@ -113,6 +135,7 @@ pub(crate) fn solve(
     selection: &mut Selection,
     corner: &mut Corner,
     tolerance: Amount,
+    slack: i64,
     after_new_rows: bool,
     caps: &Caps,
 ) -> Result<bool, Memory>
@@ -122,11 +145,11 @@ pub(crate) fn solve(
 {
     let mut space = Workspace::new(alloc)?;
     if after_new_rows {
-        make_fit(alloc, store, selection, corner, &mut space, caps.dual)?;
+        make_fit(alloc, store, selection, corner, &mut space, slack, caps)?;
     } else {
         relax(store, selection, corner, &mut space);
     }
-    Ok(run_primal(store, selection, corner, &mut space, tolerance, caps.primal))
+    Ok(run_primal(store, selection, corner, &mut space, tolerance, caps))
 }
 
 // Writes variables over others.

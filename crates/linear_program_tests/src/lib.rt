@@ -4,6 +4,8 @@
 #![tactic(auto)]
 
 #[cfg(test)]
+mod estimating_tests;
+#[cfg(test)]
 mod making;
 #[cfg(test)]
 mod refusal_tests;

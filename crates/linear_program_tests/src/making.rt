@@ -15,6 +15,7 @@ pub const FAR: i64 = 100_000;
 pub const CAPS: Caps = Caps {
     dual: 1000,
     primal: 1000,
+    work: u64::MAX,
 };
 
 /// A row on which no column that stands has a coefficient.
