@@ -6,7 +6,7 @@ use Rattle.std.proofs.lemmas.Bool.{cases_eq, ne_eqb}
 use Rattle.std.proofs.lemmas.List.{get_or_append_left}
 use Rattle.std.proofs.lemmas.List.Elements.{All-head, All-tail, All-weaker, recursion_from_All}
 use Rattle.carp_base.specs.declared.edge.Edge.{Edge}
-use Rattle.carp_base.specs.Problem.{Problem, edge_at}
+use Rattle.carp_base.specs.Problem.{Problem, IsValid, edge_at}
 use Rattle.plan_model.specs.Plans.{crosses}
 use Rattle.cut_pool.specs.Pools.{IsShoreNumber, shore_at}
 use Rattle.cut_pool.specs.Shores.{Belongs, is_in, need, required_crossings}
@@ -150,14 +150,14 @@ no_lower_now law p s number branch after set grown shores raised =
     subst (λ (z : ℤ). (pos set.unit *ℤ z) ≤ℤ (pos start.unit *ℤ value_of (rules_of p after branch) set)) (sym same) raised.no_lower
 
 -- so it may stand there
-pub may_stand : GrowthKeepsSets → (p : Problem) (s : State) (number : ℕ) (branch : List Decision) (after : List (List ℕ)) (set : Prices) → IsGrown s.pool after → 1 ≤ set.unit →
+pub may_stand : GrowthKeepsSets → (p : Problem) → IsValid p → (s : State) (number : ℕ) (branch : List Decision) (after : List (List ℕ)) (set : Prices) → IsGrown s.pool after → 1 ≤ set.unit →
     All (λ w. IsShoreOf p s.pool w.shore) (set_in s.sets number).weights → HasGroupsInRange (set_in s.sets number) → IsRaisedFrom p s.pool branch s.sets number after set →
     MayStand p (with_pool s after) branch number set
-may_stand law p s number branch after set grown some shores groups raised = record {
+may_stand law p valid s number branch after set grown some shores groups raised = record {
   some_unit = some;
   from_unit = raised.from_unit;
   fits = raised.tight.fits;
   shores = raised.shores;
-  groups = kept_in_range (set_in s.sets number) set raised.groups groups;
+  groups = kept_in_range p valid (set_in s.sets number) set raised.groups groups;
   no_lower = no_lower_now law p s number branch after set grown shores raised;
 }

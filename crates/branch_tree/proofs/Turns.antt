@@ -194,7 +194,7 @@ module _ (known : Known) (p : Problem) (before middle : Search) (place : ℕ) (b
   module _ (set : Prices) (raised : IsRaisedFrom p before.pool branch before.sets.items number middle.pool set) (few : length before.sets.items < 256) where
     plain_may : 1 ≤ set.unit → MayStand p middle_state branch number set
     plain_may some =
-        may_stand known.growth p (state_of before) number branch middle.pool set grown some
+        may_stand known.growth p search.held.valid (state_of before) number branch middle.pool set grown some
         (named_shores known p (state_of before) search.held place branch names.at number names)
         (named_groups known p (state_of before) search.held place branch names.at number names) raised
 

@@ -15,7 +15,7 @@ use Rattle.branch_rules.specs.declared.node.Node.{Node}
 use Rattle.branch_rules.specs.declared.node.Node.TheVariants as nodes
 use Rattle.route_pricing.specs.Tables.{IsRoom}
 use Rattle.tight_prices.specs.Tight.{IsTight}
-use Rattle.dual_master.specs.Raising.{IsNoLower, KeepsGroups}
+use Rattle.dual_master.specs.Raising.{HasGroupsFrom, IsNoLower}
 use Rattle.grown_trees.specs.Growth.{IsLeastOpen, IsSpelledNode, turns_in}
 use Rattle.grown_trees.specs.Places.{IsFineNode, branch_to}
 use Rattle.grown_trees.specs.declared.growing.GrowingNode.{GrowingNode}
@@ -73,12 +73,12 @@ pub record MayBegin (p : Problem) (pool : List (List ℕ)) (branch : List Decisi
   pub groups : HasGroupsInRange (set_in sets number)
 
 -- a set that is tight under a branch, from the set of a number, after shores were added to the pool; its groups are those of that set, or
--- there are none
+-- groups of the instance
 pub record IsRaisedFrom (p : Problem) (pool : List (List ℕ)) (branch : List Decision) (sets : List Prices) (number : ℕ) (after : List (List ℕ)) (set : Prices) : Type 0 where
   pub from_unit : 1 ≤ (set_in sets number).unit
   pub tight : IsTight p after (length pool) branch set
   pub shores : All (λ w. IsShoreOf p after w.shore) set.weights
-  pub groups : KeepsGroups (set_in sets number) set
+  pub groups : HasGroupsFrom p (set_in sets number) set
   pub no_lower : IsNoLower p branch pool (set_in sets number) after set
 
 -- what a set shows under the decisions of both children of a node

@@ -6,6 +6,7 @@ ghost use Rattle.branch_tree.specs.Beginnings.{AreTools, IsFloor, IsRoot};
 ghost use Rattle.branch_tree.specs.Searches.{IsBegun, IsSearch, state_of};
 
 use crate::changing::price_leaf;
+use crate::raising::FIRST_ROUNDS;
 use crate::search::Search;
 use crate::values::shown_under;
 use branch_rules::{Branch, PriceSet, prices_bound};
@@ -73,6 +74,7 @@ impl Search {
             done,
             turns,
             least,
+            rounds: FIRST_ROUNDS,
         })
     }
 }

@@ -22,9 +22,10 @@ use road_network::Network;
 use route_pricing::Table;
 use std::alloc::Global;
 
-// The rounds of search for shores and the steps of the ascent: for a tree of one node, and for a larger one. Most of
-// the gap lies in the linear program of the root, so most of the effort goes there.
-const ROOT_ROUNDS: u32 = 400;
+// The rounds of search for shores and the steps of the ascent: for the first leaf that a search raises, and for each
+// other one. Most of the gap lies in the linear program of the root, so most of the effort goes there. In a tree that
+// is gone on from, the leaf that shows least may have been raised with few rounds, so it gets as many.
+pub(crate) const FIRST_ROUNDS: u32 = 400;
 
 const CHILD_ROUNDS: u32 = 8;
 
@@ -47,7 +48,8 @@ impl Search {
         ensures raised { IfOk result (IsRaisedFrom inst.now self.old.pool branch.now self.old.sets.items number self.new.pool) }
     {
         known_laws();
-        let rounds = rounds_for(self.tree.len());
+        let rounds = self.rounds;
+        self.rounds = CHILD_ROUNDS;
         raise_from(
             self.alloc,
             inst,
@@ -59,15 +61,6 @@ impl Search {
             number,
             rounds,
         )
-    }
-}
-
-// The rounds for a tree of so many nodes.
-fn rounds_for(nodes: usize) -> u32 {
-    if nodes == 1 {
-        ROOT_ROUNDS
-    } else {
-        CHILD_ROUNDS
     }
 }
 

@@ -6,6 +6,7 @@ ghost use Rattle.branch_tree.specs.Resumes.{IsResumed, MayResume, ResumedTreesHa
 ghost use Rattle.branch_tree.specs.Searches.{IsSearch, state_of};
 
 use crate::beginning::{allowed_cost, tools_of};
+use crate::raising::FIRST_ROUNDS;
 use crate::search::Search;
 use branch_rules::PriceSet;
 use carp_base::{Instance, Memory};
@@ -66,6 +67,7 @@ impl Search {
             done,
             turns: budget,
             least,
+            rounds: FIRST_ROUNDS,
         })
     }
 }

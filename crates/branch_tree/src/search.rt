@@ -28,6 +28,8 @@ pub struct Search {
     pub(crate) done: u64,
     pub(crate) turns: u64,
     pub(crate) least: u64,
+    // The rounds for the next leaf that is raised.
+    pub(crate) rounds: u32,
 }
 
 /// What a step did.

@@ -1,5 +1,5 @@
 // One turn of a search.
-ghost use Rattle.std.specs.Prelude.{◌≡◌, ◌<◌, OnErr, IfOk};
+ghost use Rattle.std.specs.Prelude.{◌≡◌, ℕ, ◌<◌, ◌≤◌, All, OnErr, IfOk};
 ghost use Rattle.task_tours.specs.Shorts.{IsShortPlan};
 ghost use Rattle.grown_trees.specs.Growth.{IsLeastOpen};
 ghost use Rattle.branch_tree.specs.Leaves.{IsAtLeaf, IsTurn, NamesSet};
@@ -25,6 +25,23 @@ impl Search {
         ensures { result ≡ self.now.turns }
     {
         self.turns
+    }
+
+    /// The cost of the best plan so far.
+    pub fn cost(&self) -> u64
+        ensures { result ≡ self.now.cost }
+    {
+        self.cost
+    }
+
+    /// The greatest bound, up to the cost of the best plan, that all nodes show. It takes time in proportion to the
+    /// number of nodes.
+    pub fn shown(&self) -> u64
+        ensures at_most { result ≤ self.now.cost }
+        ensures each { All (λ entry. result ≤ entry.shows) self.now.tree.nodes }
+        ensures greatest { (bound : ℕ) → bound ≤ self.now.cost → All (λ entry. bound ≤ entry.shows) self.now.tree.nodes → bound ≤ result }
+    {
+        self.tree.shown(self.cost)
     }
 
     /// Takes the first leaf that shows least, if it does not show the best plan's cost.

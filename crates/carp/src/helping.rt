@@ -1,20 +1,22 @@
 // The four helpers of the program.
 use augment_merge::Merger;
-use carp_cli::{Status, run};
+use carp_cli::{Status, run_watched};
 use carp_outside::{Shelf, Sink};
 use giant_split::Splitter;
 use local_moves::Mover;
 use path_scanning::Scanner;
 use plan_model::Proposer;
+use progress::Watch;
 use std::alloc::Global;
 
-/// Runs the command that the words name ([`carp_cli::run`]) with the aid of four helpers: path scanning, augment-merge,
+/// Runs the command that the words name ([`carp_cli::run_watched`]) with the aid of four helpers: path scanning, augment-merge,
 /// splitting of one order of all tasks, and ruin and recreate with small changes, of ids 1 to 4.
-pub(crate) fn run_with_helpers<H: Shelf, O: Sink>(
+pub(crate) fn run_with_helpers<H: Shelf, O: Sink, W: Watch>(
     alloc: Global,
     words: &[String],
     shelf: &mut H,
     out: &mut O,
+    watch: &mut W,
 ) -> Status {
     let (Ok(scanner), Ok(merger), Ok(splitter), Ok(mover)) = (
         Box::new(alloc, Scanner::new(1)),
@@ -31,5 +33,5 @@ pub(crate) fn run_with_helpers<H: Shelf, O: Sink>(
             return Status::Memory;
         }
     }
-    run(alloc, words, shelf, out, &mut helpers)
+    run_watched(alloc, words, shelf, out, &mut helpers, watch)
 }

@@ -10,8 +10,8 @@ mod helping;
 mod tests;
 
 use carp_base::Memory;
-use carp_cli::{DirShelf, Status, StdSink};
-use std::io::ErrorKind;
+use carp_cli::{DirShelf, Status, StdSink, TerminalWatch};
+use std::io::{ErrorKind, IsTerminal, Lock};
 use std::process::ExitCode;
 use std::rt::Env;
 use std::{env, io};
@@ -23,7 +23,10 @@ fn main(rt: HostRuntime) -> ExitCode {
     };
     let mut shelf = DirShelf::new(&rt, alloc);
     let mut out = StdSink::new(io::writer(&rt));
-    let status = helping::run_with_helpers(alloc, &words, &mut shelf, &mut out);
+    let error = rt.stderr().lock();
+    let is_terminal = error.is_terminal();
+    let mut watch = TerminalWatch::new(alloc, error, is_terminal);
+    let status = helping::run_with_helpers(alloc, &words, &mut shelf, &mut out, &mut watch);
     ExitCode::from(status.code())
 }
 

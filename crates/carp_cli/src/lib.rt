@@ -22,9 +22,11 @@ mod laws;
 mod refusals;
 mod running;
 mod std_sink;
+mod terminal;
 
 pub use command_jobs::Status;
 pub use dir_shelf::DirShelf;
 pub use laws::kept_is_accepted;
-pub use running::run;
+pub use running::{run, run_watched};
 pub use std_sink::StdSink;
+pub use terminal::TerminalWatch;

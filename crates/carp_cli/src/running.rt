@@ -19,6 +19,7 @@ use command_jobs::{Status, gather};
 use command_words::{Command, budgets_are_in_range, read_words};
 use command_works::{Delivery, make};
 use plan_model::Proposer;
+use progress::{Silent, Watch};
 use std::alloc::Global;
 
 /// Runs the command that the words name.
@@ -119,18 +120,66 @@ pub fn run<H: Shelf, O: Sink>(
     ensures asked { IsHelped (command_of (texts_of words.now)) result → All (λ helper. 1 ≤ asked helper) helpers.new.items }
     ensures fouls { IsHelped (command_of (texts_of words.now)) result → All (λ helper. (tally helper).fouls ≤ 1) helpers.new.items }
 {
-    match prepare(alloc, words, shelf, helpers) {
-        Ok(delivery) => deliver(shelf, out, &delivery),
-        Err(Memory) => Status::Memory,
+    run_watched(alloc, words, shelf, out, helpers, &mut Silent)
+}
+
+/// The same call, with somebody who is told how far it is. No clause speaks of the watch. It is told nothing any more
+/// before anything is kept or written.
+pub fn run_watched<H: Shelf, O: Sink, W: Watch>(
+    alloc: Global,
+    words: &[String],
+    shelf: &mut H,
+    out: &mut O,
+    helpers: &mut Vec<Box<dyn Proposer>>,
+    watch: &mut W,
+) -> Status
+    ensures leaves { let before : Outside = record {
+      contents = H.contents shelf.old;
+      failed_looks = H.failed_looks shelf.old;
+      failed_keeps = H.failed_keeps shelf.old;
+      given = H.given shelf.old;
+      written = O.written out.old;
+      failed_puts = O.faults out.old;
+      offered = map (λ helper. (tally helper).least) helpers.old.items;
+    } in
+        let now : Outside = record {
+          contents = H.contents shelf.new;
+          failed_looks = H.failed_looks shelf.new;
+          failed_keeps = H.failed_keeps shelf.new;
+          given = H.given shelf.new;
+          written = O.written out.new;
+          failed_puts = O.faults out.new;
+          offered = map (λ helper. (tally helper).least) helpers.new.items;
+        } in
+        Leaves H.tells O.tells (command_of (texts_of words.now)) before now result }
+
+    // The helpers stay in their order. Only a command that asks them changes them.
+    ensures helpers { map id helpers.new.items ≡ map id helpers.old.items }
+    ensures unasked { is_helped (command_of (texts_of words.now)) ≡ false → helpers.new.items ≡ helpers.old.items }
+    ensures seeds { IsHelped (command_of (texts_of words.now)) result
+        → EachIndex helpers.new.items (λ k. slice_index (map seed helpers.new.items) k ≡ (seed_by (command_of (texts_of words.now)) + k) % 2 ^ 64) }
+    ensures asked { IsHelped (command_of (texts_of words.now)) result → All (λ helper. 1 ≤ asked helper) helpers.new.items }
+    ensures fouls { IsHelped (command_of (texts_of words.now)) result → All (λ helper. (tally helper).fouls ≤ 1) helpers.new.items }
+{
+    match prepare(alloc, words, shelf, helpers, watch) {
+        Ok(delivery) => {
+            watch.ends();
+            deliver(shelf, out, &delivery)
+        }
+        Err(Memory) => {
+            watch.ends();
+            Status::Memory
+        }
     }
 }
 
 // What the words ask to be kept, written and answered.
-fn prepare<'a, H: Shelf, P: Proposer>(
+fn prepare<'a, H: Shelf, P: Proposer, W: Watch>(
     alloc: Global,
     words: &'a [String],
     shelf: &mut H,
     helpers: &mut Vec<P>,
+    watch: &mut W,
 ) -> Result<Delivery<'a>, Memory>
     ensures prepared { let finding : Finding = record {
       contents = H.contents shelf.old;
@@ -151,17 +200,18 @@ fn prepare<'a, H: Shelf, P: Proposer>(
     budgets_are_in_range();
     match read_words(alloc, words) {
         Ok(None) => refuse(alloc, Status::BadUsage),
-        Ok(Some(command)) => perform(alloc, command, shelf, helpers),
+        Ok(Some(command)) => perform(alloc, command, shelf, helpers, watch),
         Err(Memory) => Err(Memory),
     }
 }
 
 // What a command asks to be kept, written and answered: its files are read, and then it is done.
-fn perform<'a, H: Shelf, P: Proposer>(
+fn perform<'a, H: Shelf, P: Proposer, W: Watch>(
     alloc: Global,
     command: Command<'a>,
     shelf: &mut H,
     helpers: &mut Vec<P>,
+    watch: &mut W,
 ) -> Result<Delivery<'a>, Memory>
     requires { HasBudget (command_in command) }
     ensures prepared { let finding : Finding = record {
@@ -181,7 +231,7 @@ fn perform<'a, H: Shelf, P: Proposer>(
     ensures fouls { IfOk result (λ d. IsHelped (Some (command_in command.entry)) d.status → All (λ helper. (P.tally helper).fouls ≤ 1) helpers.new.items) }
 {
     match gather(alloc, command, shelf) {
-        Ok(job) => make(alloc, job, helpers),
+        Ok(job) => make(alloc, job, helpers, watch),
         Err(Fail::Memory) => Err(Memory),
         Err(Fail::Refused(status)) => refuse(alloc, status),
     }

@@ -48,7 +48,12 @@ const FORK: &str = "\
     carp-certificate 1~cost 204~bound 204~tours 1~tour 6 >3 +1 <1 +2 <2 <3~shores 0~sets 1~prices 1 2 102 102~weights 0~nodes 1~price 1~end~";
 
 // The text with one line changed; lines are counted from 1, and none has the number 0. `~` is a line feed.
-fn with_line(alloc: Global, text: &str, number: usize, line: &str) -> Result<String, Fail> {
+pub(crate) fn with_line(
+    alloc: Global,
+    text: &str,
+    number: usize,
+    line: &str,
+) -> Result<String, Fail> {
     let mut changed = String::new(alloc);
     for (place, old) in text.split('~').enumerate() {
         if place > 0 {
@@ -85,18 +90,36 @@ fn is_checked(
     text: &str,
 ) -> Result<bool, Fail> {
     for piece in [1, 7, 65_536] {
-        let (status, written) = told(alloc, "check", file, cert, piece)?;
-        if status.code().to_string(alloc)?.as_str() != code
-            || written.as_slice() != text.as_bytes()
-        {
+        if !is_told(alloc, file, cert, piece, code, text)? {
             return Ok(false);
         }
     }
     Ok(true)
 }
 
+// Whether a certificate gets this code and this text, in files that give at most so many bytes at a look.
+pub(crate) fn is_told(
+    alloc: Global,
+    file: &[u8],
+    cert: &[u8],
+    piece: usize,
+    code: &str,
+    text: &str,
+) -> Result<bool, Fail>
+    requires { 0 < piece }
+{
+    let (status, written) = told(alloc, "check", file, cert, piece)?;
+    let same_code = status.code().to_string(alloc)?.as_str() == code;
+    Ok(same_code && written.as_slice() == text.as_bytes())
+}
+
 // The files are an instance and a certificate. Each row: the line that is changed, what it is changed to, the code, and the text.
-fn expect_rows(rt: &impl Abort, alloc: Global, files: &str, rows: &str) -> Result<(), Fail> {
+pub(crate) fn expect_rows(
+    rt: &impl Abort,
+    alloc: Global,
+    files: &str,
+    rows: &str,
+) -> Result<(), Fail> {
     let (file, cert) = files.split_once('\n').unwrap_or(("", ""));
     let file = file.replace(alloc, "~", "\n")?;
     for row in rows.split('\n') {

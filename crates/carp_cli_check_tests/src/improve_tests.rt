@@ -7,12 +7,17 @@ use std::process::Abort;
 use std::test::Fail;
 
 // Each row: a name and an instance. `~` is a line feed. Three streets around, for one vehicle; two streets in a row, each a load for a vehicle; three
-// streets round a far corner, for vehicles that carry two of them; and five streets at the end of a long way, of which a vehicle takes two.
+// streets round a far corner, for vehicles that carry two of them; five streets at the end of a long way, of which a vehicle takes two; and
+// twenty streets side by side, of which a vehicle takes two.
 const INSTANCES: &str = "\
     triangle | VERTICES 3~ARISTAS_REQ 3~CAPACIDAD 3~LISTA_ARISTAS_REQ~(1,2) coste 5 demanda 1~(2,3) coste 7 demanda 1~(1,3) coste 4 demanda 1~DEPOSITO 1~\n\
     row | VERTICES 3~ARISTAS_REQ 2~CAPACIDAD 2~LISTA_ARISTAS_REQ~(1,2) coste 3 demanda 2~(2,3) coste 4 demanda 2~DEPOSITO 1~\n\
     ring | VERTICES 4~ARISTAS_REQ 3~ARISTAS_NOREQ 1~CAPACIDAD 5~LISTA_ARISTAS_REQ~(2,3) coste 1 demanda 2~(3,4) coste 1 demanda 2~(4,2) coste 1 demanda 2~LISTA_ARISTAS_NOREQ~(1,2) coste 10~DEPOSITO 1~\n\
-    star | VERTICES 7~ARISTAS_REQ 5~ARISTAS_NOREQ 1~CAPACIDAD 5~LISTA_ARISTAS_REQ~(2,3) coste 1 demanda 2~(2,4) coste 1 demanda 2~(2,5) coste 1 demanda 2~(2,6) coste 1 demanda 2~(2,7) coste 1 demanda 2~LISTA_ARISTAS_NOREQ~(1,2) coste 100~DEPOSITO 1~";
+    star | VERTICES 7~ARISTAS_REQ 5~ARISTAS_NOREQ 1~CAPACIDAD 5~LISTA_ARISTAS_REQ~(2,3) coste 1 demanda 2~(2,4) coste 1 demanda 2~(2,5) coste 1 demanda 2~(2,6) coste 1 demanda 2~(2,7) coste 1 demanda 2~LISTA_ARISTAS_NOREQ~(1,2) coste 100~DEPOSITO 1~\n\
+    beside | VERTICES 2~ARISTAS_REQ 20~CAPACIDAD 2~LISTA_ARISTAS_REQ~(1,2) coste 1 demanda 1~(1,2) coste 1 demanda 1~(1,2) coste 1 demanda 1~(1,2) coste 1 demanda 1~(1,2) coste 1 demanda 1~\
+        (1,2) coste 1 demanda 1~(1,2) coste 1 demanda 1~(1,2) coste 1 demanda 1~(1,2) coste 1 demanda 1~(1,2) coste 1 demanda 1~\
+        (1,2) coste 1 demanda 1~(1,2) coste 1 demanda 1~(1,2) coste 1 demanda 1~(1,2) coste 1 demanda 1~(1,2) coste 1 demanda 1~\
+        (1,2) coste 1 demanda 1~(1,2) coste 1 demanda 1~(1,2) coste 1 demanda 1~(1,2) coste 1 demanda 1~(1,2) coste 1 demanda 1~DEPOSITO 1~";
 
 // Certificates of the row: with the bound that its prices show, which is the cost, and below it.
 const ROW_LOW: &str =
@@ -47,7 +52,12 @@ fn instance(wanted: &str) -> &str {
 }
 
 // A store with an instance and a certificate, and room for what is kept; its keeps of these numbers fail.
-fn store(alloc: Global, name: &str, cert: &str, keeps: &[u64]) -> Result<MemShelf, Fail> {
+pub(crate) fn store(
+    alloc: Global,
+    name: &str,
+    cert: &str,
+    keeps: &[u64],
+) -> Result<MemShelf, Fail> {
     let mut shelf = MemShelf::new(alloc, 65_536, Vec::new(alloc), keeps.to_vec(alloc)?);
     place(alloc, &mut shelf, "file", instance(name))?;
     for room in "cert new more most".split_ascii_whitespace() {
@@ -65,7 +75,11 @@ fn told(alloc: Global, shelf: &mut MemShelf, line: &str) -> Result<String, Fail>
 }
 
 // The code, the cost and the bound of a command that reports them.
-fn reported(alloc: Global, shelf: &mut MemShelf, line: &str) -> Result<(bool, u64, u64), Fail> {
+pub(crate) fn reported(
+    alloc: Global,
+    shelf: &mut MemShelf,
+    line: &str,
+) -> Result<(bool, u64, u64), Fail> {
     let told = told(alloc, shelf, line)?;
     let numbers = numbers_in(alloc, told.as_str())?;
     let number = |place: usize| numbers.get(place).copied().unwrap_or(0);
@@ -73,7 +87,7 @@ fn reported(alloc: Global, shelf: &mut MemShelf, line: &str) -> Result<(bool, u6
 }
 
 // Whether `check` accepts the certificate of a name with this cost and this bound.
-fn is_accepted(
+pub(crate) fn is_accepted(
     alloc: Global,
     shelf: &mut MemShelf,
     name: &str,

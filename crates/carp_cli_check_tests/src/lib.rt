@@ -8,4 +8,8 @@ mod carried_tests;
 #[cfg(test)]
 mod check_tests;
 #[cfg(test)]
+mod group_tests;
+#[cfg(test)]
+mod improve_large_tests;
+#[cfg(test)]
 mod improve_tests;

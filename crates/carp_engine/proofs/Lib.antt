@@ -3,3 +3,4 @@ pub mod Groups
 pub mod Certified
 pub mod Olds
 pub mod Better
+pub mod Named

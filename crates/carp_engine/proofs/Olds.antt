@@ -95,6 +95,9 @@ module _ (law : SpellableIsFine) (once : FixedValueIsUnique) (p : Problem) (c : 
   spelled_node nodes.Void is = tt
   spelled_node nodes.Fixed is = tt
 
+  pub spelled_nodes : All (IsSpelledNode (length c.sets)) c.nodes
+  spelled_nodes = All-weaker IsFineHere (IsSpelledNode (length c.sets)) spelled_node c.nodes is_fine.nodes_fine
+
   fine_node : (node : Node) → IsFineHere node → places.IsFineNode node
   fine_node (nodes.Pair a b) is = tt
   fine_node (nodes.Cut shore k) is = is.1

@@ -19,9 +19,10 @@ use deadhead_paths::tidy;
 use decision_chains::fixed_values_compare;
 use helper_rounds::ask_all;
 use plan_model::Proposer;
+use progress::Watch;
 use std::alloc::Global;
 use task_tours::{cost_distances, short_plans_are_allowed, short_plans_cost_little};
-use tree_transfer::note_nodes;
+use tree_transfer::{keep_named_sets, named_sets_suffice, note_nodes};
 
 /// The best plan that the helpers find from that of a good certificate on, whoever made it, and what a search shows
 /// that goes on from its tree. The plan costs no more than the old one, and the bound is no lower.
@@ -32,17 +33,18 @@ use tree_transfer::note_nodes;
 /// if the bound is below the cost, the tree has at least as many turns as the old one had for the old cost and so many
 /// more, or 1,048,576.
 ///
-/// If the old tree has 256 price sets, its leaves keep those that they have. If it has 2,000 shores, none is added. The
-/// only error is want of memory.
+/// Price sets that no leaf of the old tree names are left out before. If its leaves name 256, no set is added, and they
+/// keep those that they have. If the old certificate has 2,000 shores, none is added. The only error is want of memory.
 ///
 /// Beside what `solve` takes for helpers and turns, it takes the time of a check of the old tree.
-pub fn improve<P: Proposer>(
+pub fn improve<P: Proposer, W: Watch>(
     alloc: Global,
     inst: &Instance,
     cert: Cert,
     turns: u64,
     seed: u64,
     helpers: &mut Vec<P>,
+    watch: &mut W,
 ) -> Result<Solved, Memory>
     requires some_turns { 1 ≤ turns }
     requires turns_in_range { turns ≤ 1048576 }
@@ -69,19 +71,23 @@ pub fn improve<P: Proposer>(
     good_is_proof();
     fixed_values_compare();
     resumed_trees_have_turns();
+    named_sets_suffice();
     let _ = inst.vertices();
     let dist = cost_distances(alloc, inst)?;
     let mut plan = tidy(alloc, inst, &dist, &cert.plan)?;
+    watch.asks();
     ask_all(alloc, inst, &dist, &mut plan, helpers, seed)?;
-    let nodes = note_nodes(alloc, inst, &cert.shores, &cert.sets, &dist, &cert.tree)?;
+    let mut nodes = note_nodes(alloc, inst, &cert.shores, &cert.sets, &dist, &cert.tree)?;
+    let sets = keep_named_sets(alloc, cert.sets, &mut nodes)?;
     search_on(
         alloc,
         inst,
         turns,
         plan,
         &nodes,
-        cert.sets,
+        sets,
         cert.shores,
         cert.bound,
+        watch,
     )
 }

@@ -17,14 +17,16 @@ use carp_base::{Instance, Memory};
 use cut_pool::ShorePool;
 use grown_trees::GrowingNode;
 use plan_model::Plan;
+use progress::{Standing, Watch};
 use std::alloc::Global;
 
 // The best plan that a search from this plan on finds, and its certificate.
-pub(crate) fn search(
+pub(crate) fn search<W: Watch>(
     alloc: Global,
     inst: &Instance,
     turns: u64,
     plan: Plan,
+    watch: &mut W,
 ) -> Result<Solved, Memory>
     requires some_turns { 1 ≤ turns }
     requires turns_in_range { turns ≤ 1048576 }
@@ -32,12 +34,12 @@ pub(crate) fn search(
     ensures { IfOk result (λ solved. IsSearchedAnew inst.now turns plan (certificate_in solved.cert) solved.turns) }
 {
     let search = Search::begin(alloc, inst, turns, plan)?;
-    go_on(alloc, inst, search)
+    go_on(alloc, inst, search, watch)
 }
 
 // The best plan that a search from this plan and a tree on finds, and its certificate. The budget is so many turns more
 // than the tree has.
-pub(crate) fn search_on(
+pub(crate) fn search_on<W: Watch>(
     alloc: Global,
     inst: &Instance,
     turns: u64,
@@ -46,6 +48,7 @@ pub(crate) fn search_on(
     sets: Vec<PriceSet>,
     shores: ShorePool,
     least: u64,
+    watch: &mut W,
 ) -> Result<Solved, Memory>
     requires some_turns { 1 ≤ turns }
     requires turns_in_range { turns ≤ 1048576 }
@@ -54,25 +57,47 @@ pub(crate) fn search_on(
     ensures { IfOk result (λ solved. IsSearched inst.now least (min (turns_in (plan_cost inst.now plan) nodes.now + turns) 1048576) plan (certificate_in solved.cert) solved.turns) }
 {
     let search = Search::resume(alloc, inst, turns, plan, nodes, sets, shores, least)?;
-    go_on(alloc, inst, search)
+    go_on(alloc, inst, search, watch)
 }
 
 // What a search finds that goes on until each leaf is closed or its budget is spent, and its certificate.
-pub(crate) fn go_on(alloc: Global, inst: &Instance, search: Search) -> Result<Solved, Memory>
+pub(crate) fn go_on<W: Watch>(
+    alloc: Global,
+    inst: &Instance,
+    search: Search,
+    watch: &mut W,
+) -> Result<Solved, Memory>
     requires { IsSearch inst.now search }
     ensures { IfOk result (λ solved. IsSearched inst.now search.least search.turns search.best (certificate_in solved.cert) solved.turns) }
 {
     let mut search = search;
     let turns = search.budget();
-    take_turns(inst, turns, &mut search)?;
+    take_turns(inst, turns, &mut search, watch)?;
     let done = search.done();
     let found = search.finish(alloc, inst)?;
     let solved = certify(alloc, inst, found, done)?;
     Ok(solved)
 }
 
+// Tells a watch where a search stands.
+fn tell<W: Watch>(search: &Search, watch: &mut W) {
+    if watch.listens() {
+        watch.turns(Standing {
+            turn: search.done(),
+            turns: search.budget(),
+            cost: search.cost(),
+            bound: search.shown(),
+        });
+    }
+}
+
 // Takes turns until each leaf is closed or the budget is spent.
-fn take_turns(inst: &Instance, turns: u64, search: &mut Search) -> Result<(), Memory>
+fn take_turns<W: Watch>(
+    inst: &Instance,
+    turns: u64,
+    search: &mut Search,
+    watch: &mut W,
+) -> Result<(), Memory>
     requires search { IsSearch inst.now search.old }
     requires turns { search.old.turns ≡ turns }
     ensures search { IsSearch inst.now search.new }
@@ -83,6 +108,7 @@ fn take_turns(inst: &Instance, turns: u64, search: &mut Search) -> Result<(), Me
 {
     while search.done() < turns {
         let turn = search.step(inst)?;
+        tell(search, watch);
         if turn == Turn::Done {
             return Ok(());
         }

@@ -15,6 +15,7 @@ use cert_lines::{fine_is_spellable, shores_are_fine};
 use deadhead_paths::{single_tours, tidy};
 use helper_rounds::ask_all;
 use plan_model::Proposer;
+use progress::Watch;
 use std::alloc::Global;
 use task_tours::{cost_distances, short_plans_are_allowed, short_plans_cost_little};
 
@@ -50,12 +51,13 @@ pub struct Solved {
 /// let solved = solve(alloc, &inst, 64, 1, &mut helpers)?;
 /// assert_eq!(rt; (solved.cert.cost, solved.cert.bound), (10, 10));
 /// ```
-pub fn solve<P: Proposer>(
+pub fn solve<P: Proposer, W: Watch>(
     alloc: Global,
     inst: &Instance,
     turns: u64,
     seed: u64,
     helpers: &mut Vec<P>,
+    watch: &mut W,
 ) -> Result<Solved, Memory>
     requires some_turns { 1 ≤ turns }
     requires turns_in_range { turns ≤ 1048576 }
@@ -81,6 +83,7 @@ pub fn solve<P: Proposer>(
     let _ = inst.vertices();
     let dist = cost_distances(alloc, inst)?;
     let mut plan = tidy(alloc, inst, &dist, &single_tours(alloc, inst, &dist)?)?;
+    watch.asks();
     ask_all(alloc, inst, &dist, &mut plan, helpers, seed)?;
-    search(alloc, inst, turns, plan)
+    search(alloc, inst, turns, plan, watch)
 }

@@ -10,6 +10,7 @@ use cert_checker::{Answer, check};
 use cert_format::{Cert, read_cert};
 use cert_lines::read_is_spelled;
 use plan_model::Proposer;
+use progress::Silent;
 use samples::street;
 use std::alloc::Global;
 use std::test::Fail;
@@ -41,7 +42,7 @@ end
 ";
 
 // The certificate of a text, if it is good for the instance.
-fn good(alloc: Global, inst: &Instance, text: &str) -> Result<Option<Cert>, Fail>
+pub(crate) fn good(alloc: Global, inst: &Instance, text: &str) -> Result<Option<Cert>, Fail>
     ensures { IfOk result (λ found. IfSome found (λ cert. IsSpellable (certificate_in cert) × IsGood inst.now (certificate_in cert))) }
 {
     read_is_spelled();
@@ -61,7 +62,7 @@ fn a_certificate_with_groups_is_improved(rt: HostRuntime) -> Result<(), Fail> {
         panic!(rt; "the certificate is good");
     };
     let mut helpers: Vec<Box<dyn Proposer>> = Vec::new(alloc);
-    let improved = improve(alloc, &inst, cert, 1, 1, &mut helpers)?;
+    let improved = improve(alloc, &inst, cert, 1, 1, &mut helpers, &mut Silent)?;
     assert_eq!(rt; improved.cert.bound, 45);
     assert!(rt; improved.cert.cost <= 67);
     assert!(rt; improved.cert.sets.iter().any(|set| set.groups().len() == 1));

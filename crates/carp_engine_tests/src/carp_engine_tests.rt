@@ -7,6 +7,7 @@ use branch_rules::Node;
 use carp_base::Instance;
 use carp_engine::{Solved, improve, solve};
 use plan_model::Proposer;
+use progress::Silent;
 use samples::street;
 use std::alloc::Global;
 use std::test::Fail;
@@ -31,7 +32,7 @@ fn solved_by(alloc: Global, inst: &Instance, turns: u64) -> Result<Solved, Fail>
     ensures { IfOk result (λ solved. IsSound inst.now (certificate_in solved.cert) solved.turns) }
 {
     let mut helpers: Vec<Box<dyn Proposer>> = Vec::new(alloc);
-    Ok(solve(alloc, inst, turns, 1, &mut helpers)?)
+    Ok(solve(alloc, inst, turns, 1, &mut helpers, &mut Silent)?)
 }
 
 #[test]
@@ -59,7 +60,7 @@ fn one_price_set_proves_full_streets(rt: HostRuntime) -> Result<(), Fail> {
 }
 
 // Five streets of cost 1 and demand 2 at the end of a way of cost 100, of which a vehicle serves two.
-fn star(alloc: Global) -> Result<Instance, Fail> {
+pub(crate) fn star(alloc: Global) -> Result<Instance, Fail> {
     let required = [
         street(2, 3, 1, 2),
         street(2, 4, 1, 2),
@@ -100,7 +101,15 @@ fn star_improved(alloc: Global, turns: u64, more: u64) -> Result<(u64, u64, u64)
     let inst = star(alloc)?;
     let solved = solved_by(alloc, &inst, turns)?;
     let mut helpers: Vec<Box<dyn Proposer>> = Vec::new(alloc);
-    let improved = improve(alloc, &inst, solved.cert, more, 1, &mut helpers)?;
+    let improved = improve(
+        alloc,
+        &inst,
+        solved.cert,
+        more,
+        1,
+        &mut helpers,
+        &mut Silent,
+    )?;
     Ok((improved.cert.cost, improved.cert.bound, improved.turns))
 }
 

@@ -8,4 +8,6 @@ mod branch_tree_tests;
 #[cfg(test)]
 mod carp_engine_group_tests;
 #[cfg(test)]
+mod carp_engine_set_tests;
+#[cfg(test)]
 mod carp_engine_tests;

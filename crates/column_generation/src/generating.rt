@@ -24,7 +24,7 @@ use std::alloc::Global;
 const MOST_TURNS: u32 = 8000;
 
 // So many entries of the program are touched at most, but for the last turn.
-const MOST_WORK: u64 = 20_000_000_000;
+const MOST_WORK: u64 = 4_000_000_000;
 
 // So many tours of one point are added at most.
 const MOST_ADDED: u32 = 30;

@@ -51,7 +51,7 @@ const MOST_FILLS: u32 = 1000;
 /// It asks for the network of the instance, a table that was made for it, a branch whose pairs are of required edges,
 /// and a start with a price for each required edge and weights on shores of the pool that belong to the instance. All
 /// shores of the pool have to belong to the instance. The only error is want of memory. It takes up to `fills` fills of
-/// the table, and at most 1,001. The program touches some 2 * 10^10 entries at most. No clock decides.
+/// the table, and at most 1,001. The program touches some 4 * 10^9 entries at most. No clock decides.
 pub fn generate_columns(
     alloc: Global,
     inst: &Instance,

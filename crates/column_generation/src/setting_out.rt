@@ -19,6 +19,10 @@ use linear_program::{ColumnId, Program, RowId};
 use price_points::{UNIT, clamped, copy_of, floor, start_prices, start_weight};
 use std::alloc::Global;
 
+// By how much a reduced cost may fall below 0 in the dual method, in parts of a unit of cost. Without it, costs that are a
+// little below 0 make others fall without bound.
+const SLACK: u64 = 1;
+
 // So many shores of the start, those with the greatest shares of its value, have a row from the beginning.
 const MOST_SHORES: usize = 60;
 
@@ -189,6 +193,7 @@ pub(crate) fn first_program(
     requires { dist.now.problem ≡ inst.now }
 {
     let mut program = Program::new(alloc)?;
+    program.set_slack(SLACK);
     use_rows(alloc, master, &mut program)?;
     use_deadheads(inst, &mut program)?;
     use_single_tours(alloc, inst, dist, master, &mut program)?;

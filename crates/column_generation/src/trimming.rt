@@ -60,7 +60,7 @@ pub(crate) fn trim_columns(
     master: &Master,
     program: &mut Program,
 ) -> Result<(), Memory> {
-    let keep = program.rows().len().saturating_mul(4).saturating_add(500);
+    let keep = program.rows().len().saturating_mul(2).saturating_add(200);
     if program.columns().len() < keep.saturating_mul(2) {
         return Ok(());
     }

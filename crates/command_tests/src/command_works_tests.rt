@@ -2,6 +2,7 @@
 use command_jobs::Job;
 use command_works::make;
 use plan_model::Proposer;
+use progress::Silent;
 use std::alloc::Global;
 use std::test::Fail;
 
@@ -9,7 +10,7 @@ use std::test::Fail;
 fn made(alloc: Global, seed: u64) -> Result<(u8, String, Vec<u8>), Fail> {
     let mut helpers: Vec<Box<dyn Proposer>> = Vec::new(alloc);
     let job = Job::Make { file: "town", seed };
-    let delivery = make(alloc, job, &mut helpers)?;
+    let delivery = make(alloc, job, &mut helpers, &mut Silent)?;
     let mut names = String::new(alloc);
     for kept in &delivery.kept {
         names.push_str(kept.name)?;

@@ -16,16 +16,18 @@ use cert_format::Cert;
 use command_jobs::Status;
 use plan_model::Proposer;
 use plan_print::{push_line, push_words};
+use progress::Watch;
 use std::alloc::Global;
 use town_maker::town;
 
 /// Solves the town of a number with so many turns, and with the aid of the helpers, which are seeded from it on. Checks
 /// the certificate, and sums up what came of it.
-pub(crate) fn drill<'a, P: Proposer>(
+pub(crate) fn drill<'a, P: Proposer, W: Watch>(
     alloc: Global,
     turns: u64,
     seed: u64,
     helpers: &mut Vec<P>,
+    watch: &mut W,
 ) -> Result<Delivery<'a>, Memory>
     requires some_turns { 1 ≤ turns }
     requires turns_in_range { turns ≤ 1048576 }
@@ -36,7 +38,7 @@ pub(crate) fn drill<'a, P: Proposer>(
     ensures fouls { OnOk result (All (λ helper. (P.tally helper).fouls ≤ 1) helpers.new.items) }
 {
     let inst = town(alloc, seed)?;
-    let solved = solve(alloc, &inst, turns, seed, helpers)?;
+    let solved = solve(alloc, &inst, turns, seed, helpers, watch)?;
     if !is_accepted(alloc, &inst, &solved.cert)? {
         unreachable!();
     }

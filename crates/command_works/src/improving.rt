@@ -14,12 +14,13 @@ use cert_format::{Cert, write_cert};
 use command_jobs::Status;
 use plan_model::Proposer;
 use plan_print::report;
+use progress::Watch;
 use std::alloc::Global;
 
 /// Goes on from a certificate that is good for the instance, with so many turns more and with the aid of the helpers,
 /// which are seeded from the seed on. Builds the texts of the certificate that comes of it, which is to be kept under
 /// this name, and of its report.
-pub(crate) fn improve_instance<'a, P: Proposer>(
+pub(crate) fn improve_instance<'a, P: Proposer, W: Watch>(
     alloc: Global,
     inst: &Instance,
     cert: Cert,
@@ -27,6 +28,7 @@ pub(crate) fn improve_instance<'a, P: Proposer>(
     turns: u64,
     seed: u64,
     helpers: &mut Vec<P>,
+    watch: &mut W,
 ) -> Result<Delivery<'a>, Memory>
     requires some_turns { 1 ≤ turns }
     requires turns_in_range { turns ≤ 1048576 }
@@ -39,7 +41,7 @@ pub(crate) fn improve_instance<'a, P: Proposer>(
     ensures asked { OnOk result (All (λ helper. 1 ≤ P.asked helper) helpers.new.items) }
     ensures fouls { OnOk result (All (λ helper. (P.tally helper).fouls ≤ 1) helpers.new.items) }
 {
-    let better = improve(alloc, inst, cert, turns, seed, helpers)?;
+    let better = improve(alloc, inst, cert, turns, seed, helpers, watch)?;
     let bytes = write_cert(alloc, &better.cert)?;
     let text = report(alloc, inst, &better.cert, better.turns)?;
     let status = ending(better.cert.bound, better.cert.cost);

@@ -15,6 +15,7 @@ use crate::solving::solve_instance;
 use carp_base::Memory;
 use command_jobs::Job;
 use plan_model::Proposer;
+use progress::Watch;
 use std::alloc::Global;
 
 /// Does a job. If it solves an instance or goes on from a certificate, the helpers aid it, and are seeded from the
@@ -23,10 +24,11 @@ use std::alloc::Global;
 /// The only error is want of memory. It takes the time of what the job asks for ([`carp_engine::solve`],
 /// [`carp_engine::improve`], [`fleet_pack::pack`], [`cert_transfer::carry`]) and of the texts, all of which are in
 /// memory at once.
-pub fn make<'a, P: Proposer>(
+pub fn make<'a, P: Proposer, W: Watch>(
     alloc: Global,
     job: Job<'a>,
     helpers: &mut Vec<P>,
+    watch: &mut W,
 ) -> Result<Delivery<'a>, Memory>
     requires { IsSoundJob job }
     ensures made { IfOk result (λ d. IsMade job.entry (map (λ helper. (P.tally helper).least) helpers.new.items) d.status (output_in d)) }
@@ -43,16 +45,17 @@ pub fn make<'a, P: Proposer>(
             improved,
             turns,
             seed,
-        } => improve_instance(alloc, &inst, cert, improved, turns, seed, helpers),
-        other => make_lent(alloc, &other, helpers),
+        } => improve_instance(alloc, &inst, cert, improved, turns, seed, helpers, watch),
+        other => make_lent(alloc, &other, helpers, watch),
     }
 }
 
 // Does a job that only reads what was read for it. Each arm of a function that owns the job would drop it.
-fn make_lent<'a, P: Proposer>(
+fn make_lent<'a, P: Proposer, W: Watch>(
     alloc: Global,
     job: &Job<'a>,
     helpers: &mut Vec<P>,
+    watch: &mut W,
 ) -> Result<Delivery<'a>, Memory>
     requires sound { IsSoundJob job.now }
     requires lent { IsLent job.now }
@@ -69,11 +72,11 @@ fn make_lent<'a, P: Proposer>(
             cert,
             turns,
             seed,
-        } => solve_instance(alloc, inst, cert, *turns, *seed, helpers),
+        } => solve_instance(alloc, inst, cert, *turns, *seed, helpers, watch),
         Job::Check { cost, bound } => accept(alloc, *cost, *bound),
         Job::Sheet { inst, plan } => spell_sheet(alloc, inst, plan),
         Job::Make { file, seed } => keep_town(alloc, file, *seed),
-        Job::Drill { turns, seed } => drill(alloc, *turns, *seed, helpers),
+        Job::Drill { turns, seed } => drill(alloc, *turns, *seed, helpers, watch),
         Job::Upgrade { cert, renewed } => renew(alloc, cert, renewed),
         Job::Postman { laid } => spell_round(alloc, laid),
         Job::Fleet { inst, turns } => count_fleet(alloc, inst, *turns),

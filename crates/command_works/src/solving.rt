@@ -10,17 +10,19 @@ use cert_format::write_cert;
 use command_jobs::Status;
 use plan_model::Proposer;
 use plan_print::report;
+use progress::Watch;
 use std::alloc::Global;
 
 /// Solves an instance with so many turns, and with the aid of the helpers, which are seeded from the seed on. Builds
 /// the texts of its certificate, which is to be kept under this name, and of its report.
-pub(crate) fn solve_instance<'a, P: Proposer>(
+pub(crate) fn solve_instance<'a, P: Proposer, W: Watch>(
     alloc: Global,
     inst: &Instance,
     cert: &'a str,
     turns: u64,
     seed: u64,
     helpers: &mut Vec<P>,
+    watch: &mut W,
 ) -> Result<Delivery<'a>, Memory>
     requires some_turns { 1 ≤ turns }
     requires turns_in_range { turns ≤ 1048576 }
@@ -30,7 +32,7 @@ pub(crate) fn solve_instance<'a, P: Proposer>(
     ensures asked { OnOk result (All (λ helper. 1 ≤ P.asked helper) helpers.new.items) }
     ensures fouls { OnOk result (All (λ helper. (P.tally helper).fouls ≤ 1) helpers.new.items) }
 {
-    let solved = solve(alloc, inst, turns, seed, helpers)?;
+    let solved = solve(alloc, inst, turns, seed, helpers, watch)?;
     let bytes = write_cert(alloc, &solved.cert)?;
     let text = report(alloc, inst, &solved.cert, solved.turns)?;
     let status = ending(solved.cert.bound, solved.cert.cost);

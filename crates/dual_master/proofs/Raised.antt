@@ -1,12 +1,13 @@
 -- A set over a pool that grew, and sets that are no lower.
-use Rattle.std.proofs.Common.{◌≡◌, ℕ, zero, suc, ◌+◌, ◌*◌, ◌≤◌, List, [], ◌++◌, length, sym, subst, ap, ◌∙◌, arith, ℤ, pos, negsuc, neg_ℤ, ◌+ℤ◌, ◌*ℤ◌, ◌≤ℤ◌, Result, Ok, Err, IfOk, All, append_assoc, length-append, inl, inr}
+use Rattle.std.proofs.Common.{◌≡◌, ℕ, zero, suc, ◌*◌, ◌≤◌, List, [], ◌++◌, length, sym, subst, ap, ◌∙◌, arith, ℤ, pos, negsuc, neg_ℤ, ◌+ℤ◌, ◌*ℤ◌, ◌≤ℤ◌, Option, Some, None, IfSome, Result, Ok, Err, IfOk, All, append_assoc, length-append, inl, inr}
 use Rattle.std.proofs.Math.Nat.{mul-le-mul_left}
 use Rattle.std.proofs.lemmas.Bool.{cases_lt}
 use Rattle.std.proofs.lemmas.Int.{ints}
-use Rattle.std.proofs.lemmas.List.Elements.{All-weaker}
+use Rattle.std.proofs.lemmas.List.Elements.{All-nil, All-weaker}
 use Rattle.carp_base.specs.Problem.{Problem}
 use Rattle.cut_pool.specs.Pools.{IsShoreNumber}
 use Rattle.decision_chains.specs.declared.decision.Decision.{Decision}
+use Rattle.branch_rules.specs.Bonds.{GroupWeight, IsGroup}
 use Rattle.branch_rules.specs.Decisions.{rules_of}
 use Rattle.branch_rules.specs.Laws.{FitsBranch}
 use Rattle.branch_rules.specs.Limits.{IsShoreOf}
@@ -14,7 +15,7 @@ use Rattle.branch_rules.specs.Prices.{Prices, value_of}
 use Rattle.branch_rules.specs.declared.weight.Weight.{Weight}
 use Rattle.shore_prices.specs.Proposals.{IsGrown}
 use Rattle.dual_master.specs.Growth.{GrowthKeepsSets, IsAsBefore}
-use Rattle.dual_master.specs.Raising.{IsNoLower, KeepsGroups}
+use Rattle.dual_master.specs.Raising.{HasGroupsFrom, HasGroupsOf, IsAccepted, IsNoLower, IsRaised}
 use Rattle.dual_master.proofs.Chosen.{shore_of_grown}
 
 neg_times : (n m : ℕ) → (pos n *ℤ neg_ℤ (pos m)) +ℤ pos (n * m) ≡ pos 0
@@ -112,11 +113,29 @@ module _ (law : GrowthKeepsSets) (p : Problem) (branch : List Decision) (pool af
   pub itself : IsNoLower p branch pool set after set
   itself = no_lower_before set (omega (arith, ints))
 
--- a set whose start has no groups has none
-pub none_kept : (start set : Prices) → KeepsGroups start set → start.groups ≡ [] → set.groups ≡ []
-none_kept start set (inl same) none = same ∙ none
-none_kept start set (inr gone) none = gone
+-- a set without groups has groups of the instance
+pub none_of : (p : Problem) (set : Prices) → set.groups ≡ [] → HasGroupsOf p set
+none_of p set none = subst (All (λ (w : GroupWeight). IsGroup p w.edges)) (sym none) (All-nil (λ (w : GroupWeight). IsGroup p w.edges))
+
+-- a set that has its groups from one with groups of the instance has such groups
+pub of_instance : (p : Problem) (start set : Prices) → HasGroupsFrom p start set → HasGroupsOf p start → HasGroupsOf p set
+of_instance p start set (inl same) of = subst (All (λ (w : GroupWeight). IsGroup p w.edges)) (sym same) of
+of_instance p start set (inr own) of = own
 
 pub both_ok : {X E : Type 0} (r : Result X E) (P Q R : X → Type 0) → ((x : X) → P x → Q x → R x) → IfOk r P → IfOk r Q → IfOk r R
 both_ok (Ok x) P Q R all p q = all x p q
 both_ok (Err e) P Q R all p q = tt
+
+-- what an offered set with groups of the instance is if it is accepted over a pool that grew
+pub raised_since : {E : Type 0} (law : GrowthKeepsSets) (p : Problem) (branch : List Decision) (pool after : List (List ℕ)) → IsGrown pool after → (start : Prices) →
+    All (λ w. IsShoreOf p pool w.shore) start.weights → (offered : Prices) → All (λ w. IsShoreOf p after w.shore) offered.weights → HasGroupsOf p offered →
+    (r : Result (Option Prices) E) → IfOk r (λ better. IfSome better (IsAccepted p branch after offered start)) → IfOk r (λ better. IfSome better (IsRaised p branch pool start after))
+raised_since law p branch pool after grown start from offered shores groups (Ok (Some set)) accepted =
+    subst (IsRaised p branch pool start after) (sym accepted.same) (record {
+      fits = accepted.fits;
+      shores = shores;
+      groups = groups;
+      no_lower = no_lower_before law p branch pool after grown start from offered accepted.no_lower;
+    })
+raised_since law p branch pool after grown start from offered shores groups (Ok None) accepted = tt
+raised_since law p branch pool after grown start from offered shores groups (Err e) accepted = tt

@@ -1,8 +1,9 @@
 -- Price sets that are raised, over a pool that may grow.
-use Rattle.std.specs.Prelude.{◌≡◌, ◌⊎◌, ℕ, List, [], pos, ◌*ℤ◌, ◌≤ℤ◌}
+use Rattle.std.specs.Prelude.{◌≡◌, ◌⊎◌, ℕ, List, pos, ◌*ℤ◌, ◌≤ℤ◌}
 use Rattle.std.specs.List.{All}
 use Rattle.carp_base.specs.Problem.{Problem}
 use Rattle.decision_chains.specs.declared.decision.Decision.{Decision}
+use Rattle.branch_rules.specs.Bonds.{GroupWeight, IsGroup}
 use Rattle.branch_rules.specs.Decisions.{rules_of}
 use Rattle.branch_rules.specs.Laws.{FitsBranch}
 use Rattle.branch_rules.specs.Limits.{IsShoreOf}
@@ -13,13 +14,23 @@ abbrev pub IsNoLower : Problem → List Decision → List (List ℕ) → Prices 
 IsNoLower p branch pool start after set =
     (pos set.unit *ℤ value_of (rules_of p pool branch) start) ≤ℤ (pos start.unit *ℤ value_of (rules_of p after branch) set)
 
--- the weights on groups are those of the start, or there are none
-abbrev pub KeepsGroups : Prices → Prices → Type 0
-KeepsGroups start set = (set.groups ≡ start.groups) ⊎ (set.groups ≡ [])
+-- the weights on groups are on groups of the instance
+abbrev pub HasGroupsOf : Problem → Prices → Type 0
+HasGroupsOf p set = All (λ (w : GroupWeight). IsGroup p w.edges) set.groups
 
--- such a set that fits under the branch, with its shores in the pool and no groups
+-- the weights on groups are those of the start, or on groups of the instance
+abbrev pub HasGroupsFrom : Problem → Prices → Prices → Type 0
+HasGroupsFrom p start set = (set.groups ≡ start.groups) ⊎ HasGroupsOf p set
+
+-- such a set that fits under the branch, with its shores in the pool, and with groups of the instance
 pub record IsRaised (p : Problem) (branch : List Decision) (pool : List (List ℕ)) (start : Prices) (after : List (List ℕ)) (set : Prices) : Type 0 where
   pub fits : FitsBranch p after branch set
   pub shores : All (λ w. IsShoreOf p after w.shore) set.weights
-  pub no_groups : set.groups ≡ []
+  pub groups : HasGroupsOf p set
   pub no_lower : IsNoLower p branch pool start after set
+
+-- an offered set that fits under the branch and is worth no less than the start, over one pool
+pub record IsAccepted (p : Problem) (branch : List Decision) (pool : List (List ℕ)) (offered start set : Prices) : Type 0 where
+  pub same : set ≡ offered
+  pub fits : FitsBranch p pool branch offered
+  pub no_lower : IsNoLower p branch pool start pool offered

@@ -9,12 +9,13 @@ ghost use Rattle.decision_chains.specs.Pairs.{ArePairsIn};
 ghost use Rattle.route_pricing.specs.Tables.{IsRoom};
 ghost use Rattle.shore_prices.specs.Proposals.{IsGrown};
 ghost use Rattle.tight_prices.specs.Tight.{IsTight};
-ghost use Rattle.dual_master.specs.Raising.{IsNoLower, IsRaised, KeepsGroups};
+ghost use Rattle.dual_master.specs.Raising.{HasGroupsFrom, IsAccepted, IsNoLower, IsRaised};
 
 use crate::laws::growth_keeps_sets;
 use crate::values::{is_no_more, value_under};
 use branch_rules::{Branch, PriceSet};
 use carp_base::{Instance, Memory};
+use column_generation::generate_columns;
 use cut_pool::ShorePool;
 use price_ascent::ascend;
 use road_network::Network;
@@ -23,6 +24,11 @@ use shore_prices::shore_prices;
 use std::alloc::Global;
 use tight_prices::{fits, tighten};
 
+// A program over tours from nothing takes as long as many rounds, so it is solved beside no fewer than these.
+const COLUMN_ROUNDS: u32 = 100;
+
+const COLUMN_FILLS: u32 = 1000;
+
 /// A price set that fits under a branch and whose value, divided by its denominator, is no less than that of a start
 /// that fits there. No single number of it can be raised: neither a price, nor the weight of a shore of one vertex that
 /// the pool held before and over which some deadhead is needed (`tight_prices`).
@@ -30,12 +36,15 @@ use tight_prices::{fits, tighten};
 /// If `rounds` is above 0, it solves the linear program over shores in up to so many rounds of search for shores that
 /// it leaves short (`shore_prices`), and takes that set if it fits and is better. From the better one prices and
 /// weights ascend along relaxed tours in up to so many steps (`price_ascent`), and it takes that set in the same way.
+/// From 100 rounds on, the linear program over tours, shores and groups is solved from the best one of these
+/// (`column_generation`), if the instance is small enough for it, and it takes that set in the same way.
 /// Shores with a weight are placed in the pool behind those that it held, while it holds fewer than 2,000. The weights
-/// on groups are those of the start, or there are none.
+/// on groups are those of the start, or they are on groups of the instance.
 ///
 /// It asks for the network, for a table that was made for the instance, which it fills, for a branch whose pairs are of
 /// required edges, and for a pool whose shores belong to the instance. The shores that it adds belong to the instance
-/// too. The only error is want of memory. It takes the time of the rounds and of `tight_prices::tighten`.
+/// too. The only error is want of memory. It takes the time of the rounds, of `column_generation::generate_columns` and of
+/// `tight_prices::tighten`.
 pub fn raise(
     alloc: Global,
     inst: &Instance,
@@ -54,7 +63,7 @@ pub fn raise(
     requires fits { FitsBranch inst.now pool.old branch.now start.now }
     ensures tight { IfOk result (IsTight inst.now pool.new (length pool.old) branch.now) }
     ensures no_lower { IfOk result (IsNoLower inst.now branch.now pool.old start.now pool.new) }
-    ensures groups { IfOk result (KeepsGroups start.now) }
+    ensures groups { IfOk result (HasGroupsFrom inst.now start.now) }
     ensures shores { IfOk result (λ set. All (λ w. IsShoreOf inst.now pool.new w.shore) set.weights) }
     ensures grown { IsGrown pool.old pool.new }
     ensures belong { All (Belongs inst.now) pool.new }
@@ -69,7 +78,7 @@ pub fn raise(
     }
 }
 
-// The same from a set that fits, by the ascent alone; the pass is over the first so many shores of the pool.
+// The same from a set that fits, by the ascent and by columns; the pass is over the first so many shores of the pool.
 fn climb(
     alloc: Global,
     inst: &Instance,
@@ -90,7 +99,7 @@ fn climb(
     requires known { known ≤ length pool.old }
     ensures tight { IfOk result (IsTight inst.now pool.new known branch.now) }
     ensures no_lower { IfOk result (IsNoLower inst.now branch.now pool.old start.now pool.new) }
-    ensures groups { IfOk result (KeepsGroups start.now) }
+    ensures groups { IfOk result (HasGroupsFrom inst.now start.now) }
     ensures shores { IfOk result (λ set. All (λ w. IsShoreOf inst.now pool.new w.shore) set.weights) }
     ensures grown { IsGrown pool.old pool.new }
     ensures belong { All (Belongs inst.now) pool.new }
@@ -98,6 +107,41 @@ fn climb(
 {
     growth_keeps_sets();
     let better = by_ascent(alloc, inst, net, table, pool, branch, start, rounds)?;
+    match better {
+        Some(set) => generate(alloc, inst, net, table, pool, branch, &set, rounds, known),
+        None => generate(alloc, inst, net, table, pool, branch, start, rounds, known),
+    }
+}
+
+// The same from a set that fits, by columns alone.
+fn generate(
+    alloc: Global,
+    inst: &Instance,
+    net: &Network,
+    table: &mut Table,
+    pool: &mut ShorePool,
+    branch: &Branch,
+    start: &PriceSet,
+    rounds: u32,
+    known: u32,
+) -> Result<PriceSet, Memory>
+    requires net { net.now ≡ inst.now }
+    requires room { IsRoom inst.now table.old }
+    requires pairs { ArePairsIn inst.now branch.now }
+    requires belong { All (Belongs inst.now) pool.old }
+    requires shores { All (λ w. IsShoreOf inst.now pool.old w.shore) start.now.weights }
+    requires fits { FitsBranch inst.now pool.old branch.now start.now }
+    requires known { known ≤ length pool.old }
+    ensures tight { IfOk result (IsTight inst.now pool.new known branch.now) }
+    ensures no_lower { IfOk result (IsNoLower inst.now branch.now pool.old start.now pool.new) }
+    ensures groups { IfOk result (HasGroupsFrom inst.now start.now) }
+    ensures shores { IfOk result (λ set. All (λ w. IsShoreOf inst.now pool.new w.shore) set.weights) }
+    ensures grown { IsGrown pool.old pool.new }
+    ensures belong { All (Belongs inst.now) pool.new }
+    ensures room { IsRoom inst.now table.new }
+{
+    growth_keeps_sets();
+    let better = by_columns(alloc, inst, net, table, pool, branch, start, rounds)?;
     match better {
         Some(set) => tighten(alloc, inst, net, table, pool, branch, &set, known),
         None => tighten(alloc, inst, net, table, pool, branch, start, known),
@@ -131,14 +175,7 @@ fn by_program(
         return Ok(None);
     }
     let offered = shore_prices(alloc, inst, net, pool, branch, rounds)?;
-    let pays = fits(alloc, inst, net, table, pool, branch, &offered)?;
-    if !pays {
-        return Ok(None);
-    }
-    if !is_better(inst, pool, branch, &offered, start) {
-        return Ok(None);
-    }
-    Ok(Some(offered))
+    if_better(alloc, inst, net, table, pool, branch, offered, start)
 }
 
 // The set that the ascent proposes, where it fits and is better than the start.
@@ -164,18 +201,80 @@ fn by_ascent(
     ensures room { IsRoom inst.now table.new }
 {
     growth_keeps_sets();
-    let found = ascend(alloc, inst, net, table, pool, branch, start, rounds)?;
-    let Some(offered) = found else {
-        return Ok(None);
-    };
-    let pays = fits(alloc, inst, net, table, pool, branch, &offered)?;
-    if !pays {
+    match ascend(alloc, inst, net, table, pool, branch, start, rounds)? {
+        Some(offered) => if_better(alloc, inst, net, table, pool, branch, offered, start),
+        None => Ok(None),
+    }
+}
+
+// The set that the program over tours, shores and groups proposes, where it fits and is better than the start.
+fn by_columns(
+    alloc: Global,
+    inst: &Instance,
+    net: &Network,
+    table: &mut Table,
+    pool: &mut ShorePool,
+    branch: &Branch,
+    start: &PriceSet,
+    rounds: u32,
+) -> Result<Option<PriceSet>, Memory>
+    requires net { net.now ≡ inst.now }
+    requires room { IsRoom inst.now table.old }
+    requires pairs { ArePairsIn inst.now branch.now }
+    requires belong { All (Belongs inst.now) pool.old }
+    requires shores { All (λ w. IsShoreOf inst.now pool.old w.shore) start.now.weights }
+    requires fits { FitsBranch inst.now pool.old branch.now start.now }
+    ensures raised { IfOk result (λ better. IfSome better (IsRaised inst.now branch.now pool.old start.now pool.new)) }
+    ensures grown { IsGrown pool.old pool.new }
+    ensures belong { All (Belongs inst.now) pool.new }
+    ensures room { IsRoom inst.now table.new }
+{
+    growth_keeps_sets();
+    let fills = fills_for(rounds);
+    match generate_columns(alloc, inst, net, table, pool, branch, start, fills)? {
+        Some(offered) => if_better(alloc, inst, net, table, pool, branch, offered, start),
+        None => Ok(None),
+    }
+}
+
+// How many fills the program may make beside so many rounds.
+fn fills_for(rounds: u32) -> u32 {
+    if rounds < COLUMN_ROUNDS {
+        0
+    } else {
+        COLUMN_FILLS
+    }
+}
+
+// An offered set, where it fits and is better than the start.
+fn if_better(
+    alloc: Global,
+    inst: &Instance,
+    net: &Network,
+    table: &mut Table,
+    pool: &ShorePool,
+    branch: &Branch,
+    offered: PriceSet,
+    start: &PriceSet,
+) -> Result<Option<PriceSet>, Memory>
+    requires net { net.now ≡ inst.now }
+    requires room { IsRoom inst.now table.old }
+    requires pairs { ArePairsIn inst.now branch.now }
+    requires shores { All (λ w. IsShoreOf inst.now pool.now w.shore) start.now.weights }
+    requires fits { FitsBranch inst.now pool.now branch.now start.now }
+    requires offered_shores { All (λ w. IsShoreOf inst.now pool.now w.shore) offered.weights }
+    requires one_each { length offered.services ≡ inst.now.required }
+    ensures accepted { IfOk result (λ better. IfSome better (IsAccepted inst.now branch.now pool.now offered start.now)) }
+    ensures room { IsRoom inst.now table.new }
+{
+    if !fits(alloc, inst, net, table, pool, branch, &offered)? {
         return Ok(None);
     }
-    if !is_better(inst, pool, branch, &offered, start) {
-        return Ok(None);
+    if is_better(inst, pool, branch, &offered, start) {
+        Ok(Some(offered))
+    } else {
+        Ok(None)
     }
-    Ok(Some(offered))
 }
 
 // Whether the value of the first set divided by its denominator is above that of the second.

@@ -1,13 +1,13 @@
 // Shores whose weights move.
-ghost use Rattle.std.specs.Prelude.{◌≡◌, ◌+◌, ◌≤◌, ◌++◌, All, IfOk, OnOk, length};
+ghost use Rattle.std.specs.Prelude.{◌+◌, ◌≤◌, ◌++◌, All, IfOk, OnOk, length};
 ghost use Rattle.cut_pool.specs.Shores.{Belongs};
 ghost use Rattle.branch_rules.specs.Limits.{IsShoreOf};
 ghost use Rattle.price_ascent.specs.Points.{IsActive};
 
-use crate::numbers::{PARTS, number_at};
 use branch_rules::{Branch, PriceSet};
 use carp_base::{Edge, Instance, Memory};
 use cut_pool::{Shore, ShorePool, need};
+use price_points::{PARTS, copy_of, number_at};
 use std::alloc::Global;
 
 /// A shore whose weight moves.
@@ -99,15 +99,4 @@ pub(crate) fn is_among(actives: &[Active], shore: &Shore) -> bool {
         }
     }
     false
-}
-
-/// A copy of a shore.
-pub(crate) fn copy_of(alloc: Global, shore: &Shore) -> Result<Shore, Memory>
-    ensures { IfOk result (λ copy. copy ≡ shore.now) }
-{
-    let mut vertices = Vec::with_capacity(alloc, shore.len())?;
-    for place in 0..shore.len() {
-        vertices.push(shore.vertex(place))?;
-    }
-    Shore::from_list(alloc, &vertices)
 }

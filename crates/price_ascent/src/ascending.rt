@@ -10,13 +10,12 @@ ghost use Rattle.price_ascent.specs.Points.{IsActive};
 
 use crate::active::active_shores;
 use crate::climbing::Ascent;
-use crate::numbers::UNIT;
 use crate::placing::place_weights;
-use crate::scoring::Town;
 use crate::setting_out::start_point;
 use branch_rules::{Branch, PriceSet};
 use carp_base::{Instance, Memory};
 use cut_pool::ShorePool;
+use price_points::{Town, UNIT};
 use road_network::Network;
 use route_pricing::Table;
 use shore_prices::list_weights;

@@ -1,21 +1,21 @@
 // The ascent.
-ghost use Rattle.std.specs.Prelude.{◌≡◌, ◌≤◌, ◌++◌, All, IfOk, IfSome, OnOk, length};
+ghost use Rattle.std.specs.Prelude.{◌≡◌, ◌++◌, All, IfOk, IfSome, OnOk, length};
 ghost use Rattle.cut_pool.specs.Shores.{Belongs};
-ghost use Rattle.edge_components.specs.Parts.{AreParts};
 ghost use Rattle.route_pricing.specs.Pricing.{IsServicePrice};
 ghost use Rattle.route_pricing.specs.Tables.{IsRoom};
 ghost use Rattle.price_ascent.specs.Ascents.{IsAscent};
-ghost use Rattle.price_ascent.specs.Points.{AreServicePrices, IsActive, IsPoint, IsTown};
+ghost use Rattle.price_ascent.specs.Points.{IsActive, IsPoint};
+ghost use Rattle.price_points.specs.Services.{AreServicePrices};
+ghost use Rattle.price_points.specs.Towns.{IsTown};
 
 use crate::active::{Active, is_among};
-use crate::numbers::number_at;
-use crate::scoring::{Point, Scored, Town, score};
+use crate::scoring::{Point, Scored, score};
 use crate::setting_out::first_point;
 use crate::slopes::{Slopes, Step, mixed};
 use crate::step_size::{StepSize, Turn};
-use crate::touring::Cover;
 use carp_base::{Instance, Memory};
 use cut_pool::Shore;
+use price_points::{Cover, Town, parts_of};
 use route_pricing::Table;
 use shore_search::{Effort, ShoreSearch};
 use std::alloc::Global;
@@ -253,21 +253,4 @@ fn copy_of(alloc: Global, point: &Point) -> Result<Point, Memory>
         prices: Vec::from_slice(alloc, &point.prices)?,
         weights: Vec::from_slice(alloc, &point.weights)?,
     })
-}
-
-// Deadheads in parts, as a search for shores takes them.
-fn parts_of(alloc: Global, inst: &Instance, deadheads: &[i64]) -> Result<Vec<u64>, Memory>
-    ensures { IfOk result (λ parts. AreParts inst.now parts.items) }
-{
-    let mut parts = Vec::with_capacity(alloc, inst.edge_count() as usize)?;
-    for place in 0..inst.edge_count() {
-        parts.push(part_of(number_at(deadheads, place as usize)))?;
-    }
-    Ok(parts)
-}
-
-fn part_of(number: i64) -> u64
-    ensures { result ≤ 1000000000000 }
-{
-    (number.max(0) as u64).min(1_000_000_000_000)
 }

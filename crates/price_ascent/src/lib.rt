@@ -9,23 +9,19 @@
 //!
 //! - `climbing`: the steps, with `step_size` (their length, and when the ascent turns back or ends) and `slopes` (their
 //!   direction).
-//! - `scoring`: a point made one that pays, with `scaling` (weights that no street is overloaded by) and `touring`
-//!   (what tours cross).
-//! - `setting_out`: the points at which an ascent begins. `active`: the shores whose weights move. `numbers`:
-//!   arithmetic within limits.
+//! - `scoring`: a point made one that pays, with `scaling` (weights that no street is overloaded by).
+//! - `setting_out`: the points at which an ascent begins. `active`: the shores whose weights move.
 //! - `placing`: the shores with weights, placed in a pool.
 #![tactic(auto)]
 
 mod active;
 mod ascending;
 mod climbing;
-mod numbers;
 mod placing;
 mod scaling;
 mod scoring;
 mod setting_out;
 mod slopes;
 mod step_size;
-mod touring;
 
 pub use ascending::ascend;

@@ -6,10 +6,10 @@ ghost use Rattle.route_pricing.specs.Pricing.{IsServicePrice};
 ghost use Rattle.shore_prices.specs.Proposals.{IsGrown};
 ghost use Rattle.price_ascent.specs.Points.{IsActive};
 
-use crate::active::{Active, copy_of};
-use crate::numbers::number_at;
+use crate::active::Active;
 use carp_base::{Instance, Memory};
 use cut_pool::ShorePool;
+use price_points::{copy_of, number_at};
 use shore_prices::place_weight;
 use std::alloc::Global;
 

@@ -4,8 +4,8 @@ ghost use Rattle.deadhead_paths.specs.Prices.{ArePrices};
 ghost use Rattle.route_pricing.specs.Pricing.{IsServicePrice};
 
 use crate::active::Active;
-use crate::numbers::{UNIT, clamped, number_at};
 use carp_base::{Edge, Instance, Memory};
+use price_points::{UNIT, clamped, number_at};
 use std::alloc::Global;
 
 // No deadhead price is greater.

@@ -1,28 +1,21 @@
 // What a point is worth, and how the tours that it leaves least serve and cross.
 ghost use Rattle.std.specs.Prelude.{◌≡◌, ◌≤◌, All, IfOk, IfSome};
 ghost use Rattle.carp_base.specs.Problem.{IsRequired};
-ghost use Rattle.route_pricing.specs.Pricing.{IsServicePrice};
 ghost use Rattle.route_pricing.specs.Tables.{IsRoom};
 ghost use Rattle.route_pricing.specs.Values.{IsRate};
-ghost use Rattle.price_ascent.specs.Points.{AreServicePrices, IsFilledOn, IsPoint, IsTown};
+ghost use Rattle.price_ascent.specs.Points.{IsPoint};
+ghost use Rattle.price_points.specs.Services.{IsFilledOn};
+ghost use Rattle.price_points.specs.Towns.{IsTown};
 
 use crate::active::Active;
-use crate::numbers::{PARTS, UNIT, clamped, floor, number_at};
 use crate::scaling::{deadhead_prices, eased_weights};
-use crate::touring::{Cover, best_tour, excess_over, load_of, tour_over};
-use carp_base::{Allowed, Instance, Memory};
+use carp_base::{Instance, Memory};
 use deadhead_paths::{Distances, distances};
-use road_network::Network;
+use price_points::{
+    Cover, PARTS, Town, UNIT, best_tour, load_of, number_at, paying_prices, tour_over,
+};
 use route_pricing::{Rate, Table};
 use std::alloc::Global;
-
-/// An instance with its network, and the pairs that are not excluded.
-#[derive(Clone, Copy)]
-pub(crate) struct Town<'a> {
-    pub(crate) inst: &'a Instance,
-    pub(crate) net: &'a Network,
-    pub(crate) allowed: &'a Allowed,
-}
 
 /// Prices of services, and weights of the first shores that move. The others have none.
 #[derive(Drop)]
@@ -75,46 +68,8 @@ pub(crate) fn score(
     }))
 }
 
-// The prices that pay.
-fn paying_prices(
-    alloc: Global,
-    inst: &Instance,
-    table: &Table,
-    prices: &[i64],
-    rate: Rate,
-) -> Result<Vec<i64>, Memory>
-    requires filled { IsFilledOn inst.now table.now }
-    requires rate { IsRate rate }
-    ensures { IfOk result (λ paying. AreServicePrices inst.now paying.items) }
-{
-    // What a read of the instance says is needed: that it is valid.
-    let _ = inst.vertices();
-    let mut paying = Vec::with_capacity(alloc, inst.required() as usize)?;
-    for place in 0..inst.required() {
-        paying.push(paying_price(inst, table, prices, place + 1, rate))?;
-    }
-    Ok(paying)
-}
-
-// The price of an edge with its part of the rate, and of the excess of the tours through it, which counts by the load of the rate.
-fn paying_price(inst: &Instance, table: &Table, prices: &[i64], e: u32, rate: Rate) -> i64
-    requires filled { IsFilledOn inst.now table.now }
-    requires edge { IsRequired inst.now e }
-    requires rate { IsRate rate }
-    ensures { IsServicePrice result }
-{
-    let _ = inst.vertices();
-    let price = number_at(prices, e as usize - 1);
-    let excess = excess_over(inst, table, e, rate);
-    let demand = i128::from(inst.edge(e).demand);
-    let share = floor(rate.value.saturating_mul(demand), rate.load);
-    let spare = floor(excess.max(0), rate.load);
-    let more = floor(spare.saturating_mul(demand), inst.capacity());
-    clamped(i128::from(price).saturating_add(share).saturating_add(more))
-}
-
-// What the least tours serve and cross: the one through each edge counts by the edge's part of a vehicle, and what is left of the
-// demands is carried by a tour of the least rate.
+// What the least tours serve and cross: the one through each edge counts by the edge's part of a vehicle, and what is
+// left of the demands is carried by a tour of the least rate.
 fn cover_of(
     alloc: Global,
     inst: &Instance,

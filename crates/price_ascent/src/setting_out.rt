@@ -1,14 +1,16 @@
 // The points where an ascent begins.
-ghost use Rattle.std.specs.Prelude.{◌≡◌, ◌<◌, ◌≤◌, All, IfOk, length};
+ghost use Rattle.std.specs.Prelude.{◌≡◌, All, IfOk, length};
 ghost use Rattle.carp_base.specs.Problem.{IsRequired};
 ghost use Rattle.route_pricing.specs.Pricing.{IsServicePrice};
-ghost use Rattle.price_ascent.specs.Points.{AreServicePrices, IsPoint, IsTown};
+ghost use Rattle.price_ascent.specs.Points.{IsPoint};
+ghost use Rattle.price_points.specs.Services.{AreServicePrices};
+ghost use Rattle.price_points.specs.Towns.{IsTown};
 
-use crate::numbers::{UNIT, clamped, floor, quotient};
-use crate::scoring::{Point, Town};
+use crate::scoring::Point;
 use branch_rules::PriceSet;
 use carp_base::{Instance, Memory};
 use deadhead_paths::{Distances, cost_prices, distances};
+use price_points::{Town, UNIT, clamped, floor, start_prices, start_weights};
 use std::alloc::Global;
 
 /// The numbers of a set by the denominator of the proposals: prices rounded down, and weights towards 0.
@@ -20,44 +22,6 @@ pub(crate) fn start_point(alloc: Global, inst: &Instance, set: &PriceSet) -> Res
         prices: start_prices(alloc, inst, set)?,
         weights: start_weights(alloc, set)?,
     })
-}
-
-fn start_prices(alloc: Global, inst: &Instance, set: &PriceSet) -> Result<Vec<i64>, Memory>
-    requires { length set.now.services ≡ inst.now.required }
-    ensures { IfOk result (λ prices. AreServicePrices inst.now prices.items) }
-{
-    let mut prices = Vec::with_capacity(alloc, inst.required() as usize)?;
-    for place in 0..inst.required() {
-        prices.push(start_price(set, place + 1))?;
-    }
-    Ok(prices)
-}
-
-fn start_price(set: &PriceSet, e: u32) -> i64
-    requires from_one { 1 ≤ e }
-    requires in_range { e ≤ length set.now.services }
-    ensures { IsServicePrice result }
-{
-    let whole = i128::from(set.service(e)).saturating_mul(i128::from(UNIT));
-    clamped(floor(whole, set.unit()))
-}
-
-fn start_weights(alloc: Global, set: &PriceSet) -> Result<Vec<i64>, Memory>
-    ensures { IfOk result (λ weights. All IsServicePrice weights.items) }
-{
-    let mut weights = Vec::with_capacity(alloc, set.weights())?;
-    for place in 0..set.weights() {
-        weights.push(start_weight(set, place))?;
-    }
-    Ok(weights)
-}
-
-fn start_weight(set: &PriceSet, place: usize) -> i64
-    requires { place < length set.now.weights }
-    ensures { IsServicePrice result }
-{
-    let whole = i128::from(set.weight(place).weight).saturating_mul(i128::from(UNIT));
-    clamped(quotient(whole, i128::from(set.unit())))
 }
 
 /// The point where an ascent sets out: half of the weights, and half of what each edge is to pay if full vehicles drive

@@ -1,13 +1,13 @@
 // In which direction the numbers of a point move, and how far.
 ghost use Rattle.std.specs.Prelude.{◌≡◌, ◌≤ℤ◌, pos, All, IfOk, length};
 ghost use Rattle.route_pricing.specs.Pricing.{IsServicePrice};
-ghost use Rattle.price_ascent.specs.Points.{AreServicePrices, IsActive, IsPoint};
+ghost use Rattle.price_ascent.specs.Points.{IsActive, IsPoint};
+ghost use Rattle.price_points.specs.Services.{AreServicePrices};
 
 use crate::active::Active;
-use crate::numbers::{PARTS, clamped, number_at, quotient};
 use crate::scoring::Point;
-use crate::touring::Cover;
 use carp_base::{Instance, Memory};
+use price_points::{Cover, PARTS, clamped, number_at, quotient};
 use std::alloc::Global;
 
 /// For each number of a point, by how many parts it is to rise.

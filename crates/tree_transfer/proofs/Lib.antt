@@ -14,7 +14,9 @@ pub mod SmallStreets
 mod Entries
 mod Forests
 mod LightSets
+mod Marks
 mod Moving
 mod Nodes
 mod SmallTrees
+mod StandIns
 mod Values

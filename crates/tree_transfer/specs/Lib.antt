@@ -8,4 +8,7 @@ pub mod Shown
 pub mod Carrying
 pub mod Bounding
 pub mod Noting
+pub mod Named
+pub mod NamedLaws
+pub mod Naming
 pub mod Samples

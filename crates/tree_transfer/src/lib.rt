@@ -8,10 +8,12 @@
 //! shows each bound that the older tree showed ([`carried_trees_show`]), if its fixed branches have values.
 //!
 //! [`greatest_bound`] says what such a tree shows with the price sets that it names, and [`note_nodes`] what each of
-//! its nodes shows. Laws say which facts about the old instance are facts about the new one.
+//! its nodes shows. [`keep_named_sets`] leaves the other sets out. Laws say which facts about the old instance are facts
+//! about the new one.
 //!
 //! - `carrying`: a tree that is carried over, node by node.
 //! - `bounding`, `noting`: the greatest bound that a tree shows, and that of each node.
+//! - `naming`: the price sets that a tree names.
 //! - `laws`, `carried_laws`: what is proved of raised instances, and of carried trees.
 #![tactic(auto)]
 
@@ -23,6 +25,9 @@ mod carried_laws;
 mod carrying;
 mod examples;
 mod laws;
+mod naming;
+#[cfg(test)]
+mod naming_tests;
 mod noting;
 #[cfg(test)]
 mod samples;
@@ -36,4 +41,5 @@ pub use laws::{
     edits_raise_instances, raised_fixed_values_are_no_less, raised_needs_are_no_less,
     raised_rooms_are_no_more, raised_sets_stay_fit,
 };
+pub use naming::{keep_named_sets, named_sets_suffice};
 pub use noting::note_nodes;

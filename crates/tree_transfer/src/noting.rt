@@ -1,5 +1,5 @@
 // The nodes of a tree, each with the greatest bound that it shows.
-ghost use Rattle.std.specs.Prelude.{◌≡◌, ◌+◌, ◌<◌, IfOk, OnOk, length};
+ghost use Rattle.std.specs.Prelude.{◌≡◌, ◌+◌, ◌<◌, IfOk, OnOk, length, map};
 ghost use Rattle.std.specs.List.{All};
 ghost use Rattle.deadhead_paths.specs.Prices.{costs_of};
 ghost use Rattle.branch_rules.specs.Limits.{IsNodeIn};
@@ -34,7 +34,8 @@ pub fn note_nodes(
     requires nodes { AreTreeNodes inst.now pool.now tree.now.nodes }
     requires shows { WouldShowSome (record { problem = inst.now; pool = pool.now; sets = sets.now }) tree.now.nodes }
     requires shores { HasShores (record { problem = inst.now; pool = pool.now; sets = sets.now }) }
-    ensures { IfOk result (λ entries. AreNotedNodes (record { problem = inst.now; pool = pool.now; sets = sets.now }) tree.now.nodes entries.items) }
+    ensures noted { IfOk result (λ entries. AreNotedNodes (record { problem = inst.now; pool = pool.now; sets = sets.now }) tree.now.nodes entries.items) }
+    ensures nodes { IfOk result (λ entries. map (λ entry. entry.node) entries.items ≡ tree.now.nodes) }
 {
     let given = Given {
         inst,

@@ -59,7 +59,7 @@ fn node_of(kind: u8, a: u32, b: u32) -> Node {
 }
 
 // The nodes of a text of nodes of three signs.
-fn nodes_of(alloc: Global, text: &str) -> Result<Vec<Node>, Fail> {
+pub(crate) fn nodes_of(alloc: Global, text: &str) -> Result<Vec<Node>, Fail> {
     let mut nodes = Vec::new(alloc);
     for signs in text.as_bytes().chunks_exact(3) {
         let &[kind, first, second] = signs else {

@@ -1,16 +1,18 @@
-use Rattle.std.proofs.Common.{ℕ, ◌+◌, List, arith, min, subst, sym}
+use Rattle.std.proofs.Common.{◌≡◌, ◌∙◌, ◌+◌, List, All, ap, arith, drop, length, min, subst, sym}
+use Rattle.std.proofs.lemmas.List.{take_at}
 use Rattle.std.proofs.lemmas.Result.{IfOk-weaker}
 use Rattle.branch_rules.specs.Prices.{Prices}
 use Rattle.plan_model.specs.Plans.{plan_cost}
-use Rattle.grown_trees.specs.Growth.{turns_in}
+use Rattle.grown_trees.specs.Growth.{IsSpelledNode, turns_in}
 use Rattle.grown_trees.specs.declared.growing.GrowingNode.{GrowingNode}
 use Rattle.branch_tree.specs.Resumes.{MayResume}
 use Rattle.cert_format.specs.Certs.{certificate_in}
-use Rattle.tree_transfer.specs.Shown.{AreNotedNodes, HasShores, WouldShowSome}
+use Rattle.tree_transfer.specs.Shown.{HasShores, WouldShowSome}
 use Rattle.carp_engine.specs.Certifying.{IsSearched}
 use Rattle.carp_engine.proofs.Better.{asked_or_closed, improved}
 use Rattle.carp_engine.proofs.Certified.{Laws}
-use Rattle.carp_engine.proofs.Olds.{had, may_resume, shores, tree_nodes, would_show}
+use Rattle.carp_engine.proofs.Named.{had_before, may_go_on, spelled_entries, taken_up}
+use Rattle.carp_engine.proofs.Olds.{shores, spelled_nodes, tree_nodes, would_show}
 use Rattle.carp_engine.proofs.Sound.{no_dearer}
 use Rattle.carp_engine.proofs.improving.improve.Goals as goal
 
@@ -30,30 +32,42 @@ note_nodes-requires-clause-shores g c =
 pub search_on-requires-clause-allowed : goal.search_on-requires-clause-allowed
 search_on-requires-clause-allowed g c = c.short_plans_are_allowed.ensures c.args.inst.now c.ask_all.new.best c.vertices.ensures.valid c.ask_all.ensures.short
 
+pub keep_named_sets-requires : goal.keep_named_sets-requires
+keep_named_sets-requires g c =
+    let sets = length c.args.cert.sets.items in
+    subst (All (λ (e : GrowingNode). IsSpelledNode sets e.node)) (sym c.deref_mut.ensures.value)
+    (spelled_entries sets c.in_ok-nodes.nodes.items c.args.cert.tree.nodes c.in_ok-nodes.ensures.nodes
+    (spelled_nodes c.spellable_is_fine.ensures c.fixed_values_compare.ensures.unique c.args.inst.now (certificate_in c.args.cert) c.requires.spellable c.requires.good))
+
 pub search_on-requires-clause-may : goal.search_on-requires-clause-may
 search_on-requires-clause-may g c =
     let p = c.args.inst.now in
     let old = certificate_in c.args.cert in
-    subst (λ (entries : List GrowingNode). MayResume p c.args.cert.shores c.args.cert.sets.items c.args.cert.bound entries) (sym c.deref-2.ensures.value)
-    (may_resume c.spellable_is_fine.ensures c.fixed_values_compare.ensures.unique p old c.requires.spellable c.requires.good
-    (c.good_is_proof.ensures p old c.vertices.ensures.valid c.requires.good).bounds c.in_ok-nodes.nodes.items
-    (subst (λ (sets : List Prices). AreNotedNodes (record { problem = p; pool = c.args.cert.shores; sets = sets }) c.args.cert.tree.nodes c.in_ok-nodes.nodes.items) c.deref.ensures.value c.in_ok-nodes.ensures))
+    let nodes = c.in_ok-nodes.nodes in
+    let taken = taken_up p old c.deref.ensures.value c.in_ok-nodes.ensures.noted c.deref_mut.ensures.value c.in_ok-sets.ensures.named in
+    let long : length c.keep_named_sets.new.nodes ≡ nodes.len = omega (arith, c.keep_named_sets.auto.nodes, ap length c.deref_mut.ensures.value, nodes.ok.0) in
+    let here : c.deref-2.result.now ≡ c.keep_named_sets.new.nodes = c.deref-2.ensures.value ∙ take_at c.keep_named_sets.new.nodes (drop (length c.keep_named_sets.new.nodes) nodes.items) nodes.len long in
+    subst (MayResume p old.shores c.in_ok-sets.sets.items old.bound) (sym here)
+    (may_go_on c.spellable_is_fine.ensures c.fixed_values_compare.ensures.unique c.named_sets_suffice.ensures p old c.requires.spellable c.requires.good
+    (c.good_is_proof.ensures p old c.vertices.ensures.valid c.requires.good).bounds taken c.in_ok-sets.ensures.no_more)
 
 pub returns-clause-improved : goal.returns-clause-improved
 returns-clause-improved g c =
     let p = c.args.inst.now in
     let old = certificate_in c.args.cert in
     let best = c.ask_all.new.best in
-    let entries = c.in_ok-nodes.nodes.items in
+    let nodes = c.in_ok-nodes.nodes in
+    let after = c.keep_named_sets.new.nodes in
     let laws : Laws = record { trees = c.tree_bounds.ensures; counts = c.counts_are_in_range.ensures; spelled = c.fine_is_spellable.ensures; shores = c.shores_are_fine.ensures; costs = c.short_plans_cost_little.ensures; edges = c.plans_are_on_edges.ensures } in
-    let noted =
-    subst (λ (sets : List Prices). AreNotedNodes (record { problem = p; pool = c.args.cert.shores; sets = sets }) c.args.cert.tree.nodes entries) c.deref.ensures.value c.in_ok-nodes.ensures in
+    let taken = taken_up p old c.deref.ensures.value c.in_ok-nodes.ensures.noted c.deref_mut.ensures.value c.in_ok-sets.ensures.named in
+    let long : length after ≡ nodes.len = omega (arith, c.keep_named_sets.auto.nodes, ap length c.deref_mut.ensures.value, nodes.ok.0) in
+    let here : c.deref-2.result.now ≡ after = c.deref-2.ensures.value ∙ take_at after (drop (length after) nodes.items) nodes.len long in
     let before =
-    had c.spellable_is_fine.ensures c.fixed_values_compare.ensures.unique p old c.requires.spellable c.requires.good c.resumed_trees_have_turns.ensures
-    (c.good_is_proof.ensures p old c.vertices.ensures.valid c.requires.good).bounds entries noted in
+    had_before c.spellable_is_fine.ensures c.fixed_values_compare.ensures.unique c.named_sets_suffice.ensures p old c.requires.spellable c.requires.good
+    (c.good_is_proof.ensures p old c.vertices.ensures.valid c.requires.good).bounds taken c.resumed_trees_have_turns.ensures in
     IfOk-weaker c.search_on.result _ _
-    (λ solved searched. improved laws p old entries c.args.turns best c.ask_all.ensures.short (omega (arith, c.ask_all.ensures.no_dearer, c.in_ok-plan.ensures.cost, c.requires.good.cost)) before _ _
-    (subst (λ (xs : List GrowingNode). IsSearched p old.bound (min (turns_in (plan_cost p best) xs + c.args.turns) 1048576) best (certificate_in solved.cert) solved.turns) c.deref-2.ensures.value searched))
+    (λ solved searched. improved laws p old after c.args.turns best c.ask_all.ensures.short (omega (arith, c.ask_all.ensures.no_dearer, c.in_ok-plan.ensures.cost, c.requires.good.cost)) before _ _
+    (subst (λ (xs : List GrowingNode). IsSearched p old.bound (min (turns_in (plan_cost p best) xs + c.args.turns) 1048576) best (certificate_in solved.cert) solved.turns) here searched))
     c.search_on.ensures
 
 pub returns-clause-ended : goal.returns-clause-ended

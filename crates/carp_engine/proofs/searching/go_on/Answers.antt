@@ -9,7 +9,7 @@ ended_by bound least cost budget given done turns given_is whole is done_is (inl
 ended_by bound least cost budget given done turns given_is whole is done_is (inr spent) = inr (omega (arith, spent, done_is, given_is))
 
 pub returns : goal.returns
-returns c =
+returns g c =
     let p = c.args.inst.now in
     let s = c.take_turns.new.search in
     let found = c.in_ok-found.found in

@@ -6,7 +6,7 @@ use Rattle.carp_engine.specs.Certifying.{IsSearched}
 use Rattle.carp_engine.proofs.searching.search.Goals as goal
 
 pub returns : goal.returns
-returns c =
+returns g c =
     let p = c.args.inst.now in
     let s = c.in_ok-search.search in
     let begun = c.in_ok-search.ensures in

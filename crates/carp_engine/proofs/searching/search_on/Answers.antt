@@ -8,7 +8,7 @@ use Rattle.carp_engine.specs.Certifying.{IsSearched}
 use Rattle.carp_engine.proofs.searching.search_on.Goals as goal
 
 pub returns : goal.returns
-returns c =
+returns g c =
     let p = c.args.inst.now in
     let s = c.in_ok-search.search in
     let resumed = c.in_ok-search.ensures.resumed in

@@ -4,7 +4,7 @@ use Rattle.branch_tree.specs.Searches.{IsSearch}
 use Rattle.carp_engine.proofs.searching.take_turns.Given as goal
 
 abbrev pub invariant-loop-search : goal.invariant-loop-search
-invariant-loop-search l = IsSearch l.inst l.search × (l.search.turns ≡ l.turns) × (l.search.cost ≤ l.fn.search.cost) × (l.search.least ≡ l.fn.search.least) × (IsShortPlan l.inst l.fn.search.best → IsShortPlan l.inst l.search.best)
+invariant-loop-search g l = IsSearch l.inst l.search × (l.search.turns ≡ l.turns) × (l.search.cost ≤ l.fn.search.cost) × (l.search.least ≡ l.fn.search.least) × (IsShortPlan l.inst l.fn.search.best → IsShortPlan l.inst l.search.best)
 
 abbrev pub decreases-loop-search : goal.decreases-loop-search
-decreases-loop-search l = l.turns - l.search.done
+decreases-loop-search g l = l.turns - l.search.done

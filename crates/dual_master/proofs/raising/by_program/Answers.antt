@@ -1,22 +1,15 @@
-use Rattle.std.proofs.Common.{rules}
-use Rattle.dual_master.proofs.Raised.{no_lower_before, still_fits, still_there}
+use Rattle.dual_master.proofs.Raised.{none_of, raised_since, still_fits, still_there}
 use Rattle.dual_master.proofs.raising.by_program.Goals as goal
 
-pub is_better-requires-clause-other_shores : goal.is_better-requires-clause-other_shores
-is_better-requires-clause-other_shores c =
+pub if_better-requires-clause-shores : goal.if_better-requires-clause-shores
+if_better-requires-clause-shores c =
     still_there c.growth_keeps_sets.ensures c.args.inst.now c.args.branch.now c.args.pool.now c.shore_prices.new.pool c.shore_prices.ensures.grown c.args.start.now c.requires.shores
 
-pub is_better-requires-clause-other_fits : goal.is_better-requires-clause-other_fits
-is_better-requires-clause-other_fits c =
+pub if_better-requires-clause-fits : goal.if_better-requires-clause-fits
+if_better-requires-clause-fits c =
     still_fits c.growth_keeps_sets.ensures c.args.inst.now c.args.branch.now c.args.pool.now c.shore_prices.new.pool c.shore_prices.ensures.grown c.args.start.now c.requires.shores c.requires.fits
 
 pub returns-clause-raised : goal.returns-clause-raised
 returns-clause-raised c =
-    let p = c.args.inst.now in
-    let branch = c.args.branch.now in
-    record {
-      fits = search rules;
-      shores = c.in_ok-offered.ensures.proposed.shores;
-      no_groups = c.in_ok-offered.ensures.proposed.no_groups;
-      no_lower = no_lower_before c.growth_keeps_sets.ensures p branch c.args.pool.now c.shore_prices.new.pool c.shore_prices.ensures.grown c.args.start.now c.requires.shores c.in_ok-offered.offered (search rules);
-    }
+    raised_since c.growth_keeps_sets.ensures c.args.inst.now c.args.branch.now c.args.pool.now c.shore_prices.new.pool c.shore_prices.ensures.grown c.args.start.now c.requires.shores
+    c.in_ok-offered.offered c.in_ok-offered.ensures.proposed.shores (none_of c.args.inst.now c.in_ok-offered.offered c.in_ok-offered.ensures.proposed.no_groups) c.if_better.result c.if_better.ensures.accepted

@@ -3,7 +3,7 @@ use Rattle.std.proofs.lemmas.Result.{IfOk-weaker}
 use Rattle.branch_rules.specs.Limits.{IsPriceSet}
 use Rattle.branch_rules.specs.Prices.{Prices}
 use Rattle.dual_master.specs.Raising.{IsRaised}
-use Rattle.dual_master.proofs.Raised.{no_lower_since, no_lower_through, none_kept, still_fits}
+use Rattle.dual_master.proofs.Raised.{no_lower_since, no_lower_through, of_instance, still_fits}
 use Rattle.dual_master.proofs.raising.raise.Goals as goal
 
 pub climb-requires-in-None-clause-fits : goal.climb-requires-in-None-clause-fits
@@ -30,4 +30,4 @@ returns-in-Some-clause-no_lower c =
 pub returns-in-Some-clause-groups : goal.returns-in-Some-clause-groups
 returns-in-Some-clause-groups c =
     let raised = subst (λ (found : Option Prices). IfSome found (IsRaised c.args.inst.now c.args.branch.now c.args.pool.now c.args.start.now c.by_program.new.pool)) c.in-Some.is c.in_ok-better.ensures.raised in
-    IfOk-weaker c.climb.result _ _ (λ set kept. inr (none_kept c.in-Some.set set kept raised.no_groups)) c.climb.ensures.groups
+    IfOk-weaker c.climb.result _ _ (λ set kept. inr (of_instance c.args.inst.now c.in-Some.set set kept raised.groups)) c.climb.ensures.groups
