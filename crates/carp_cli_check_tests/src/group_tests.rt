@@ -91,7 +91,8 @@ fn groups_line(alloc: Global, sizes: &[usize]) -> Result<String, Fail> {
 // So many, and the numbers from 1 up to it.
 fn push_first(alloc: Global, line: &mut String, size: usize) -> Result<(), Fail> {
     line.push_str(size.to_string(alloc)?.as_str())?;
-    for edge in 1..size + 1 {
+    for place in 0..size {
+        let edge = place + 1;
         line.push(' ')?;
         line.push_str(edge.to_string(alloc)?.as_str())?;
     }

@@ -65,7 +65,7 @@ fn a_plan_of_100_000_tours_is_improved(rt: HostRuntime) -> Result<(), Fail> {
 
 // The tours of twenty streets side by side, two in each.
 fn push_tours(alloc: Global, text: &mut String) -> Result<(), Fail> {
-    for k in 0..10 {
+    for k in 0..10_u32 {
         let (one, two) = (2 * k + 1, 2 * k + 2);
         text.push_str(format!(in alloc; "tour 2 +{one} -{two}~")?.as_str())?;
     }
