@@ -45,11 +45,12 @@ pub(crate) struct PricedSet {
 /// and a pool whose shores belong to the instance. The only error is want of memory. Afterwards the table is filled for
 /// the set that is given.
 ///
-/// A number that cannot be raised costs no fill of the table. One that can be raised costs a fill for each try, mostly
-/// one to three and some 60 at most. A price whose last try does not fit costs one more, and one fill stands between
-/// weights and prices. With E edges, m required edges, d decisions, k weights and a capacity of Q, the relation of
-/// pairs takes time in proportion to m * m + d, each shore that is looked at to E, and each price to Q. Each try takes
-/// time in proportion to E * k and to the distances by its deadhead prices, besides its fill.
+/// A price that cannot be raised costs no fill of the table, and a weight mostly one. One that can be raised costs a
+/// fill for each try, mostly one to three of a price and up to ten of a weight, and some 70 at most. A price whose last
+/// try does not fit costs one more, and one fill stands between weights and prices. With E edges, m required edges, d
+/// decisions, k weights and a capacity of Q, the relation of pairs takes time in proportion to m * m + d, each shore
+/// that is looked at to E, and each price to Q. Each try takes time in proportion to E * k and to the distances by its
+/// deadhead prices, besides its fill.
 pub fn tighten(
     alloc: Global,
     inst: &Instance,
@@ -206,7 +207,7 @@ fn raise_weight(
         set: priced.set,
         most,
         filled: false,
-        guess: most,
+        guess: 1,
         tries: 0,
     };
     let found = highest(alloc, setting, table, start, place)?;

@@ -26,7 +26,10 @@ pub(crate) struct Search {
 }
 
 /// After so many tries the way that is left is halved by each.
-const QUICK: u32 = 8;
+const QUICK: u32 = 12;
+
+/// A weight rises by so many times as much as in the try before, while tries fit.
+const FASTER: u64 = 16;
 
 /// Raises a number of a set that fits as far as it goes.
 pub(crate) fn highest(
@@ -99,7 +102,7 @@ fn accepted(table: &Table, search: &Search, trial: PriceSet, place: Place, more:
         set: trial,
         most,
         filled: true,
-        guess: upper_guess(place, most, search.tries),
+        guess: upper_guess(place, most, search, more),
         tries: search.tries.saturating_add(1),
     }
 }
@@ -149,13 +152,15 @@ fn capped(value: i128, most: u64) -> u64
     }
 }
 
-// What is tried after a trial that fits. A price is bounded well by its tours; of a weight it is likely that it rises no further.
-fn upper_guess(place: Place, most: u64, tries: u32) -> u64 {
-    if tries >= QUICK {
+// What is tried after a trial that fits. A price is bounded well by its tours. A weight mostly rises by a few parts, so
+// its tries grow from 1 (exponential search); after one that did not fit it is likely that the weight rises no further.
+fn upper_guess(place: Place, most: u64, search: &Search, more: u64) -> u64 {
+    if search.tries >= QUICK {
         return most / 2 + 1;
     }
     match place {
         Place::Edge(_) => most,
+        Place::Shore(_) if search.filled => more.saturating_mul(FASTER),
         Place::Shore(_) => 1,
     }
 }
