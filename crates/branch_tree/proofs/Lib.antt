@@ -13,3 +13,4 @@ mod Root
 mod Finding
 mod Groups
 mod Shortness
+mod Tightness

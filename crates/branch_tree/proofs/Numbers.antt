@@ -127,3 +127,21 @@ at_most_more unit base less more within most =
 -- what a value shows, one that is no lower shows too
 pub still_shown : (unit : ℕ) (value other : ℤ) → value ≤ℤ other → IsShown unit value 0 → IsShown unit other 0
 still_shown unit value other no_lower shown = omega (arith, ints, no_lower, shown)
+
+-- a value that is no less, divided by its denominator, than one that shows the bound 0 shows it
+pub shown_through : (from to : ℕ) (v w : ℤ) → 1 ≤ from → 1 ≤ to → IsShown from v 0 → (pos to *ℤ v) ≤ℤ (pos from *ℤ w) → IsShown to w 0
+shown_through from to v (pos w) some to_some shown no_lower = shown_0 to (pos w) to_some (omega (arith, ints))
+shown_through from to (pos v) (negsuc w) some to_some shown no_lower =
+    let low : from * 1 ≤ from * suc w = mul-le-mul_left from (omega arith) in
+    absurd (omega (arith, ints, no_lower, neg_times from (suc w), low, some))
+shown_through from to (negsuc v) (negsuc w) some to_some shown no_lower = elim (cases_lt (suc w) to) [
+  | inl less ↦ omega (arith, ints, neg_times to 1, less)
+  | inr within ↦
+      let above : suc v + 1 ≤ from = omega (arith, ints, neg_times from 1, shown) in
+      let low : from * to ≤ from * suc w = mul-le-mul_left from within in
+      let high : to * (suc v + 1) ≤ to * from = mul-le-mul_left to above in
+      let one : to * (suc v + 1) ≡ to * suc v + to = omega arith in
+      let turned : from * to ≡ to * from = omega arith in
+      let most : from * suc w ≤ to * suc v = omega (arith, ints, no_lower, neg_times from (suc w), neg_times to (suc v)) in
+      absurd (omega (arith, low, high, one, turned, most, to_some))
+]

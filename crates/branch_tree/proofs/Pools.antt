@@ -27,11 +27,11 @@ use Rattle.branch_tree.proofs.Groups.{kept_in_range}
 use Rattle.branch_tree.specs.Searches.{HasGroupsInRange, IsHeld, IsHeldSet, State, support_in}
 use Rattle.branch_tree.specs.Values.{just_above}
 
-grown_at : (pool more : List (List ℕ)) (i : ℕ) → IsShoreNumber pool i → shore_at (pool ++ more) i ≡ shore_at pool i
+pub grown_at : (pool more : List (List ℕ)) (i : ℕ) → IsShoreNumber pool i → shore_at (pool ++ more) i ≡ shore_at pool i
 grown_at pool more zero is = absurd (omega (arith, is.from_one))
 grown_at pool more (suc k) is = get_or_append_left pool more [] k (omega (arith, is.in_range))
 
-shore_of_grown : (p : Problem) (pool more : List (List ℕ)) (i : ℕ) → IsShoreOf p pool i → IsShoreOf p (pool ++ more) i
+pub shore_of_grown : (p : Problem) (pool more : List (List ℕ)) (i : ℕ) → IsShoreOf p pool i → IsShoreOf p (pool ++ more) i
 shore_of_grown p pool more i is = record {
   number = record { from_one = is.number.from_one; in_range = omega (arith, is.number.in_range, length-append pool more) };
   belongs = subst (Belongs p) (sym (grown_at pool more i is.number)) is.belongs;

@@ -11,6 +11,7 @@ use crate::search::Search;
 use crate::values::shown_under;
 use branch_rules::{Branch, PriceSet, prices_bound};
 use carp_base::{Instance, Memory};
+use column_generation::LeafPrograms;
 use cut_pool::ShorePool;
 use deadhead_paths::Distances;
 use dual_master::{floors, level_sets_are_there};
@@ -69,6 +70,7 @@ impl Search {
             tree,
             sets,
             pool: floor.pool,
+            programs: LeafPrograms::new(alloc),
             best,
             cost,
             done,

@@ -2,7 +2,7 @@
 ghost use Rattle.std.specs.Prelude.{◌≡◌, ◌-◌, ◌+◌, ◌≤◌, ◌<◌, All, IfOk, IfSome, IsFalse, IsTrue, MatchOption};
 ghost use Rattle.carp_base.specs.Problem.{IsRequired};
 ghost use Rattle.decision_chains.specs.Exclusions.{IsDetermined, PermitsUnexcluded};
-ghost use Rattle.decision_chains.specs.Pairs.{ArePairsIn};
+ghost use Rattle.decision_chains.specs.Pairs.{ArePairsIn, IsPairWithin};
 ghost use Rattle.branch_rules.specs.Decisions.{cuts_of, IsFixed, IsVoid};
 ghost use Rattle.branch_rules.specs.Limits.{AreShoresIn, IsNodeIn, IsShoreOf};
 ghost use Rattle.branch_rules.specs.Trees.{IsLeanNode};
@@ -20,8 +20,9 @@ use std::alloc::Global;
 const MOST_K: u64 = 1_000_000;
 
 // A node that splits a branch that is neither void nor fixed. A bound greater by `gap` would close the leaf. The node
-// is the cut of the shore of the greatest weight at its lower number, if that cut may be made and two more deadheads
-// over the shore raise the value of the set by so much. Else it is the first pair of edges that is not determined.
+// is the one that is proposed, if it may stand. Else it is the cut of the shore of the greatest weight at its lower
+// number, if that cut may be made and two more deadheads over the shore raise the value of the set by so much. Else it
+// is the first pair of edges that is not determined.
 pub(crate) fn choose_split(
     alloc: Global,
     inst: &Instance,
@@ -29,6 +30,7 @@ pub(crate) fn choose_split(
     branch: &Branch,
     set: &PriceSet,
     gap: u64,
+    proposed: Option<Node>,
 ) -> Result<Node, Memory>
     requires pairs { ArePairsIn inst.now branch.now }
     requires shores { AreShoresIn inst.now pool.now branch.now }
@@ -43,11 +45,92 @@ pub(crate) fn choose_split(
 {
     yes_pairs_join();
     excluded_is_symmetric();
+    if let Some(node) = lean_proposal(alloc, inst, pool, branch, proposed)? {
+        return Ok(node);
+    }
     let cut = lean_cut(alloc, inst, pool, branch, set, gap)?;
     match cut {
         Some(node) => Ok(node),
         None => the_open_pair(alloc, inst, branch),
     }
+}
+
+// The node that is proposed, if it may stand under a branch.
+fn lean_proposal(
+    alloc: Global,
+    inst: &Instance,
+    pool: &ShorePool,
+    branch: &Branch,
+    proposed: Option<Node>,
+) -> Result<Option<Node>, Memory>
+    requires pairs { ArePairsIn inst.now branch.now }
+    ensures inner { IfOk result (λ found. IfSome found IsInner) }
+    ensures inside { IfOk result (λ found. IfSome found (IsNodeIn inst.now pool.now)) }
+    ensures fine { IfOk result (λ found. IfSome found IsFineNode) }
+    ensures spelled { IfOk result (λ found. IfSome found (IsSpelledNode 0)) }
+    ensures lean { IfOk result (λ found. IfSome found (IsLeanNode inst.now pool.now branch.now (4 - cuts_of branch.now))) }
+{
+    match proposed {
+        Some(node) => if_lean(alloc, inst, pool, branch, node),
+        None => Ok(None),
+    }
+}
+
+// A node, if it is an inner one of the instance and the pool, within the limits, and may stand under a branch.
+fn if_lean(
+    alloc: Global,
+    inst: &Instance,
+    pool: &ShorePool,
+    branch: &Branch,
+    node: Node,
+) -> Result<Option<Node>, Memory>
+    requires pairs { ArePairsIn inst.now branch.now }
+    ensures inner { IfOk result (λ found. IfSome found IsInner) }
+    ensures inside { IfOk result (λ found. IfSome found (IsNodeIn inst.now pool.now)) }
+    ensures fine { IfOk result (λ found. IfSome found IsFineNode) }
+    ensures spelled { IfOk result (λ found. IfSome found (IsSpelledNode 0)) }
+    ensures lean { IfOk result (λ found. IfSome found (IsLeanNode inst.now pool.now branch.now (4 - cuts_of branch.now))) }
+{
+    if !is_inner_in(inst, pool, &node) {
+        return Ok(None);
+    }
+    let may = branch.lean(alloc, inst, pool, &node)?;
+    if may { Ok(Some(node)) } else { Ok(None) }
+}
+
+// Whether a node is an inner one of the instance and the pool, within the limits.
+fn is_inner_in(inst: &Instance, pool: &ShorePool, node: &Node) -> bool
+    ensures inner { IsTrue result → IsInner node.now }
+    ensures inside { IsTrue result → IsNodeIn inst.now pool.now node.now }
+    ensures fine { IsTrue result → IsFineNode node.now }
+    ensures spelled { IsTrue result → IsSpelledNode 0 node.now }
+{
+    match *node {
+        Node::Pair { a, b } => is_pair_in(inst, a, b),
+        Node::Cut { shore, k } => is_cut_in(inst, pool, shore, k),
+        _ => false,
+    }
+}
+
+// Whether a pair is of required edges, the first one below the second.
+fn is_pair_in(inst: &Instance, a: u32, b: u32) -> bool
+    ensures within { IsTrue result → IsPairWithin inst.now.required a b }
+    ensures rising { IsTrue result → a < b }
+{
+    let last = inst.required();
+    1 <= a && a < b && b <= last
+}
+
+// Whether a cut is on a shore of the pool that belongs to the instance, with a number within the limit.
+fn is_cut_in(inst: &Instance, pool: &ShorePool, shore: u32, k: u64) -> bool
+    ensures inside { IsTrue result → IsShoreOf inst.now pool.now shore }
+    ensures few { IsTrue result → k ≤ 1000000 }
+{
+    let last = pool.len();
+    if shore < 1 || shore > last || k > MOST_K {
+        return false;
+    }
+    pool.shore(shore).belongs(inst)
 }
 
 // The cut on the shore of the greatest weight, if it may be made and closes the high child.
@@ -72,12 +155,7 @@ fn lean_cut(
         return Ok(None);
     };
     let k = branch.lower(inst, pool, shore);
-    if k > MOST_K {
-        return Ok(None);
-    }
-    let node = Node::Cut { shore, k };
-    let may = branch.lean(alloc, inst, pool, &node)?;
-    if may { Ok(Some(node)) } else { Ok(None) }
+    if_lean(alloc, inst, pool, branch, Node::Cut { shore, k })
 }
 
 // The shore of the greatest weight, if twice the weight is at least so much.

@@ -9,8 +9,8 @@
 //!
 //! - `search`, `beginning`, `resuming`, `finishing`: the search, how it begins and goes on, and what it has found.
 //! - `stepping`, `kinds`, `closing`: one turn, what a branch is, and steps that close a leaf.
-//! - `raising`, `choosing`, `children`, `splitting`: price sets for a leaf, how it is split, what both children show,
-//!   and steps at a leaf that is neither void nor fixed.
+//! - `raising`, `choosing`, `children`, `splitting`: price sets for a leaf and a split that is proposed, which split is
+//!   taken, what both children show, and steps at a leaf that is neither void nor fixed.
 //! - `changing`: changes of a search, each of them whole.
 //! - `values`: what price sets show under a branch. `laws`: the laws that a search stands on.
 #![tactic(auto)]

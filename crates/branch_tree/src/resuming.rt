@@ -10,6 +10,7 @@ use crate::raising::FIRST_ROUNDS;
 use crate::search::Search;
 use branch_rules::PriceSet;
 use carp_base::{Instance, Memory};
+use column_generation::LeafPrograms;
 use cut_pool::ShorePool;
 use grown_trees::{GrowingNode, GrowingTree, sound_trees_are_lean};
 use plan_model::Plan;
@@ -62,6 +63,7 @@ impl Search {
             tree,
             sets,
             pool,
+            programs: LeafPrograms::new(alloc),
             best,
             cost,
             done,

@@ -1,6 +1,7 @@
 // The search, and what its steps answer.
 
 use branch_rules::PriceSet;
+use column_generation::LeafPrograms;
 use cut_pool::ShorePool;
 use deadhead_paths::Distances;
 use grown_trees::GrowingTree;
@@ -23,6 +24,8 @@ pub struct Search {
     pub(crate) tree: GrowingTree,
     pub(crate) sets: Vec<PriceSet>,
     pub(crate) pool: ShorePool,
+    // Nothing is said of it: what it proposes is judged.
+    pub(crate) programs: LeafPrograms,
     pub(crate) best: Plan,
     pub(crate) cost: u64,
     pub(crate) done: u64,

@@ -13,6 +13,7 @@ use crate::changing::price_leaf;
 use crate::children::{Children, children_show};
 use crate::choosing::choose_split;
 use crate::laws::known_laws;
+use crate::raising::Raised;
 use crate::search::{Search, Turn};
 use crate::values::shown_under;
 use branch_rules::{Branch, Node, PriceSet};
@@ -87,13 +88,14 @@ impl Search {
         ensures { IsTurn inst.now self.old self.new result }
     {
         known_laws();
-        let set = self.raise_leaf(inst, place, branch, number)?;
+        let raised = self.raise_leaf(inst, place, branch, number)?;
+        let Raised { set, proposed } = raised;
         let shown = shown_under(inst, &self.pool, branch, &set);
         if self.cost <= shown {
             self.close_with(place, set, shown)
         } else {
             let gap = self.cost.saturating_sub(shown);
-            self.split_with_new(inst, place, branch, number, set, gap)
+            self.split_with_new(inst, place, branch, number, set, gap, proposed)
         }
     }
 
@@ -120,6 +122,7 @@ impl Search {
         number: u32,
         set: PriceSet,
         gap: u64,
+        proposed: Option<Node>,
     ) -> Result<Turn, Memory>
         requires search { IsSearch inst.now self.old }
         requires left { self.old.done < self.old.turns }
@@ -131,7 +134,7 @@ impl Search {
         ensures err { OnErr result (state_of self.new ≡ state_of self.old) }
     {
         known_laws();
-        let halves = choose_halves(self.alloc, inst, &self.pool, branch, &set, gap)?;
+        let halves = choose_halves(self.alloc, inst, &self.pool, branch, &set, gap, proposed)?;
         self.push_set(set)?;
         let added = self.sets.len() as u32;
         self.put_split(place, halves.node, added, halves.children);
@@ -171,6 +174,7 @@ fn choose_halves(
     branch: &mut Branch,
     set: &PriceSet,
     gap: u64,
+    proposed: Option<Node>,
 ) -> Result<Halves, Memory>
     requires pairs { ArePairsIn inst.now branch.old }
     requires shores { AreShoresIn inst.now pool.now branch.old }
@@ -183,7 +187,7 @@ fn choose_halves(
     ensures some_unit { 1 ≤ set.now.unit }
 {
     let _ = set.unit();
-    let node = choose_split(alloc, inst, pool, branch, set, gap)?;
+    let node = choose_split(alloc, inst, pool, branch, set, gap, proposed)?;
     let children = children_show(inst, pool, branch, &node, set)?;
     Ok(Halves { node, children })
 }
@@ -206,7 +210,7 @@ fn choose_halves_of(
     ensures split { IfOk result (λ halves. IsSplitBy inst.now pool.now branch.old (set_in sets.now number) halves.node halves.children) }
     ensures some_unit { 1 ≤ (set_in sets.now number).unit }
 {
-    choose_halves(alloc, inst, pool, branch, set_of(sets, number), gap)
+    choose_halves(alloc, inst, pool, branch, set_of(sets, number), gap, None)
 }
 
 // The price set of a number from 1.

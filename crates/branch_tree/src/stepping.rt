@@ -49,15 +49,17 @@ impl Search {
     /// - If its branch is void or fixed, the step closes the leaf as that. If the plan of a fixed leaf is cheaper, it
     ///   is the best one from then on.
     /// - Else, if the search has fewer than 256 price sets, the step seeks a tight set for the leaf
-    ///   (`dual_master::raise`). If that shows the cost, the set closes the leaf. If not, the step splits the leaf by a
-    ///   pair or a shore, and both new leaves name the set.
+    ///   (`dual_master::raise_with`). If that shows the cost, the set closes the leaf. If not, the step splits the leaf
+    ///   by a pair or a shore, as the program of the leaf proposes (`column_generation`) if that may stand there. Both
+    ///   new leaves name the set.
     /// - If the search has 256 price sets, both new leaves name the set of the leaf.
     ///
     /// A short best plan stays short.
     ///
     /// The turns of the search are below its budget. The only error is want of memory. Then the tree, the price sets
-    /// and the best plan are as before, and shores may have been added. It takes the time of `raise` and, with n nodes,
-    /// m required edges and d decisions on the way to the leaf, in proportion to n + m * (m * m + d).
+    /// and the best plan are as before, and shores may have been added. It takes the time of `raise_with`, of a split
+    /// that is proposed and, with n nodes, m required edges and d decisions on the way to the leaf, in proportion to
+    /// n + m * (m * m + d).
     ///
     /// ```
     /// let mut search = Search::begin(alloc, &inst, 64, plan)?;

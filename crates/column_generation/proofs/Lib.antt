@@ -1,3 +1,5 @@
 pub mod Surcharges
 pub mod Offered
 pub mod Pushed
+pub mod Placed
+pub mod Grown

@@ -1,6 +1,5 @@
 -- Groups that are offered: one more, and that they are few enough for a price set.
-use Rattle.std.proofs.Common.{◌≡◌, ℕ, ◌+◌, ◌*◌, ◌<◌, ◌≤◌, List, [], ◌∷◌, ◌++◌, length, sum_by, arith, ℤ, pos, ◌<ℤ◌, subst, sym}
-use Rattle.std.proofs.lemmas.Int.{ints}
+use Rattle.std.proofs.Common.{◌≡◌, ◌≢◌, ℕ, ◌+◌, ◌*◌, ◌<◌, ◌≤◌, List, [], ◌∷◌, ◌++◌, length, sum_by, arith, ℤ, pos, ◌<ℤ◌, subst, sym}
 use Rattle.std.proofs.lemmas.List.{length_push}
 use Rattle.std.proofs.lemmas.List.Elements.{All-push}
 use Rattle.std.proofs.lemmas.List.Sums.{sum_by-le}
@@ -10,15 +9,15 @@ use Rattle.branch_rules.specs.Limits.{IsFineGroup}
 use Rattle.route_pricing.specs.Pricing.{IsServicePrice}
 use Rattle.column_generation.specs.Groups.{AreOffered}
 
--- a weight above 0 on a small group is one that a price set may have
-pub fine_group : (p : Problem) (edges : List ℕ) (weight : ℤ) → IsGroup p edges → length edges ≤ 120 → pos 0 <ℤ weight → IsServicePrice weight → IsFineGroup (record { edges = edges; weight = weight })
-fine_group p edges weight group small above within = record {
+-- a weight on a small group that is not 0, and below 0 only on a pair, is one that a price set may have
+pub fine_group : (p : Problem) (edges : List ℕ) (weight : ℤ) → IsGroup p edges → length edges ≤ 120 → weight ≢ pos 0 → (weight <ℤ pos 0 → length edges ≡ 2) → IsServicePrice weight → IsFineGroup (record { edges = edges; weight = weight })
+fine_group p edges weight group small some pair within = record {
   two = group.two;
   few = omega arith;
   rising = group.rising;
-  some = λ none. omega (arith, ints, none, above);
+  some = some;
   within = record { low = within.low; high = within.high };
-  pair = λ below. absurd (omega (arith, ints, below, above));
+  pair = pair;
 }
 
 offered_push : (p : Problem) (after groups : List GroupWeight) (w : GroupWeight) → after ≡ groups ++ w ∷ [] → AreOffered p groups → length groups < 500 → length w.edges ≤ 120 → IsFineGroup w → IsGroup p w.edges → AreOffered p after
@@ -31,10 +30,10 @@ offered_push p after groups w is offered room small fine group =
       required = All-push (λ (v : GroupWeight). IsGroup p v.edges) groups w offered.required group;
     })
 
--- one more group with a weight above 0, for which there is room
-pub offered_more : (p : Problem) (after groups : List GroupWeight) (w : GroupWeight) (edges : List ℕ) (weight : ℤ) → w ≡ record { edges = edges; weight = weight } → after ≡ groups ++ w ∷ [] → AreOffered p groups → length groups < 500 → IsGroup p edges → length edges ≤ 120 → pos 0 <ℤ weight → IsServicePrice weight → AreOffered p after
-offered_more p after groups w edges weight same is offered room group small above within =
-    let fine : IsFineGroup w = subst IsFineGroup (sym same) (fine_group p edges weight group small above within) in
+-- one more group, for which there is room
+pub offered_more : (p : Problem) (after groups : List GroupWeight) (w : GroupWeight) (edges : List ℕ) (weight : ℤ) → w ≡ record { edges = edges; weight = weight } → after ≡ groups ++ w ∷ [] → AreOffered p groups → length groups < 500 → IsGroup p edges → length edges ≤ 120 → weight ≢ pos 0 → (weight <ℤ pos 0 → length edges ≡ 2) → IsServicePrice weight → AreOffered p after
+offered_more p after groups w edges weight same is offered room group small some pair within =
+    let fine : IsFineGroup w = subst IsFineGroup (sym same) (fine_group p edges weight group small some pair within) in
     let few : length w.edges ≤ 120 = subst (λ (v : GroupWeight). length v.edges ≤ 120) (sym same) small in
     let of_instance : IsGroup p w.edges = subst (λ (v : GroupWeight). IsGroup p v.edges) (sym same) group in
     offered_push p after groups w is offered room few fine of_instance

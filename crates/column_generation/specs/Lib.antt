@@ -1,3 +1,4 @@
 pub mod Groups
 pub mod Points
 pub mod Proposals
+pub mod Splits

@@ -2,6 +2,7 @@
 
 use crate::groups::Members;
 use crate::tours::Tour;
+use branch_rules::Decision;
 use carp_base::Edge;
 use cut_pool::Shore;
 
@@ -13,8 +14,12 @@ const MOST_RIGHT_SIDE: u64 = 1 << 40;
 pub(crate) enum Demand {
     /// Deadheads over a shore, of which there are at least so many.
     Deadheads(Shore),
+    /// Deadheads over a shore, of which there are at most so many.
+    FewDeadheads(Shore),
     /// Bonds of a group, of which there are at most so many.
     Bonds(Members),
+    /// Bonds of a pair that is to be served together, of which there are at least so many.
+    Joined(Members),
 }
 
 /// A row of the program that is not of a service.
@@ -25,6 +30,8 @@ pub(crate) struct Constraint {
     pub(crate) number: u64,
     /// The search that put it in use last.
     pub(crate) since: u32,
+    /// The decision that it is of. Without one it holds for each plan.
+    pub(crate) decision: Option<Decision>,
 }
 
 impl Constraint {
@@ -32,8 +39,8 @@ impl Constraint {
     pub(crate) fn right_side(&self) -> i64 {
         let number = self.number.min(MOST_RIGHT_SIDE) as i64;
         match &self.demand {
-            Demand::Deadheads(_) => number,
-            Demand::Bonds(_) => number.saturating_neg(),
+            Demand::Deadheads(_) | Demand::Joined(_) => number,
+            Demand::FewDeadheads(_) | Demand::Bonds(_) => number.saturating_neg(),
         }
     }
 
@@ -41,7 +48,8 @@ impl Constraint {
     pub(crate) fn of_edge(&self, edge: &Edge) -> i64 {
         match &self.demand {
             Demand::Deadheads(shore) => i64::from(shore.crosses(edge)),
-            Demand::Bonds(_) => 0,
+            Demand::FewDeadheads(shore) => i64::from(shore.crosses(edge)).saturating_neg(),
+            Demand::Bonds(_) | Demand::Joined(_) => 0,
         }
     }
 
@@ -49,23 +57,43 @@ impl Constraint {
     pub(crate) fn of_tour(&self, edges: &[Edge], tour: &Tour) -> i64 {
         match &self.demand {
             Demand::Deadheads(shore) => deadheads_over(edges, tour, shore),
+            Demand::FewDeadheads(shore) => deadheads_over(edges, tour, shore).saturating_neg(),
             Demand::Bonds(members) => tour.bonds(members).saturating_neg(),
+            Demand::Joined(members) => tour.bonds(members),
         }
     }
 
-    /// Whether it is on this shore.
+    /// Whether it is on this shore, for each plan.
     pub(crate) fn is_on_shore(&self, other: &Shore) -> bool {
+        self.decision.is_none() && self.asks_deadheads_over(other)
+    }
+
+    /// Whether it asks for deadheads over this shore.
+    pub(crate) fn asks_deadheads_over(&self, other: &Shore) -> bool {
         match &self.demand {
             Demand::Deadheads(shore) => *shore == *other,
-            Demand::Bonds(_) => false,
+            _ => false,
         }
     }
 
     /// Whether it is on the group of these edges.
     pub(crate) fn is_on_group(&self, edges: &[u32]) -> bool {
         match &self.demand {
-            Demand::Deadheads(_) => false,
             Demand::Bonds(members) => members.edges.as_slice() == edges,
+            _ => false,
+        }
+    }
+
+    /// Whether it is of this decision.
+    pub(crate) fn is_of(&self, decision: &Decision) -> bool {
+        self.decision == Some(*decision)
+    }
+
+    /// Whether it holds for each plan that meets the decisions.
+    pub(crate) fn holds_under(&self, decisions: &[Decision]) -> bool {
+        match self.decision {
+            Some(decision) => decisions.iter().any(|other| *other == decision),
+            None => true,
         }
     }
 }

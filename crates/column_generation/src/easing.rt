@@ -34,6 +34,7 @@ pub(crate) fn ease(
     sort(&mut ranks);
     let mut lighter = positive_weights(alloc, weights)?;
     let mut deadheads = full_prices(alloc, inst)?;
+    charge_all(edges, constraints, &lighter, &mut deadheads);
     ease_all(edges, constraints, &ranks, &mut lighter, &mut deadheads);
     Ok(Eased {
         weights: lighter,
@@ -84,6 +85,32 @@ fn full_price(edge: &Edge) -> u64
     edge.cost
         .saturating_mul(UNIT)
         .min(4_000_000_000_000_000_000)
+}
+
+// Adds the weights of shores over which there are to be few deadheads to the prices.
+fn charge_all(edges: &[Edge], constraints: &[Constraint], weights: &[i64], prices: &mut [u64])
+    requires { All (λ n. n ≤ 4000000000000000000) prices.old }
+    ensures { All (λ n. n ≤ 4000000000000000000) prices.new }
+{
+    for place in 0..constraints.len() {
+        if let Demand::FewDeadheads(shore) = &constraints[place].demand {
+            let weight = number_at(weights, place).max(0) as u64;
+            put_on(edges, shore, prices, weight);
+        }
+    }
+}
+
+// Puts a weight on the prices over a shore.
+fn put_on(edges: &[Edge], shore: &Shore, prices: &mut [u64], weight: u64)
+    requires { All (λ n. n ≤ 4000000000000000000) prices.old }
+    ensures { All (λ n. n ≤ 4000000000000000000) prices.new }
+{
+    for place in 0..edges.len().min(prices.len()) {
+        if shore.crosses(&edges[place]) {
+            let sum = prices[place].saturating_add(weight);
+            prices[place] = sum.min(4_000_000_000_000_000_000);
+        }
+    }
 }
 
 // Cuts the weights in this order.

@@ -5,6 +5,7 @@ ghost use Rattle.price_points.specs.Towns.{IsTown};
 ghost use Rattle.column_generation.specs.Points.{IsGeneration, IsPoint, IsStart};
 
 use crate::boxing::{BoxSize, is_at_border};
+use crate::limits::Limits;
 use crate::master::Master;
 use crate::offers::Offer;
 use crate::pace::{Due, Pace, Turn};
@@ -12,6 +13,7 @@ use crate::points::Point;
 use crate::querying::{Reply, query};
 use crate::separating::Separator;
 use crate::setting_out::{Start, first_program, use_tour};
+use crate::size::steps_of_fill;
 use crate::trimming::{drop_slack_rows, trim_columns};
 use carp_base::{Instance, Memory};
 use deadhead_paths::Distances;
@@ -22,9 +24,6 @@ use std::alloc::Global;
 
 // So many turns are made at most: two fills make one, and so do a search, a box that is doubled and a ratio that rises.
 const MOST_TURNS: u32 = 8000;
-
-// So many entries of the program are touched at most, but for the last turn.
-const MOST_WORK: u64 = 4_000_000_000;
 
 // So many tours of one point are added at most.
 const MOST_ADDED: u32 = 30;
@@ -40,21 +39,24 @@ pub(crate) struct Generation {
     pub(crate) master: Master,
     /// The best point that pays.
     pub(crate) best: Point,
-    program: Program,
-    box_size: BoxSize,
+    pub(crate) program: Program,
+    pub(crate) box_size: BoxSize,
+    pub(crate) limits: Limits,
     separator: Separator,
-    pace: Pace,
-    due: Due,
+    pub(crate) pace: Pace,
+    pub(crate) due: Due,
     // By how much the program's value is above that of the best point.
-    gap: i128,
+    pub(crate) gap: i128,
     // That of the program when it was solved last.
     tolerance: u64,
-    fills: u32,
+    pub(crate) fills: u32,
+    /// Entries of programs that were touched and steps of fills that were made, for all leaves so far.
+    pub(crate) spent: u64,
 }
 
 // What became of the tours of a point.
 #[derive(Clone, Copy)]
-struct Asked {
+pub(crate) struct Asked {
     // The value of the point made one that pays.
     value: i128,
     // How many tours came into use.
@@ -64,14 +66,14 @@ struct Asked {
 }
 
 impl Generation {
-    /// A generation from a start, with so many fills to come, or `None` if no edge is required.
+    /// A generation from a start within limits, or `None` if no edge is required.
     pub(crate) fn begin(
         alloc: Global,
         town: &Town<'_>,
         table: &mut Table,
         dist: &Distances,
         start: Start,
-        fills: u32,
+        limits: Limits,
     ) -> Result<Option<Generation>, Memory>
         requires town { IsTown town.now }
         requires room { IsRoom town.now.inst.now table.old }
@@ -89,32 +91,34 @@ impl Generation {
             offers,
         } = reply;
         let program = first_program(alloc, town.inst, dist, &mut master, offers)?;
-        let generation = Generation::new(master, best, program, fills);
+        let generation = Generation::new(master, best, program, limits);
         Ok(Some(generation))
     }
 
     // Before the first turn.
-    fn new(master: Master, best: Point, program: Program, fills: u32) -> Generation
+    fn new(master: Master, best: Point, program: Program, limits: Limits) -> Generation
         ensures { result.best ≡ best }
     {
         let value = best.value;
         Generation {
             box_size: BoxSize::new(master.scale.mean),
             separator: Separator::new(),
-            pace: Pace::new(value),
+            pace: Pace::new(limits, value),
             due: Due::Solve,
-            gap: (value / 8).saturating_add(i128::from(UNIT)),
+            gap: first_gap(value),
             tolerance: LEAST_TOLERANCE,
+            fills: limits.fills,
+            spent: 0,
+            limits,
             master,
             best,
             program,
-            fills,
         }
     }
 
     /// Makes turns until the value of the best point is near that of the program, and no row is found any more, or
-    /// until a count ends it.
-    pub(crate) fn run(
+    /// until a limit ends it.
+    pub(crate) fn go_on(
         &mut self,
         alloc: Global,
         town: &Town<'_>,
@@ -126,13 +130,13 @@ impl Generation {
         ensures room { IsRoom town.now.inst.now table.new }
         ensures generation { IsGeneration town.now.inst.now self.new }
     {
-        self.place_box(town.inst);
         'turns: for _ in 0..MOST_TURNS {
             match self.turn(alloc, town, table)? {
                 Turn::End => break 'turns,
                 Turn::Go(due) => self.due = due,
             }
         }
+        self.count_work(town.inst);
         Ok(())
     }
 
@@ -157,9 +161,22 @@ impl Generation {
         }
     }
 
-    // Whether a count is used up.
+    // Counts what the turns took.
+    fn count_work(&mut self, inst: &Instance)
+        ensures { self.new.best ≡ self.old.best }
+    {
+        let fills = u64::from(self.limits.fills.saturating_sub(self.fills));
+        let steps = fills.saturating_mul(steps_of_fill(inst));
+        let touched = self.program.work().saturating_add(steps);
+        self.spent = self.spent.saturating_add(touched);
+    }
+
+    // Whether a limit is reached.
     fn is_spent(&self) -> bool {
-        self.fills == 0 || self.program.work() > MOST_WORK || self.master.is_full()
+        self.fills == 0
+            || self.program.work() > self.limits.work
+            || self.master.is_full()
+            || self.best.value >= self.limits.enough
     }
 
     // Solves the program if that is due.
@@ -168,7 +185,7 @@ impl Generation {
     {
         self.tolerance = tolerance_for(self.gap);
         self.program.set_tolerance(self.tolerance);
-        let caps = Caps::by_rows(self.program.rows().len());
+        let caps = Caps::by_rows(self.program.rows().len()).within(self.limits.work);
         let columns = &self.master.columns;
         match self.due {
             Due::Nothing => {}
@@ -182,8 +199,8 @@ impl Generation {
         Ok(())
     }
 
-    // Places the box around the best point.
-    fn place_box(&mut self, inst: &Instance)
+    /// Places the box around the best point.
+    pub(crate) fn place_box(&mut self, inst: &Instance)
         ensures { self.new.best ≡ self.old.best }
     {
         self.box_size.place(inst, &self.best, &mut self.program);
@@ -302,8 +319,8 @@ impl Generation {
         self.pace.without_tours()
     }
 
-    // Makes of a point one that pays, keeps it if it is the best, and adds its tours.
-    fn ask(
+    /// Makes of a point one that pays, keeps it if it is the best, and adds its tours.
+    pub(crate) fn ask(
         &mut self,
         alloc: Global,
         town: &Town<'_>,
@@ -387,6 +404,11 @@ impl Generation {
             useful: asked.useful.saturating_add(u32::from(useful)),
         })
     }
+}
+
+/// The gap that is assumed before the first one is known.
+pub(crate) fn first_gap(value: i128) -> i128 {
+    (value / 8).saturating_add(i128::from(UNIT))
 }
 
 // How far below 0 a reduced cost has to be at a gap.

@@ -1,5 +1,5 @@
 // Groups of required edges, and weights on them.
-ghost use Rattle.std.specs.Prelude.{◌<◌, ◌≤◌, pos, ◌<ℤ◌, All, IfOk, IsTrue, OnOk, length};
+ghost use Rattle.std.specs.Prelude.{◌≡◌, ◌≢◌, ◌<◌, ◌≤◌, pos, ◌<ℤ◌, All, IfOk, IsTrue, OnOk, length};
 ghost use Rattle.std.specs.List.Sorted.{IsStrictlyIncreasing};
 ghost use Rattle.branch_rules.specs.Bonds.{IsGroup};
 ghost use Rattle.carp_base.specs.Problem.{IsRequired};
@@ -7,6 +7,7 @@ ghost use Rattle.route_pricing.specs.Pricing.{IsServicePrice};
 ghost use Rattle.column_generation.specs.Groups.{AreOffered};
 
 use crate::constraints::{Constraint, Demand};
+use crate::points::negative;
 use branch_rules::WeightedGroup;
 use carp_base::{Instance, Memory};
 use price_points::number_at;
@@ -93,7 +94,8 @@ pub(crate) fn is_small_group(inst: &Instance, edges: &[u32]) -> bool
     are_required(inst, edges)
 }
 
-/// The groups with a weight above 0, at most 500 of at most 120 edges each.
+/// The groups with a weight above 0, and the pairs to be served together with the negative of theirs: at most 500 of at
+/// most 120 edges each.
 pub(crate) fn weighted_groups(
     alloc: Global,
     inst: &Instance,
@@ -105,9 +107,11 @@ pub(crate) fn weighted_groups(
 {
     let mut groups = Vec::new(alloc);
     for place in 0..constraints.len() {
-        if let Demand::Bonds(members) = &constraints[place].demand {
-            let weight = number_at(weights, place);
-            add_group(alloc, inst, &members.edges, weight, &mut groups)?;
+        let weight = number_at(weights, place);
+        match &constraints[place].demand {
+            Demand::Bonds(members) => add_group(alloc, inst, &members.edges, weight, &mut groups)?,
+            Demand::Joined(members) => add_pair(alloc, inst, &members.edges, weight, &mut groups)?,
+            _ => {}
         }
     }
     Ok(groups)
@@ -134,6 +138,27 @@ fn add_group(
     push_group(alloc, inst, edges, weight, groups)
 }
 
+// Adds a pair with the negative of a weight, if the weight is above 0.
+fn add_pair(
+    alloc: Global,
+    inst: &Instance,
+    edges: &[u32],
+    weight: i64,
+    groups: &mut Vec<WeightedGroup>,
+) -> Result<(), Memory>
+    requires weight { IsServicePrice weight }
+    requires offered { AreOffered inst.now groups.old.items }
+    ensures offered { OnOk result (AreOffered inst.now groups.new.items) }
+{
+    if weight <= 0 || MOST_GROUPS <= groups.len() || edges.len() != 2 {
+        return Ok(());
+    }
+    if !is_small_group(inst, edges) {
+        return Ok(());
+    }
+    push_group(alloc, inst, edges, negative(weight), groups)
+}
+
 // Adds a group, for which there is room.
 #[tactic(auto, using(crate::proofs::Offered::fine_group))]
 fn push_group(
@@ -145,7 +170,8 @@ fn push_group(
 ) -> Result<(), Memory>
     requires group { IsGroup inst.now edges.now }
     requires small { length edges.now ≤ 120 }
-    requires above { pos 0 <ℤ weight }
+    requires some { weight ≢ pos 0 }
+    requires pair { weight <ℤ pos 0 → length edges.now ≡ 2 }
     requires weight { IsServicePrice weight }
     requires room { length groups.old.items < 500 }
     requires offered { AreOffered inst.now groups.old.items }

@@ -7,6 +7,7 @@ use crate::groups::Members;
 use crate::numbers::{coefficient, mixed};
 use crate::scale::{Scale, shore_bounds, way_to};
 use crate::tours::Tour;
+use branch_rules::Decision;
 use carp_base::{Edge, Instance, Memory};
 use cut_pool::Shore;
 use deadhead_paths::Distances;
@@ -85,6 +86,7 @@ impl Master {
             demand: Demand::Deadheads(shore),
             number,
             since: 0,
+            decision: None,
         };
         self.add(alloc, inst, constraint)
     }
@@ -105,8 +107,38 @@ impl Master {
             demand: Demand::Bonds(Members::new(alloc, inst.required(), edges)?),
             number: room,
             since: 0,
+            decision: None,
         };
         self.add(alloc, inst, constraint)
+    }
+
+    /// The place of the constraint of a decision, which is added if it is new. It is `None` if there is no room for it.
+    pub(crate) fn place_of_decision(
+        &mut self,
+        alloc: Global,
+        inst: &Instance,
+        decision: Decision,
+        demand: Demand,
+        number: u64,
+    ) -> Result<Option<usize>, Memory> {
+        let held = self.constraints.iter().position(|c| c.is_of(&decision));
+        if held.is_some() {
+            return Ok(held);
+        }
+        let constraint = Constraint {
+            demand,
+            number,
+            since: 0,
+            decision: Some(decision),
+        };
+        self.add(alloc, inst, constraint)
+    }
+
+    /// Takes out the constraints from a place on. No program may have one of them in use.
+    pub(crate) fn forget_constraints(&mut self, inst: &Instance, count: usize) {
+        self.constraints.truncate(count);
+        let rows = count.saturating_add(inst.required() as usize);
+        self.columns.forget_rows(rows);
     }
 
     // Adds a constraint, and answers its place.
@@ -129,9 +161,12 @@ impl Master {
     // The bounds of its row.
     fn bounds(&self, edges: &[Edge], constraint: &Constraint) -> RowBounds {
         let right_side = constraint.right_side();
+        if constraint.decision.is_some() {
+            return self.scale.decision_bounds(right_side);
+        }
         match &constraint.demand {
             Demand::Deadheads(shore) => shore_bounds(edges, shore, right_side),
-            Demand::Bonds(_) => self.scale.group_bounds(right_side),
+            _ => self.scale.group_bounds(right_side),
         }
     }
 

@@ -9,12 +9,12 @@ ghost use Rattle.column_generation.specs.Proposals.{IsGroupedProposal};
 
 use crate::constraints::{Constraint, Demand};
 use crate::groups::weighted_groups;
-use crate::points::Point;
+use crate::points::{Point, negative, sum_within};
 use branch_rules::PriceSet;
-use carp_base::{Instance, Memory};
-use cut_pool::{Shore, ShorePool};
+use carp_base::{Fail, Instance, Memory};
+use cut_pool::{PoolFull, Shore, ShorePool};
 use price_points::{UNIT, copy_of, number_at};
-use shore_prices::{list_weights, place_weight};
+use shore_prices::list_weights;
 use std::alloc::Global;
 
 // How many shores a pool holds at most.
@@ -85,11 +85,14 @@ fn place_constraint(
 {
     match &constraint.demand {
         Demand::Deadheads(shore) => place_shore(alloc, inst, pool, placed, shore, weight),
-        Demand::Bonds(_) => Ok(()),
+        Demand::FewDeadheads(shore) => {
+            place_shore(alloc, inst, pool, placed, shore, negative(weight))
+        }
+        _ => Ok(()),
     }
 }
 
-// Places a shore if its weight is above 0.
+// Adds a weight to that of a shore, which is placed if the weight is not 0.
 fn place_shore(
     alloc: Global,
     inst: &Instance,
@@ -106,9 +109,53 @@ fn place_shore(
     ensures grown { IsGrown pool.old pool.new }
     ensures belong { All (Belongs inst.now) pool.new }
 {
-    if weight <= 0 || !shore.belongs(inst) {
+    if weight == 0 || !shore.belongs(inst) {
         return Ok(());
     }
     let copy = copy_of(alloc, shore)?;
-    place_weight(inst, pool, placed, copy, weight)
+    if let Some(number) = number_in(inst, pool, copy)? {
+        add_to(placed, number as usize, weight);
+    }
+    Ok(())
+}
+
+/// The number of a shore of the instance in a pool, where it is placed behind the others if it is new, or `None` if
+/// the pool is full.
+pub(crate) fn number_in(
+    inst: &Instance,
+    pool: &mut ShorePool,
+    shore: Shore,
+) -> Result<Option<u32>, Memory>
+    requires shore { Belongs inst.now shore }
+    requires belong { All (Belongs inst.now) pool.old }
+    ensures grown { IsGrown pool.old pool.new }
+    ensures belong { All (Belongs inst.now) pool.new }
+{
+    match pool.add(shore) {
+        Ok(number) => Ok(Some(number)),
+        Err(Fail::Memory) => Err(Memory),
+        Err(Fail::Refused(PoolFull)) => Ok(None),
+    }
+}
+
+// Adds a weight to the one at a place, if there is one.
+fn add_to(placed: &mut [i64], place: usize, weight: i64)
+    requires { All IsPriceNumber placed.old }
+    ensures within { All IsPriceNumber placed.new }
+    ensures one_each { length placed.new ≡ length placed.old }
+{
+    let sum = sum_within(number_at(placed, place), weight);
+    put_at(placed, place, sum);
+}
+
+// Writes a weight at a place, if there is one.
+fn put_at(placed: &mut [i64], place: usize, weight: i64)
+    requires weight { IsServicePrice weight }
+    requires within { All IsPriceNumber placed.old }
+    ensures within { All IsPriceNumber placed.new }
+    ensures one_each { length placed.new ≡ length placed.old }
+{
+    if place < placed.len() {
+        placed[place] = weight;
+    }
 }

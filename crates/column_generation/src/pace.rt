@@ -1,17 +1,12 @@
 // How near the best point is to come to the program before rows are searched for, and when the generation ends.
 
 use crate::effort::Effort;
+use crate::limits::Limits;
 use crate::separating::Found;
 use price_points::UNIT;
 
-// The last ratio.
-const MOST_RATIO: u32 = 20_000;
-
 // After so many searches that the value hardly rose since, the ratio rises.
 const MOST_STALLED: u32 = 12;
-
-// The number of searches is at most this.
-const MOST_SEARCHES: u32 = 400;
 
 // A gap of less does not count: a five hundredth of a unit of cost.
 const LEAST_GAP: i128 = 2_000;
@@ -37,6 +32,7 @@ pub(crate) struct Pace {
     // A gap is small if it is less than this part of the value.
     ratio: u32,
     pub(crate) effort: Effort,
+    limits: Limits,
     searches: u32,
     stalled: u32,
     // The value when rows were found last.
@@ -44,11 +40,12 @@ pub(crate) struct Pace {
 }
 
 impl Pace {
-    /// The first pace, from a value on.
-    pub(crate) fn new(value: i128) -> Pace {
+    /// The first pace within limits, from a value on.
+    pub(crate) fn new(limits: Limits, value: i128) -> Pace {
         Pace {
-            ratio: 200,
+            ratio: limits.first_ratio,
             effort: Effort::Quick,
+            limits,
             searches: 0,
             stalled: 0,
             last: value,
@@ -63,7 +60,7 @@ impl Pace {
 
     /// Whether rows may be searched for again, which counts.
     pub(crate) fn may_search(&mut self) -> bool {
-        if self.searches >= MOST_SEARCHES {
+        if self.searches >= self.limits.searches {
             return false;
         }
         self.searches = self.searches.saturating_add(1);
@@ -80,14 +77,14 @@ impl Pace {
         } else {
             Due::Nothing
         };
-        if self.effort == Effort::Quick {
+        if self.effort == Effort::Quick && self.limits.full {
             self.effort = Effort::Full;
             return Turn::Go(due);
         }
-        if self.ratio >= MOST_RATIO || gap < LEAST_GAP {
+        if self.ratio >= self.limits.last_ratio || gap < LEAST_GAP {
             return Turn::End;
         }
-        self.ratio = self.ratio.saturating_mul(10).min(MOST_RATIO);
+        self.ratio = self.ratio.saturating_mul(10).min(self.limits.last_ratio);
         self.stalled = 0;
         Turn::Go(due)
     }
@@ -109,7 +106,7 @@ impl Pace {
 
     /// What follows if no tour was new: every gap counts as small, until the ratio rises again.
     pub(crate) fn without_tours(&mut self) -> Turn {
-        if self.ratio >= MOST_RATIO {
+        if self.ratio >= self.limits.last_ratio {
             return Turn::End;
         }
         self.ratio = 1;

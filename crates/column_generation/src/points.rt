@@ -1,5 +1,5 @@
 // Prices of services, and weights on shores and groups.
-ghost use Rattle.std.specs.Prelude.{◌≡◌, All, IfOk, length};
+ghost use Rattle.std.specs.Prelude.{◌≡◌, neg_ℤ, All, IfOk, length};
 ghost use Rattle.carp_base.specs.Problem.{IsRequired};
 ghost use Rattle.route_pricing.specs.Pricing.{IsServicePrice};
 ghost use Rattle.price_points.specs.Services.{AreServicePrices};
@@ -40,6 +40,15 @@ impl Point {
             weights,
             value,
         }
+    }
+
+    /// A copy.
+    pub(crate) fn copy(&self, alloc: Global) -> Result<Point, Memory> {
+        Ok(Point {
+            prices: Vec::from_slice(alloc, &self.prices)?,
+            weights: Vec::from_slice(alloc, &self.weights)?,
+            value: self.value,
+        })
     }
 
     /// The multipliers of a program.
@@ -136,6 +145,45 @@ pub(crate) fn positive_weight(weight: i64) -> i64
     ensures { IsServicePrice result }
 {
     clamped(i128::from(weight.max(0)))
+}
+
+/// The negative of a weight.
+pub(crate) fn negative(weight: i64) -> i64
+    requires { IsServicePrice weight }
+    ensures value { result ≡ neg_ℤ weight }
+    ensures within { IsServicePrice result }
+{
+    -weight
+}
+
+/// The first so many numbers, each within the limits. Those past the end are 0.
+pub(crate) fn first_numbers(
+    alloc: Global,
+    count: usize,
+    numbers: &[i64],
+) -> Result<Vec<i64>, Memory>
+    ensures one_each { IfOk result (λ first. length first.items ≡ count) }
+    ensures within { IfOk result (λ first. All IsServicePrice first.items) }
+{
+    let mut first = Vec::with_capacity(alloc, count)?;
+    for place in 0..count {
+        first.push(clamped_at(numbers, place))?;
+    }
+    Ok(first)
+}
+
+// The number at a place within the limits, or 0 if there is none.
+fn clamped_at(numbers: &[i64], place: usize) -> i64
+    ensures { IsServicePrice result }
+{
+    clamped(i128::from(number_at(numbers, place)))
+}
+
+/// The sum of two weights within the limits.
+pub(crate) fn sum_within(one: i64, other: i64) -> i64
+    ensures { IsServicePrice result }
+{
+    clamped(i128::from(one).saturating_add(i128::from(other)))
 }
 
 // The means of the first so many numbers.

@@ -62,6 +62,15 @@ impl Scale {
             most: (self.penalty() / 8) as i64,
         }
     }
+
+    /// The row of a decision.
+    pub(crate) fn decision_bounds(self, right_side: i64) -> RowBounds {
+        RowBounds {
+            right_side,
+            least: 0,
+            most: self.penalty() as i64,
+        }
+    }
 }
 
 /// The row of a shore: a deadhead over it costs no less than its weight, in the end.

@@ -52,6 +52,17 @@ module _ (p : Problem) (pool more : List (List ℕ)) (branch : List Decision) (s
     };
   }
 
+  pub fitted_before : FitsBranch p (pool ++ more) branch set → FitsBranch p pool branch set
+  fitted_before fits = record {
+    one_each = fits.one_each;
+    fits = record {
+      not_negative = λ e is. subst (λ z. pos 0 ≤ℤ z) (deadhead_same (edge_at p e)) (fits.fits.not_negative e is);
+      has_upper = fits.fits.has_upper;
+      has_yes = fits.fits.has_yes;
+      tours = subst (λ prices. PaysAtLeast p (λ a b. ¬ (Excluded p branch a b)) (task_adds p set) (price_of prices) set.groups) crossing_same fits.fits.tours;
+    };
+  }
+
   counts_same : (w : Weight) → IsShoreNumber pool w.shore → weight_value (rules_of p (pool ++ more) branch) w ≡ weight_value (rules_of p pool branch) w
   counts_same w is =
       ap (λ shore. weigh w.weight (to_parity (required_crossings p (is_in shore)) (max (need p (is_in shore)) (highest w.shore branch))) (unwrap_or (lowest w.shore branch) 0)) (grown_at pool more w.shore is)
@@ -65,5 +76,6 @@ module _ (p : Problem) (pool more : List (List ℕ)) (branch : List Decision) (s
 pub growth_law : GrowthKeepsSets
 growth_law p pool more branch set all = record {
   fits = fits_as_before p pool more branch set all;
+  fitted = fitted_before p pool more branch set all;
   value = value_as_before p pool more branch set all;
 }

@@ -15,7 +15,7 @@ use crate::laws::growth_keeps_sets;
 use crate::values::{is_no_more, value_under};
 use branch_rules::{Branch, PriceSet};
 use carp_base::{Instance, Memory};
-use column_generation::generate_columns;
+use column_generation::LeafPrograms;
 use cut_pool::ShorePool;
 use price_ascent::ascend;
 use road_network::Network;
@@ -24,27 +24,11 @@ use shore_prices::shore_prices;
 use std::alloc::Global;
 use tight_prices::{fits, tighten};
 
-// A program over tours from nothing takes as long as many rounds, so it is solved beside no fewer than these.
-const COLUMN_ROUNDS: u32 = 100;
-
-const COLUMN_FILLS: u32 = 1000;
-
 /// A price set that fits under a branch and whose value, divided by its denominator, is no less than that of a start
 /// that fits there. No single number of it can be raised: neither a price, nor the weight of a shore of one vertex that
 /// the pool held before and over which some deadhead is needed (`tight_prices`).
 ///
-/// If `rounds` is above 0, it solves the linear program over shores in up to so many rounds of search for shores that
-/// it leaves short (`shore_prices`), and takes that set if it fits and is better. From the better one prices and
-/// weights ascend along relaxed tours in up to so many steps (`price_ascent`), and it takes that set in the same way.
-/// From 100 rounds on, the linear program over tours, shores and groups is solved from the best one of these
-/// (`column_generation`), if the instance is small enough for it, and it takes that set in the same way.
-/// Shores with a weight are placed in the pool behind those that it held, while it holds fewer than 2,000. The weights
-/// on groups are those of the start, or they are on groups of the instance.
-///
-/// It asks for the network, for a table that was made for the instance, which it fills, for a branch whose pairs are of
-/// required edges, and for a pool whose shores belong to the instance. The shores that it adds belong to the instance
-/// too. The only error is want of memory. It takes the time of the rounds, of `column_generation::generate_columns` and of
-/// `tight_prices::tighten`.
+/// It is what [`raise_with`] gives with programs that know no leaf.
 pub fn raise(
     alloc: Global,
     inst: &Instance,
@@ -69,16 +53,78 @@ pub fn raise(
     ensures belong { All (Belongs inst.now) pool.new }
     ensures room { IsRoom inst.now table.new }
 {
+    let mut programs = LeafPrograms::new(alloc);
+    raise_with(
+        alloc,
+        inst,
+        net,
+        table,
+        pool,
+        branch,
+        start,
+        rounds,
+        &mut programs,
+        1,
+        u64::MAX,
+    )
+}
+
+/// Such a price set for a leaf of a tree that names the start by a number, with the programs for its leaves.
+///
+/// If `rounds` is above 0, it solves the linear program over shores in up to so many rounds of search for shores that
+/// it leaves short (`shore_prices`), and takes that set if it fits and is better. From the better one prices and
+/// weights ascend along relaxed tours in up to so many steps (`price_ascent`), and it takes that set in the same way.
+/// Then the linear program over tours, shores and groups goes on from where it stood at the leaf's parent, or begins
+/// with the best one of these (`column_generation`), if the instance is small enough for it. It takes that set in the
+/// same way. A value that shows `cost` is enough for it. Shores with a weight are placed in the pool behind those that
+/// it held, while it holds fewer than 2,000. The weights on groups are those of the start, or they are on groups of the
+/// instance.
+///
+/// It asks for the network, for a table that was made for the instance, which it fills, for a branch whose pairs are of
+/// required edges, and for a pool whose shores belong to the instance. The shores that it adds belong to the instance
+/// too. Programs that were made for another instance are no matter to what it promises. The only error is want of
+/// memory. It takes the time of the rounds, of `column_generation::LeafPrograms::raise` and of `tight_prices::tighten`.
+pub fn raise_with(
+    alloc: Global,
+    inst: &Instance,
+    net: &Network,
+    table: &mut Table,
+    pool: &mut ShorePool,
+    branch: &Branch,
+    start: &PriceSet,
+    rounds: u32,
+    programs: &mut LeafPrograms,
+    number: u32,
+    cost: u64,
+) -> Result<PriceSet, Memory>
+    requires net { net.now ≡ inst.now }
+    requires room { IsRoom inst.now table.old }
+    requires pairs { ArePairsIn inst.now branch.now }
+    requires belong { All (Belongs inst.now) pool.old }
+    requires shores { All (λ w. IsShoreOf inst.now pool.old w.shore) start.now.weights }
+    requires fits { FitsBranch inst.now pool.old branch.now start.now }
+    ensures tight { IfOk result (IsTight inst.now pool.new (length pool.old) branch.now) }
+    ensures no_lower { IfOk result (IsNoLower inst.now branch.now pool.old start.now pool.new) }
+    ensures groups { IfOk result (HasGroupsFrom inst.now start.now) }
+    ensures shores { IfOk result (λ set. All (λ w. IsShoreOf inst.now pool.new w.shore) set.weights) }
+    ensures grown { IsGrown pool.old pool.new }
+    ensures belong { All (Belongs inst.now) pool.new }
+    ensures room { IsRoom inst.now table.new }
+{
     growth_keeps_sets();
     let known = pool.len();
     let better = by_program(alloc, inst, net, table, pool, branch, start, rounds)?;
     match better {
-        Some(set) => climb(alloc, inst, net, table, pool, branch, &set, rounds, known),
-        None => climb(alloc, inst, net, table, pool, branch, start, rounds, known),
+        Some(set) => climb(
+            alloc, inst, net, table, pool, branch, &set, rounds, programs, number, cost, known,
+        ),
+        None => climb(
+            alloc, inst, net, table, pool, branch, start, rounds, programs, number, cost, known,
+        ),
     }
 }
 
-// The same from a set that fits, by the ascent and by columns; the pass is over the first so many shores of the pool.
+// The same from a set that fits, by the ascent and by programs; the pass is over the first so many shores of the pool.
 fn climb(
     alloc: Global,
     inst: &Instance,
@@ -88,6 +134,9 @@ fn climb(
     branch: &Branch,
     start: &PriceSet,
     rounds: u32,
+    programs: &mut LeafPrograms,
+    number: u32,
+    cost: u64,
     known: u32,
 ) -> Result<PriceSet, Memory>
     requires net { net.now ≡ inst.now }
@@ -108,12 +157,16 @@ fn climb(
     growth_keeps_sets();
     let better = by_ascent(alloc, inst, net, table, pool, branch, start, rounds)?;
     match better {
-        Some(set) => generate(alloc, inst, net, table, pool, branch, &set, rounds, known),
-        None => generate(alloc, inst, net, table, pool, branch, start, rounds, known),
+        Some(set) => generate(
+            alloc, inst, net, table, pool, branch, &set, programs, number, cost, known,
+        ),
+        None => generate(
+            alloc, inst, net, table, pool, branch, start, programs, number, cost, known,
+        ),
     }
 }
 
-// The same from a set that fits, by columns alone.
+// The same from a set that fits, by programs alone.
 fn generate(
     alloc: Global,
     inst: &Instance,
@@ -122,7 +175,9 @@ fn generate(
     pool: &mut ShorePool,
     branch: &Branch,
     start: &PriceSet,
-    rounds: u32,
+    programs: &mut LeafPrograms,
+    number: u32,
+    cost: u64,
     known: u32,
 ) -> Result<PriceSet, Memory>
     requires net { net.now ≡ inst.now }
@@ -141,7 +196,9 @@ fn generate(
     ensures room { IsRoom inst.now table.new }
 {
     growth_keeps_sets();
-    let better = by_columns(alloc, inst, net, table, pool, branch, start, rounds)?;
+    let better = by_programs(
+        alloc, inst, net, table, pool, branch, start, programs, number, cost,
+    )?;
     match better {
         Some(set) => tighten(alloc, inst, net, table, pool, branch, &set, known),
         None => tighten(alloc, inst, net, table, pool, branch, start, known),
@@ -207,8 +264,8 @@ fn by_ascent(
     }
 }
 
-// The set that the program over tours, shores and groups proposes, where it fits and is better than the start.
-fn by_columns(
+// The set that the programs for leaves propose, where it fits and is better than the start.
+fn by_programs(
     alloc: Global,
     inst: &Instance,
     net: &Network,
@@ -216,7 +273,9 @@ fn by_columns(
     pool: &mut ShorePool,
     branch: &Branch,
     start: &PriceSet,
-    rounds: u32,
+    programs: &mut LeafPrograms,
+    number: u32,
+    cost: u64,
 ) -> Result<Option<PriceSet>, Memory>
     requires net { net.now ≡ inst.now }
     requires room { IsRoom inst.now table.old }
@@ -230,19 +289,9 @@ fn by_columns(
     ensures room { IsRoom inst.now table.new }
 {
     growth_keeps_sets();
-    let fills = fills_for(rounds);
-    match generate_columns(alloc, inst, net, table, pool, branch, start, fills)? {
+    match programs.raise(alloc, inst, net, table, pool, branch, start, number, cost)? {
         Some(offered) => if_better(alloc, inst, net, table, pool, branch, offered, start),
         None => Ok(None),
-    }
-}
-
-// How many fills the program may make beside so many rounds.
-fn fills_for(rounds: u32) -> u32 {
-    if rounds < COLUMN_ROUNDS {
-        0
-    } else {
-        COLUMN_FILLS
     }
 }
 

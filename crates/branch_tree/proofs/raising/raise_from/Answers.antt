@@ -6,5 +6,5 @@ returns-clause-raised c =
     let start = c.index-sets-number.result in
     let begins = c.requires.begins in
     let same = at_number c.args.sets.now c.args.number start begins.from_one begins.to_last c.index-sets-number.is in
-    raised_from c.args.inst.now c.args.pool.now c.args.branch.now c.args.sets.now c.args.number c.raise.new.pool start c.raise.result same
-    c.unit.ensures.fine.some_unit c.raise.ensures.tight c.raise.ensures.no_lower c.raise.ensures.groups c.raise.ensures.shores
+    raised_from c.args.inst.now c.args.pool.now c.args.branch.now c.args.sets.now c.args.number c.raise_with.new.pool start c.raise_with.result same
+    c.unit.ensures.fine.some_unit c.raise_with.ensures.tight c.raise_with.ensures.no_lower c.raise_with.ensures.groups c.raise_with.ensures.shores

@@ -9,5 +9,5 @@ returns c =
     let with_weight : ℤ → GroupWeight = λ z. record { edges = c.args.edges.now; weight = z } in
     let same = c.in_ok-group.ensures ∙ ap with_weight (to_z-of_z w64 c.args.weight c.ranges.weight) in
     record {
-      offered = offered_more c.args.inst.now c.push.new.self.items c.args.groups.now.items c.in_ok-group.group c.args.edges.now c.args.weight same c.in_ok-push.ensures.items c.requires.offered c.requires.room c.requires.group c.requires.small c.requires.above c.requires.weight;
+      offered = offered_more c.args.inst.now c.push.new.self.items c.args.groups.now.items c.in_ok-group.group c.args.edges.now c.args.weight same c.in_ok-push.ensures.items c.requires.offered c.requires.room c.requires.group c.requires.small c.requires.some c.requires.pair c.requires.weight;
     }

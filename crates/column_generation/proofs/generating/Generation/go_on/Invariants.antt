@@ -1,6 +1,6 @@
 use Rattle.route_pricing.specs.Tables.{IsRoom}
 use Rattle.column_generation.specs.Points.{IsGeneration}
-use Rattle.column_generation.proofs.generating.Generation.run.Given as goal
+use Rattle.column_generation.proofs.generating.Generation.go_on.Given as goal
 
 abbrev pub invariant-turns : goal.invariant-turns
 invariant-turns l = record {

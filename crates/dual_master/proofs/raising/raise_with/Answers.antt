@@ -4,7 +4,7 @@ use Rattle.branch_rules.specs.Limits.{IsPriceSet}
 use Rattle.branch_rules.specs.Prices.{Prices}
 use Rattle.dual_master.specs.Raising.{IsRaised}
 use Rattle.dual_master.proofs.Raised.{no_lower_since, no_lower_through, of_instance, still_fits}
-use Rattle.dual_master.proofs.raising.raise.Goals as goal
+use Rattle.dual_master.proofs.raising.raise_with.Goals as goal
 
 pub climb-requires-in-None-clause-fits : goal.climb-requires-in-None-clause-fits
 climb-requires-in-None-clause-fits c =

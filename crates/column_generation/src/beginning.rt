@@ -1,0 +1,107 @@
+// How the generation of a leaf begins.
+ghost use Rattle.std.specs.Prelude.{◌≡◌, All, IfOk, IfSome, OnOk, length};
+ghost use Rattle.branch_rules.specs.Limits.{IsShoreOf};
+ghost use Rattle.route_pricing.specs.Tables.{IsRoom};
+ghost use Rattle.price_points.specs.Towns.{IsTown};
+ghost use Rattle.column_generation.specs.Points.{IsGeneration};
+
+use crate::generating::Generation;
+use crate::keeping::Kept;
+use crate::limits::Limits;
+use crate::setting_out::Start;
+use branch_rules::{Branch, PriceSet};
+use carp_base::{Instance, Memory};
+use cut_pool::ShorePool;
+use deadhead_paths::{cost_prices, distances};
+use price_points::Town;
+use route_pricing::Table;
+use std::alloc::Global;
+
+/// A generation that begins with a set, or `None` if no edge is required.
+pub(crate) fn begin(
+    alloc: Global,
+    town: &Town<'_>,
+    table: &mut Table,
+    pool: &ShorePool,
+    branch: &Branch,
+    start: &PriceSet,
+    enough: i128,
+) -> Result<Option<Generation>, Memory>
+    requires town { IsTown town.now }
+    requires room { IsRoom town.now.inst.now table.old }
+    requires shores { All (λ w. IsShoreOf town.now.inst.now pool.now w.shore) start.now.weights }
+    requires one_each { length start.now.services ≡ town.now.inst.now.required }
+    ensures generation { IfOk result (λ found. IfSome found (IsGeneration town.now.inst.now)) }
+    ensures room { IsRoom town.now.inst.now table.new }
+{
+    let inst = town.inst;
+    let none = Branch::new(alloc);
+    let costs = cost_prices(alloc, inst)?;
+    let dist = distances(alloc, inst, town.net, &costs)?;
+    let first = Start::of(alloc, inst, &dist, pool, &none, start)?;
+    let limits = Limits::of_root(enough);
+    let begun = Generation::begin(alloc, town, table, &dist, first, limits)?;
+    let Some(mut generation) = begun else {
+        return Ok(None);
+    };
+    generation.place_box(inst);
+    use_decisions_of(alloc, inst, pool, branch, &mut generation, limits)?;
+    Ok(Some(generation))
+}
+
+// Puts the decisions of a branch into a generation, if there are some.
+fn use_decisions_of(
+    alloc: Global,
+    inst: &Instance,
+    pool: &ShorePool,
+    branch: &Branch,
+    generation: &mut Generation,
+    limits: Limits,
+) -> Result<(), Memory>
+    requires { IsGeneration inst.now generation.old }
+    ensures { OnOk result (IsGeneration inst.now generation.new) }
+{
+    if branch.len() == 0 {
+        return Ok(());
+    }
+    generation.decide(alloc, inst, pool, branch, limits)
+}
+
+/// A generation that goes on under a branch from what was kept.
+pub(crate) fn taken_up(
+    alloc: Global,
+    town: &Town<'_>,
+    pool: &ShorePool,
+    branch: &Branch,
+    kept: &Kept,
+    limits: Limits,
+    generation: Generation,
+) -> Result<Option<Generation>, Memory>
+    requires { IsTown town.now }
+    ensures { IfOk result (λ found. IfSome found (IsGeneration town.now.inst.now)) }
+{
+    let mut generation = generation;
+    generation.take_up(alloc, town, pool, branch, kept, limits)?;
+    Ok(Some(generation))
+}
+
+/// A generation that goes on under a branch from what was kept for another one.
+pub(crate) fn adopted(
+    alloc: Global,
+    town: &Town<'_>,
+    table: &mut Table,
+    pool: &ShorePool,
+    branch: &Branch,
+    kept: &Kept,
+    limits: Limits,
+    generation: Generation,
+) -> Result<Option<Generation>, Memory>
+    requires town { IsTown town.now }
+    requires room { IsRoom town.now.inst.now table.old }
+    ensures generation { IfOk result (λ found. IfSome found (IsGeneration town.now.inst.now)) }
+    ensures room { IsRoom town.now.inst.now table.new }
+{
+    let mut generation = generation;
+    generation.adopt(alloc, town, table, pool, branch, kept, limits)?;
+    Ok(Some(generation))
+}

@@ -1,0 +1,67 @@
+// When a point is proposed, and what value is enough.
+ghost use Rattle.std.specs.Prelude.{◌≡◌, All, IfOk, IfSome};
+ghost use Rattle.cut_pool.specs.Shores.{Belongs};
+ghost use Rattle.branch_rules.specs.Limits.{IsShoreOf};
+ghost use Rattle.shore_prices.specs.Proposals.{IsGrown};
+ghost use Rattle.column_generation.specs.Points.{IsGeneration};
+ghost use Rattle.column_generation.specs.Proposals.{IsGroupedProposal};
+
+use crate::generating::Generation;
+use crate::offering::offer;
+use branch_rules::{Branch, PriceSet};
+use carp_base::{Instance, Memory};
+use cut_pool::ShorePool;
+use price_points::UNIT;
+use std::alloc::Global;
+
+/// The best point of a generation as a price set, if it is above the start.
+pub(crate) fn proposal(
+    alloc: Global,
+    inst: &Instance,
+    pool: &mut ShorePool,
+    branch: &Branch,
+    start: &PriceSet,
+    generation: &Generation,
+) -> Result<Option<PriceSet>, Memory>
+    requires belong { All (Belongs inst.now) pool.old }
+    requires shores { All (λ w. IsShoreOf inst.now pool.old w.shore) start.now.weights }
+    requires generation { IsGeneration inst.now generation.now }
+    ensures proposed { IfOk result (λ set. IfSome set (IsGroupedProposal inst.now pool.new)) }
+    ensures grown { IsGrown pool.old pool.new }
+    ensures belong { All (Belongs inst.now) pool.new }
+{
+    if !is_above(inst, pool, branch, start, generation.best.value) {
+        return Ok(None);
+    }
+    let set = offer(
+        alloc,
+        inst,
+        pool,
+        &generation.master.constraints,
+        &generation.best,
+    )?;
+    Ok(Some(set))
+}
+
+// Whether a value, which counts no service costs, is above that of a set.
+fn is_above(inst: &Instance, pool: &ShorePool, branch: &Branch, set: &PriceSet, value: i128) -> bool
+    requires { All (λ w. IsShoreOf inst.now pool.now w.shore) set.now.weights }
+{
+    let services = i128::from(inst.required_cost()).saturating_mul(i128::from(UNIT));
+    let whole = value.saturating_add(services);
+    match branch.value_at(inst, pool, set) {
+        Ok(other) => {
+            let unit = i128::from(set.unit());
+            whole.saturating_mul(unit) > other.saturating_mul(i128::from(UNIT))
+        }
+        Err(_) => false,
+    }
+}
+
+/// A value, which counts no service costs, that is enough for a bound.
+pub(crate) fn enough_for(inst: &Instance, cost: u64) -> i128 {
+    let unit = i128::from(UNIT);
+    let below = i128::from(cost.saturating_sub(1)).saturating_mul(unit);
+    let services = i128::from(inst.required_cost()).saturating_mul(unit);
+    below.saturating_sub(services).saturating_add(1)
+}
