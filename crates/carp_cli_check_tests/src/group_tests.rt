@@ -1,5 +1,7 @@
 // Certificates with groups by `run`, in files that give one byte, seven bytes, or all at a look.
-use crate::check_tests::expect_rows;
+use crate::check_tests::{expect_rows, is_told, with_line};
+use std::alloc::Global;
+use std::process::Abort;
 use std::test::Fail;
 
 // Four streets side by side, of which no three fit a vehicle. A weight on the group of the first three shows the cost.
@@ -73,4 +75,66 @@ fn a_yes_weight_stands_below_its_yes(rt: HostRuntime) -> Result<(), Fail> {
         20 | price 1 | 2 | rejected: set 1 at node 3 needs the pair 1 2~\n\
         13 | bonds 1 -1 2 1 3 | 2 | rejected: set 1 at node 2 needs the pair 1 3~";
     expect_rows(&rt, rt.alloc(), PAIRED, rows)
+}
+
+// Groups of the first edges, of these sizes and with weight 1.
+fn groups_line(alloc: Global, sizes: &[usize]) -> Result<String, Fail> {
+    let mut line = String::from_str(alloc, "bonds ")?;
+    line.push_str(sizes.len().to_string(alloc)?.as_str())?;
+    for size in sizes {
+        line.push_str(" 1 ")?;
+        push_first(alloc, &mut line, *size)?;
+    }
+    Ok(line)
+}
+
+// So many, and the numbers from 1 up to it.
+fn push_first(alloc: Global, line: &mut String, size: usize) -> Result<(), Fail> {
+    line.push_str(size.to_string(alloc)?.as_str())?;
+    for place in 0..size {
+        let edge = place + 1;
+        line.push(' ')?;
+        line.push_str(edge.to_string(alloc)?.as_str())?;
+    }
+    Ok(())
+}
+
+#[test]
+fn a_line_has_60_000_edges_in_groups_at_most(rt: HostRuntime) -> Result<(), Fail> {
+    let alloc = rt.alloc();
+    let mut sizes = vec![in alloc; 600; 99]?;
+    sizes.push(599)?;
+    let long = groups_line(alloc, &sizes)?;
+    expect_long(
+        &rt,
+        alloc,
+        long.as_str(),
+        "2",
+        "rejected: node 1 has value -59791, not above 4\n",
+    )?;
+    sizes.push(2)?;
+    let too_long = groups_line(alloc, &sizes)?;
+    expect_long(
+        &rt,
+        alloc,
+        too_long.as_str(),
+        "5",
+        "bad certificate: line 13 passes a limit\n",
+    )
+}
+
+// What the certificate with a lower bound gets with this line of groups.
+fn expect_long(
+    rt: &impl Abort,
+    alloc: Global,
+    line: &str,
+    code: &str,
+    text: &str,
+) -> Result<(), Fail> {
+    let (file, cert) = LOW.split_once('\n').unwrap_or(("", ""));
+    let file = file.replace(alloc, "~", "\n")?;
+    let cert = with_line(alloc, cert, 13, line)?;
+    let is = is_told(alloc, file.as_bytes(), cert.as_bytes(), 65_536, code, text)?;
+    assert!(rt; is, "{text}");
+    Ok(())
 }

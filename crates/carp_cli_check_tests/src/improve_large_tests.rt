@@ -1,4 +1,4 @@
-// Certificates at limits that are gone on from: with all price sets, and with all tours.
+// Certificates at limits that are gone on from: with all price sets, with all tours, and with a thousand leaves.
 ghost use Rattle.std.specs.Prelude.{◌≤◌};
 
 use crate::improve_tests::{is_accepted, reported, store};
@@ -57,6 +57,51 @@ fn a_plan_of_100_000_tours_is_improved(rt: HostRuntime) -> Result<(), Fail> {
     let alloc = rt.alloc();
     let long = row_certificate(alloc, 100_000, 1, 0)?;
     let mut shelf = store(alloc, "row", long.as_str(), &[])?;
+    let last = reported(alloc, &mut shelf, "improve file cert new --turns 1")?;
+    assert_eq!(rt; last, (true, 20, 20));
+    assert!(rt; is_accepted(alloc, &mut shelf, "new", 20, 20)?);
+    Ok(())
+}
+
+// The tours of twenty streets side by side, two in each.
+fn push_tours(alloc: Global, text: &mut String) -> Result<(), Fail> {
+    for k in 0..10_u32 {
+        let (one, two) = (2 * k + 1, 2 * k + 2);
+        text.push_str(format!(in alloc; "tour 2 +{one} -{two}~")?.as_str())?;
+    }
+    Ok(())
+}
+
+// The pairs from a depth of the tree to its leaves: the first two streets at depth 0, and so on.
+fn push_pairs(alloc: Global, text: &mut String, depth: u32) -> Result<(), Fail> {
+    for k in depth.min(10)..10 {
+        let (one, two) = (2 * k + 1, 2 * k + 2);
+        text.push_str(format!(in alloc; "pair {one} {two}~")?.as_str())?;
+    }
+    Ok(())
+}
+
+// A tree that splits by ten pairs on each path, in preorder. Between two leaves, those pairs stand anew for which the second child begins.
+fn push_tree(alloc: Global, text: &mut String) -> Result<(), Fail> {
+    for leaf in 0..1024_u32 {
+        let depth = 10_u32.saturating_sub(leaf.trailing_zeros());
+        push_pairs(alloc, text, depth)?;
+        text.push_str("price 1~")?;
+    }
+    Ok(())
+}
+
+#[test]
+fn a_tree_of_a_thousand_leaves_is_gone_on_with(rt: HostRuntime) -> Result<(), Fail> {
+    let alloc = rt.alloc();
+    let mut text = String::from_str(alloc, "carp-certificate 1~cost 20~bound 0~tours 10~")?;
+    push_tours(alloc, &mut text)?;
+    text.push_str("shores 0~sets 1~prices 1 20")?;
+    push_times(&mut text, " 1", 20)?;
+    text.push_str("~weights 0~nodes 2047~")?;
+    push_tree(alloc, &mut text)?;
+    text.push_str("end~")?;
+    let mut shelf = store(alloc, "beside", text.as_str(), &[])?;
     let last = reported(alloc, &mut shelf, "improve file cert new --turns 1")?;
     assert_eq!(rt; last, (true, 20, 20));
     assert!(rt; is_accepted(alloc, &mut shelf, "new", 20, 20)?);

@@ -15,6 +15,8 @@ mod file_tests;
 mod outside_tests;
 pub mod runs;
 #[cfg(test)]
+mod terminal_tests;
+#[cfg(test)]
 mod tests;
 #[cfg(test)]
 mod torn_tests;

@@ -7,3 +7,7 @@
 mod files;
 #[cfg(test)]
 mod generation_tests;
+#[cfg(test)]
+mod judging;
+#[cfg(test)]
+mod splitting_tests;
