@@ -1,7 +1,7 @@
 import re,os,sys
-ROOT='/work/w/h5/crates/'
-OUT='/work/w/h5rs/src/'
-CR='carp_base plan_model road_network flow_cut deadhead_paths cut_pool edge_components capacity_cuts shore_program shore_search task_tours route_pricing decision_chains branch_rules tight_prices shore_prices price_points price_ascent group_search linear_program column_generation'.split()
+ROOT=sys.argv[1].rstrip('/')+'/crates/'
+OUT=sys.argv[2].rstrip('/')+'/'
+CR='carp_base plan_model road_network flow_cut deadhead_paths cut_pool edge_components capacity_cuts blossom_match matching_duals shore_program shore_search task_tours route_pricing decision_chains branch_rules tight_prices shore_prices price_points price_ascent group_search linear_program column_generation packing_trees dual_master grown_trees branch_tree'.split()
 def strip_block(s,start_re):
     while True:
         m=re.search(start_re,s,re.M)

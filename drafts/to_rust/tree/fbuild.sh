@@ -1,1 +1,0 @@
-cd /work/w/h5rs && DBG=$DBG python3 fconv.py && cp frun.rs fsrc/run.rs && cp shim.rs fsrc/ && nice -n 5 rustc -O -C target-cpu=x86-64-v3 --edition 2024 fsrc/main.rs -o cgf 2>&1 | grep -E "^error" -A7 | head -60
