@@ -179,7 +179,8 @@ fn a_star_stays(rt: HostRuntime) -> Result<(), Fail> {
     expect_raised(&rt, alloc, &inst, 400, 510)
 }
 
-// The tour of the one street has room of 10 less 5 for its price; no shore is there whose weight could rise.
+// The tour of the one street has room of 10 less 5 for its price, in units of the start; no shore is there whose weight
+// could rise.
 #[test]
 fn a_low_price_is_raised(rt: HostRuntime) -> Result<(), Fail> {
     let alloc = rt.alloc();
@@ -191,8 +192,9 @@ fn a_low_price_is_raised(rt: HostRuntime) -> Result<(), Fail> {
     let start = PriceSet::new(alloc, 1, &[5], &[])?;
     assert!(rt; fits(alloc, &inst, &net, &mut table, &pool, &root, &start)?);
     let set = raise(alloc, &inst, &net, &mut table, &mut pool, &root, &start, 0)?;
-    assert_eq!(rt; (set.unit(), set.service(1)), (1, 10));
-    assert_eq!(rt; root.value_at(&inst, &pool, &set), Ok(10));
+    let whole = 10_i128.saturating_mul(i128::from(set.unit()));
+    assert_eq!(rt; i128::from(set.service(1)), whole);
+    assert_eq!(rt; root.value_at(&inst, &pool, &set), Ok(whole));
     Ok(())
 }
 
