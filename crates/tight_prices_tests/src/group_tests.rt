@@ -5,7 +5,7 @@ ghost use Rattle.carp_base.specs.Problem.{Problem};
 ghost use Rattle.branch_rules.specs.Limits.{IsPriceNumber};
 ghost use Rattle.decision_chains.specs.Pairs.{ArePairsIn};
 
-use crate::tight_prices_tests::{expect_tight, fit, plain, row};
+use crate::set_tests::{expect_tight, fit, plain, row};
 use branch_rules::{Branch, Decision, PriceSet, WeightedGroup, surcharge_of};
 use std::alloc::Global;
 use std::process::Abort;

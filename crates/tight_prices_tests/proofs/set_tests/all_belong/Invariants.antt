@@ -1,7 +1,7 @@
 use Rattle.std.proofs.Common.{ℕ, ◌<◌, ◌≤◌}
 use Rattle.cut_pool.specs.Pools.{shore_at}
 use Rattle.cut_pool.specs.Shores.{Belongs}
-use Rattle.price_tests.proofs.tight_prices_tests.all_belong.Given as goal
+use Rattle.tight_prices_tests.proofs.set_tests.all_belong.Given as goal
 
 abbrev pub invariant-loop-number : goal.invariant-loop-number
 invariant-loop-number l = (k : ℕ) → 1 ≤ k → k < l.number → Belongs l.inst (shore_at l.pool k)
