@@ -5,7 +5,7 @@ ghost use Rattle.augment_merge.specs.Merging.{IsAugmentMerged};
 use crate::making::augment_merge;
 use carp_base::{Instance, Memory};
 use deadhead_paths::Distances;
-use helper_frame::{Finder, Helper};
+use helper_frame::{Finder, Helper, Keeper};
 use plan_model::Plan;
 use std::alloc::Global;
 
@@ -32,5 +32,6 @@ impl Finder for MergeFinder {
     }
 }
 
-/// A helper that offers the plan of [`augment_merge`]: a [`Helper`] with what [`MergeFinder`] finds.
-pub type Merger = Helper<MergeFinder>;
+/// A helper that offers the plan of [`augment_merge`]: a [`Helper`] with what [`MergeFinder`] finds. Asked again about the
+/// same instance it offers a copy ([`Keeper`]), until it is seeded anew.
+pub type Merger = Helper<Keeper<MergeFinder>>;

@@ -29,7 +29,7 @@ fn numbers(inst: &Instance) -> (u32, u32, u64, u32)
 }
 
 // Whether two instances have the same numbers and the same edges.
-fn is_same(first: &Instance, second: &Instance) -> bool
+pub(crate) fn is_same(first: &Instance, second: &Instance) -> bool
     ensures same { IsTrue result → first.now ≡ second.now }
     ensures other { first.now ≡ second.now → IsTrue result }
 {

@@ -1,11 +1,13 @@
 // The numbers of a helper, and what a helper offers that is asked about one instance and then about another.
-use augment_merge::MergeFinder;
-use carp_base::Instance;
-use deadhead_paths::single_tours;
+ghost use Rattle.std.specs.Prelude.{⊤};
+
+use augment_merge::{MergeFinder, augment_merge};
+use carp_base::{Instance, Memory};
+use deadhead_paths::{Distances, single_tours};
 use giant_split::SplitFinder;
-use helper_frame::{Finder, Helper, KnownDistances, Standing};
+use helper_frame::{Finder, Helper, Keeper, KnownDistances, Standing};
 use path_scanning::{ScanFinder, Scanner};
-use plan_model::Proposer;
+use plan_model::{Plan, Proposer};
 use samples::{plan_text, street};
 use std::alloc::Global;
 use std::process::Abort;
@@ -118,4 +120,82 @@ fn keeps_distances_of_one_instance(rt: HostRuntime) -> Result<(), Fail> {
         assert_eq!(rt; dist.get(1, 2), Some(least));
     }
     Ok(())
+}
+
+// Finds a tour for each service the first time that it is asked, and tours that are joined from then on.
+#[derive(Drop)]
+struct FirstApart {
+    asked: bool,
+}
+
+impl Finder for FirstApart {
+    ghost finds = { λ _ _ _. ⊤ };
+
+    fn seeded(_word: u64) -> FirstApart {
+        FirstApart { asked: false }
+    }
+
+    fn find(
+        &mut self,
+        alloc: Global,
+        inst: &Instance,
+        dist: &Distances,
+        _best: &Plan,
+    ) -> Result<Plan, Memory> {
+        if self.asked {
+            return augment_merge(alloc, inst, dist);
+        }
+        self.asked = true;
+        single_tours(alloc, inst, dist)
+    }
+}
+
+// What a finder finds, as text.
+fn found_text<F: Finder>(alloc: Global, finder: &mut F, inst: &Instance) -> Result<Vec<u8>, Fail> {
+    let dist = cost_distances(alloc, inst)?;
+    let best = single_tours(alloc, inst, &dist)?;
+    let plan = finder.find(alloc, inst, &dist, &best)?;
+    Ok(plan_text(alloc, &plan)?)
+}
+
+#[test]
+fn keeps_the_plan_of_one_instance(rt: HostRuntime) -> Result<(), Fail> {
+    let alloc = rt.alloc();
+    let (cheap, dear) = (block(alloc, 1)?, block(alloc, 100)?);
+    let mut keeper: Keeper<FirstApart> = Keeper::seeded(7);
+    let apart = found_text(alloc, &mut keeper, &cheap)?;
+    let again = found_text(alloc, &mut keeper, &cheap)?;
+    assert_eq!(rt; again.as_slice(), apart.as_slice());
+    let of_dear = found_text(alloc, &mut keeper, &dear)?;
+    let joined = found_text(alloc, &mut keeper, &cheap)?;
+    assert!(rt; joined.as_slice() != of_dear.as_slice());
+    assert!(rt; joined.as_slice() != apart.as_slice());
+    Ok(())
+}
+
+// Asked about one block twice, another one twice and the first again, a keeper finds each time what a new finder finds.
+fn expect_plans_of_new_finders<F: Finder>(rt: &impl Abort, alloc: Global) -> Result<(), Fail> {
+    let mut keeper: Keeper<F> = Keeper::seeded(7);
+    for first in [1, 1, 100, 100, 1] {
+        let inst = block(alloc, first)?;
+        let mut new = F::seeded(7);
+        let text = found_text(alloc, &mut keeper, &inst)?;
+        let want = found_text(alloc, &mut new, &inst)?;
+        assert_eq!(rt;
+            text.as_slice(),
+            want.as_slice(),
+            "where the first street costs {first}"
+        );
+    }
+    Ok(())
+}
+
+#[test]
+fn keeps_scans_of_the_instance_that_is_asked_about(rt: HostRuntime) -> Result<(), Fail> {
+    expect_plans_of_new_finders::<ScanFinder>(&rt, rt.alloc())
+}
+
+#[test]
+fn keeps_merges_of_the_instance_that_is_asked_about(rt: HostRuntime) -> Result<(), Fail> {
+    expect_plans_of_new_finders::<MergeFinder>(&rt, rt.alloc())
 }

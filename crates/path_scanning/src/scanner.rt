@@ -9,7 +9,7 @@ use crate::rule::Rule;
 use crate::scanning::scan;
 use carp_base::{Instance, Memory};
 use deadhead_paths::{Distances, least_prices_are_there, walks_are_task_tours};
-use helper_frame::{Finder, Helper};
+use helper_frame::{Finder, Helper, Keeper};
 use plan_model::Plan;
 use std::alloc::Global;
 use task_tours::lawful_cost;
@@ -87,5 +87,6 @@ impl Finder for ScanFinder {
     }
 }
 
-/// A helper that offers the cheapest of the plans of the five rules: a [`Helper`] with what [`ScanFinder`] finds.
-pub type Scanner = Helper<ScanFinder>;
+/// A helper that offers the cheapest of the plans of the five rules: a [`Helper`] with what [`ScanFinder`] finds. Asked
+/// again about the same instance it offers a copy ([`Keeper`]), until it is seeded anew.
+pub type Scanner = Helper<Keeper<ScanFinder>>;
