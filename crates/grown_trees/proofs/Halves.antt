@@ -2,13 +2,13 @@
 use Rattle.std.proofs.Common.{◌≡◌, ℕ, suc, ◌+◌, ◌-◌, ◌≤◌, ◌<◌, List, [], ◌∷◌, ◌++◌, length, take, drop, sym, ap, ◌∙◌, arith, append_assoc}
 use Rattle.std.proofs.lemmas.List.{take-append-le, drop-append-le}
 
-take_past : {X : Type 0} (xs ys : List X) (j : ℕ) → take (length xs + j) (xs ++ ys) ≡ xs ++ take j ys
+pub take_past : {X : Type 0} (xs ys : List X) (j : ℕ) → take (length xs + j) (xs ++ ys) ≡ xs ++ take j ys
 take_past [] ys j = let same : 0 + j ≡ j = omega arith in ap (λ n. take n ys) same
 take_past (x ∷ xs) ys j =
     let more : length (x ∷ xs) + j ≡ suc (length xs + j) = omega arith in
     ap (λ n. take n (x ∷ (xs ++ ys))) more ∙ ap (λ zs. x ∷ zs) (take_past xs ys j)
 
-drop_past : {X : Type 0} (xs ys : List X) (j : ℕ) → drop (length xs + j) (xs ++ ys) ≡ drop j ys
+pub drop_past : {X : Type 0} (xs ys : List X) (j : ℕ) → drop (length xs + j) (xs ++ ys) ≡ drop j ys
 drop_past [] ys j = let same : 0 + j ≡ j = omega arith in ap (λ n. drop n ys) same
 drop_past (x ∷ xs) ys j =
     let more : length (x ∷ xs) + j ≡ suc (length xs + j) = omega arith in

@@ -2,6 +2,8 @@ pub mod Halves
 pub mod Standing
 pub mod Eaches
 pub mod Reading
+pub mod Joining
+pub mod Skipping
 pub mod Gaining
 pub mod Widening
 pub mod Sound

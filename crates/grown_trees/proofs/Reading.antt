@@ -1,5 +1,5 @@
 -- The nodes before a place, read backward, tell the way to it.
-use Rattle.std.proofs.Common.{◌≡◌, ℕ, zero, suc, ◌-◌, ◌≤◌, ◌<◌, List, [], ◌∷◌, ◌++◌, length, map, take, reverse, refl, sym, ap, ◌∙◌, subst, arith, inl, inr, append_assoc, append-nil}
+use Rattle.std.proofs.Common.{◌≡◌, ℕ, zero, suc, ◌+◌, ◌-◌, ◌≤◌, ◌<◌, List, [], ◌∷◌, ◌++◌, length, map, take, reverse, refl, sym, ap, ◌∙◌, subst, arith, inl, inr, append_assoc, append-nil}
 use Rattle.std.specs.List.{All, AllByRecursion}
 use Rattle.std.proofs.lemmas.Bool.{cases_lt, lt-ltb, le-ltb}
 use Rattle.std.proofs.lemmas.List.{reverse-append, length-reverse, get_or-reverse, length-map, take-map}
@@ -12,7 +12,7 @@ use Rattle.branch_rules.specs.declared.node.Node.TheVariants as nodes
 use Rattle.branch_rules.specs.Trees.{Tree, pair, cut, price, void, fixed, preorder}
 use Rattle.grown_trees.specs.Places.{size_of, branch_to, IsFineNode}
 use Rattle.grown_trees.specs.declared.growing.GrowingNode.{GrowingNode}
-use Rattle.grown_trees.specs.Backward.{Found, split_read, node_read, all_read}
+use Rattle.grown_trees.specs.Backward.{Found, split_read, node_read, all_read, read_from}
 use Rattle.grown_trees.proofs.Halves.{take_first, take_second}
 use Rattle.grown_trees.proofs.Standing.{inside_second}
 
@@ -107,13 +107,13 @@ split_few ds zero first second = omega arith
 split_few ds (suc zero) first second = omega arith
 split_few ds (suc (suc n)) first second = omega arith
 
-pub read_few : (xs : List Node) → (all_read xs).whole ≤ length xs
-read_few [] = omega arith
-read_few (nodes.Pair a b ∷ xs) = omega (arith, read_few xs, split_few (all_read xs).decisions (all_read xs).whole (Yes a b) (No a b))
-read_few (nodes.Cut shore k ∷ xs) = omega (arith, read_few xs, split_few (all_read xs).decisions (all_read xs).whole (Low shore k) (High shore k))
-read_few (nodes.Price set ∷ xs) = omega (arith, read_few xs)
-read_few (nodes.Void ∷ xs) = omega (arith, read_few xs)
-read_few (nodes.Fixed ∷ xs) = omega (arith, read_few xs)
+pub read_few : (f : Found) (xs : List Node) → (read_from f xs).whole ≤ f.whole + length xs
+read_few f [] = omega arith
+read_few f (nodes.Pair a b ∷ xs) = omega (arith, read_few f xs, split_few (read_from f xs).decisions (read_from f xs).whole (Yes a b) (No a b))
+read_few f (nodes.Cut shore k ∷ xs) = omega (arith, read_few f xs, split_few (read_from f xs).decisions (read_from f xs).whole (Low shore k) (High shore k))
+read_few f (nodes.Price set ∷ xs) = omega (arith, read_few f xs)
+read_few f (nodes.Void ∷ xs) = omega (arith, read_few f xs)
+read_few f (nodes.Fixed ∷ xs) = omega (arith, read_few f xs)
 
 split_fine : (ds : List Decision) (w : ℕ) (first second : Decision) → All IsFineDecision ds → IsFineDecision first → IsFineDecision second → All IsFineDecision (split_read ds w first second).decisions
 split_fine ds zero first second fine here other = All-push IsFineDecision ds first fine here

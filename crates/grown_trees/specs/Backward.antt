@@ -26,10 +26,14 @@ node_read found (nodes.Price set) = record { decisions = found.decisions; whole 
 node_read found nodes.Void = record { decisions = found.decisions; whole = suc found.whole }
 node_read found nodes.Fixed = record { decisions = found.decisions; whole = suc found.whole }
 
+-- nodes were read as well, from the last to the first
+abbrev pub read_from : Found → List Node → Found
+read_from found [] = found
+read_from found (node ∷ rest) = node_read (read_from found rest) node
+
 -- nodes were read, from the last to the first
 abbrev pub all_read : List Node → Found
-all_read [] = record { decisions = []; whole = 0 }
-all_read (node ∷ rest) = node_read (all_read rest) node
+all_read nodes = read_from (record { decisions = []; whole = 0 }) nodes
 
 -- what a way holds
 abbrev pub found_by : Way → Found

@@ -35,8 +35,7 @@ cut_entry k shows = record { node = nodes.Cut 1 k; shows = shows }
 abbrev pub whole : ℕ → Fraction
 whole n = record { unit = 1; value = pos n }
 
--- three nodes, and memory for two more
+-- three nodes
 pub record IsSmall (tree : Growth) : Type 0 where
   pub long : length tree.nodes ≡ 3
-  pub room : tree.room ≡ 5
   pub fine : All (λ entry. IsFineNode entry.node) tree.nodes

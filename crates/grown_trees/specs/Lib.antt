@@ -4,4 +4,5 @@ pub mod Growth
 pub mod Values
 pub mod Laws
 pub mod Backward
+pub mod Blocks
 pub mod Examples

@@ -1,9 +1,13 @@
 // Trees that grow at their leaves.
-ghost use Rattle.std.specs.Prelude.{◌≡◌, ℕ, ◌+◌, ◌<◌, ◌≤◌, ◌++◌, ◌∷◌, [], length, map, take, drop, slice_index_or, position, vec_capacity, All, IfOk, IfSome, IfNone};
+ghost use Rattle.std.specs.Prelude.{◌≡◌, ℕ, ◌+◌, ◌<◌, ◌≤◌, ◌++◌, ◌∷◌, [], length, map, take, drop, slice_index_or, All, IfOk, OnOk, OnErr, IfSome, IfNone};
 ghost use Rattle.branch_rules.specs.Trees.{Tree as DecisionTree, preorder};
-ghost use Rattle.grown_trees.specs.Growth.{IsLeastOpen, shows_just, turns_in};
+ghost use Rattle.grown_trees.specs.Growth.{IsLeastOpen, turns_in};
 ghost use Rattle.grown_trees.specs.Places.{IsFineNode, branch_to};
 
+use crate::block::Block;
+use crate::blocks::{
+    blocks_of, first_that_shows, least_of, node_in, replace_in, split_in, tree_of, turns_of,
+};
 use crate::way::branch_at;
 use branch_rules::{Branch, Node, Tree};
 use carp_base::Memory;
@@ -18,55 +22,55 @@ pub struct GrowingNode {
     pub shows: u64,
 }
 
-/// The nodes of a tree in preorder, each with the greatest bound that it shows by itself. Memory for all nodes that are
-/// to come is taken when the tree is made.
+/// The nodes of a tree in preorder, each with the greatest bound that it shows by itself.
 ///
-/// Contracts see the list, and the number of nodes for which there is memory. `len`, `node` and `replace` take the same
-/// time whatever the tree. Each other call takes time in proportion to the number of nodes.
+/// The nodes stand in blocks of at most 1,024, and a full block is divided into two. Contracts see the list of all
+/// nodes. With n nodes, `len` takes the same time whatever the tree; `node`, `replace`, `split`, `shown`, `open_leaf`,
+/// and `turns` for the cost of the last call take time in proportion to 1,024 + n / 512. `branch_to` takes that time
+/// once, and once more for each decision on the way at most. `of`, `tree`, and `turns` for another cost take time in
+/// proportion to n.
 #[derive(Drop)]
 pub struct GrowingTree {
-    nodes: Vec<GrowingNode>,
-    room: usize,
-    ghost taken: { room ≤ vec_capacity nodes },
+    blocks: Vec<Block>,
+    len: usize,
 }
 
 impl Model for GrowingTree {
-    ghost use Rattle.std.specs.Prelude.{◌≤◌, length};
+    ghost use Rattle.std.specs.Prelude.{◌≡◌, ◌^◌, ◌<◌, length};
     ghost use Rattle.grown_trees.specs.Growth.{Growth};
 
     ghost Value = { Growth };
 
-    ghost view = { λ t. record { nodes = t.nodes.items; room = t.room } };
+    ghost use Rattle.grown_trees.specs.Blocks.{joined};
 
-    ghost invariant = { λ t. length t.nodes.items ≤ t.room };
+    ghost view = { λ t. record { nodes = joined t.blocks.items } };
+
+    ghost invariant = { λ t. (t.len ≡ length (joined t.blocks.items)) × (t.len < 2 ^ 64) };
 }
 
 impl GrowingTree {
-    /// The tree of one node, with memory for so many. The only error is want of memory.
-    pub fn new(alloc: Global, room: usize, root: GrowingNode) -> Result<GrowingTree, Memory>
-        requires { 1 ≤ room }
-        ensures { IfOk result (λ tree. tree ≡ record { nodes = root ∷ []; room = room }) }
+    /// The tree of one node. The only error is want of memory.
+    pub fn new(alloc: Global, root: GrowingNode) -> Result<GrowingTree, Memory>
+        ensures { IfOk result (λ tree. tree ≡ record { nodes = root ∷ [] }) }
     {
-        let mut nodes = Vec::with_capacity(alloc, room)?;
-        nodes.push(root)?;
-        Ok(GrowingTree { nodes, room })
+        GrowingTree::of(alloc, &[root])
     }
 
-    /// The tree of these nodes, with memory for so many. The only error is want of memory.
-    pub fn of(alloc: Global, room: usize, nodes: &[GrowingNode]) -> Result<GrowingTree, Memory>
-        requires { length nodes.now ≤ room }
-        ensures { IfOk result (λ tree. tree ≡ record { nodes = nodes.now; room = room }) }
+    /// The tree of these nodes. The only error is want of memory.
+    pub fn of(alloc: Global, nodes: &[GrowingNode]) -> Result<GrowingTree, Memory>
+        ensures { IfOk result (λ tree. tree ≡ record { nodes = nodes.now }) }
     {
-        let mut all = Vec::with_capacity(alloc, room)?;
-        all.extend_from_slice(nodes)?;
-        Ok(GrowingTree { nodes: all, room })
+        Ok(GrowingTree {
+            blocks: blocks_of(alloc, nodes)?,
+            len: nodes.len(),
+        })
     }
 
     /// The number of nodes.
     pub fn len(&self) -> usize
         ensures { result ≡ length self.now.nodes }
     {
-        self.nodes.len()
+        self.len
     }
 
     /// The node at a place from 0.
@@ -74,54 +78,58 @@ impl GrowingTree {
         requires { place < length self.now.nodes }
         ensures { result ≡ slice_index_or self.now.nodes place result }
     {
-        self.nodes[place]
+        node_in(&self.blocks, place)
     }
 
     /// The decisions on the way to the node at a place, from the root on. The nodes before the place tell them.
     ///
-    /// The only error is want of memory. It takes time and memory in proportion to the place.
+    /// The only error is want of memory.
     pub fn branch_to(&self, alloc: Global, place: usize) -> Result<Branch, Memory>
         requires place { place < length self.now.nodes }
         requires fine { All (λ entry. IsFineNode entry.node) self.now.nodes }
         ensures { (tree : DecisionTree) → preorder tree ≡ map (λ entry. entry.node) self.now.nodes → IfOk result (λ branch. branch ≡ branch_to [] tree place) }
     {
-        branch_at(alloc, &self.nodes, place)
+        branch_at(alloc, &self.blocks, place)
     }
 
     /// Puts another node in the place of a node. The list stays that of a tree if both are leaves. It takes no memory.
     pub fn replace(&mut self, place: usize, leaf: GrowingNode)
         requires { place < length self.old.nodes }
-        ensures { self.new ≡ record { nodes = take place self.old.nodes ++ ((leaf ∷ []) ++ drop (place + 1) self.old.nodes); room = self.old.room } }
+        ensures { self.new ≡ record { nodes = take place self.old.nodes ++ ((leaf ∷ []) ++ drop (place + 1) self.old.nodes) } }
     {
-        self.nodes[place] = leaf;
+        replace_in(&mut self.blocks, place, leaf);
     }
 
     /// Puts a node with two behind it in the place of a node. The list stays that of a tree if the first is an inner
-    /// node, and the two and the one that gives way are leaves. It takes no memory.
+    /// node, and the two and the one that gives way are leaves. The only error is want of memory, and then the list is
+    /// as it was.
     pub fn split(
         &mut self,
+        alloc: Global,
         place: usize,
         inner: GrowingNode,
         first: GrowingNode,
         second: GrowingNode,
-    )
-        requires place { place < length self.old.nodes }
-        requires room { length self.old.nodes + 2 ≤ self.old.room }
-        ensures { self.new ≡ record { nodes = take place self.old.nodes ++ ((inner ∷ first ∷ second ∷ []) ++ drop (place + 1) self.old.nodes); room = self.old.room } }
+    ) -> Result<(), Memory>
+        requires { place < length self.old.nodes }
+        ensures ok { OnOk result (self.new ≡ record { nodes = take place self.old.nodes ++ ((inner ∷ first ∷ second ∷ []) ++ drop (place + 1) self.old.nodes) }) }
+        ensures err { OnErr result (self.new ≡ self.old) }
     {
-        self.nodes[place] = second;
-        self.nodes.insert(place, first).unwrap();
-        self.nodes.insert(place, inner).unwrap();
+        let Some(len) = self.len.checked_add(2) else {
+            return Err(Memory);
+        };
+        split_in(alloc, &mut self.blocks, place, inner, first, second)?;
+        self.len = len;
+        Ok(())
     }
 
-    /// The number of nodes that show a cost by themselves: the inner nodes, and the leaves that are closed for the cost.
-    pub fn turns(&self, cost: u64) -> usize
-        ensures { result ≡ turns_in cost self.now.nodes }
+    /// The number of nodes that show a cost by themselves: the inner nodes, and the leaves that are closed for the
+    /// cost. The list is as it was. The tree keeps what it counted, until the cost is another one.
+    pub fn turns(&mut self, cost: u64) -> usize
+        ensures same { self.new ≡ self.old }
+        ensures turns { result ≡ turns_in cost self.old.nodes }
     {
-        self.nodes
-            .iter()
-            .filter(|entry| cost <= entry.shows)
-            .count()
+        turns_of(&mut self.blocks, cost)
     }
 
     /// The greatest bound, up to a cost, that each node shows: the least of the cost and the numbers of all nodes.
@@ -130,7 +138,7 @@ impl GrowingTree {
         ensures each { All (λ entry. result ≤ entry.shows) self.now.nodes }
         ensures greatest { (bound : ℕ) → bound ≤ cost → All (λ entry. bound ≤ entry.shows) self.now.nodes → bound ≤ result }
     {
-        least_shown(&self.nodes, cost)
+        least_of(&self.blocks, cost)
     }
 
     /// The first place of a node that does not show a cost by itself and whose number is the least of all, or `None`
@@ -144,45 +152,13 @@ impl GrowingTree {
         if least == cost {
             return None;
         }
-        first_that_shows(&self.nodes, least)
+        first_that_shows(&self.blocks, least)
     }
 
-    /// The nodes as a tree. The only error is want of memory. No clause says for how many more nodes it has memory.
+    /// The nodes as a tree. The only error is want of memory.
     pub fn tree(&self, alloc: Global) -> Result<Tree, Memory>
-        ensures nodes { IfOk result (λ tree. tree.nodes ≡ map (λ entry. entry.node) self.now.nodes) }
-        ensures few { length self.now.nodes ≤ self.now.room }
+        ensures { IfOk result (λ tree. tree.nodes ≡ map (λ entry. entry.node) self.now.nodes) }
     {
-        tree_of(alloc, &self.nodes)
+        tree_of(alloc, &self.blocks, self.len)
     }
-}
-
-// The least of a cost and the numbers of the nodes.
-fn least_shown(nodes: &[GrowingNode], cost: u64) -> u64
-    ensures at_most { result ≤ cost }
-    ensures each { All (λ entry. result ≤ entry.shows) nodes.now }
-    ensures greatest { (bound : ℕ) → bound ≤ cost → All (λ entry. bound ≤ entry.shows) nodes.now → bound ≤ result }
-{
-    let mut least = cost;
-    for entry in nodes {
-        least = least.min(entry.shows);
-    }
-    least
-}
-
-// The first place of a node of this number.
-fn first_that_shows(nodes: &[GrowingNode], shows: u64) -> Option<usize>
-    ensures { result ≡ position (shows_just shows) nodes.now }
-{
-    nodes.iter().position(|entry| entry.shows == shows)
-}
-
-// The nodes as a tree.
-fn tree_of(alloc: Global, nodes: &[GrowingNode]) -> Result<Tree, Memory>
-    ensures { IfOk result (λ tree. tree.nodes ≡ map (λ entry. entry.node) nodes.now) }
-{
-    let mut tree = Tree::new(alloc, nodes.len())?;
-    for entry in nodes {
-        tree.put_node(entry.node);
-    }
-    Ok(tree)
 }

@@ -14,11 +14,14 @@
 //! determined ([`decisions_keep_sets`]). So the two leaves of a split may name the set of the leaf that was split. Such
 //! a decision leaves each excluded pair excluded, and each chain within the capacity ([`decisions_keep_exclusions`]).
 //!
-//! - `growing`, `way`: the tree, and the decisions on the way to a place of it.
+//! - `growing`, `blocks`, `block`: the tree, the blocks that its nodes stand in, and what is known of each block.
+//! - `way`: the decisions on the way to a place of a tree.
 //! - `values`: what price sets show under a branch.
 //! - `laws`: what is proved of all trees that grow.
 #![tactic(auto)]
 
+mod block;
+mod blocks;
 mod examples;
 mod growing;
 mod laws;

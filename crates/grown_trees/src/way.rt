@@ -1,42 +1,43 @@
 // The decisions on the way to a place of a tree.
-ghost use Rattle.std.specs.Prelude.{◌≡◌, suc, ◌+◌, ◌<◌, ◌^◌, ◌++◌, ◌∷◌, [], length, map, All, IfOk, OnOk};
+ghost use Rattle.std.specs.Prelude.{◌≡◌, suc, ◌+◌, ◌<◌, ◌^◌, ◌++◌, ◌∷◌, [], length, map, take, All, IfOk, OnOk};
 ghost use Rattle.branch_rules.specs.Limits.{IsFineDecision};
 ghost use Rattle.branch_rules.specs.Trees.{Tree, preorder};
-ghost use Rattle.grown_trees.specs.Backward.{all_read, found_by, node_read, split_read};
+ghost use Rattle.grown_trees.specs.Backward.{all_read, found_by, node_read, read_from, split_read};
+ghost use Rattle.grown_trees.specs.Blocks.{joined};
 ghost use Rattle.grown_trees.specs.Places.{IsFineNode, branch_to};
 
+use crate::block::Block;
+use crate::blocks::find;
 use crate::growing::GrowingNode;
 use branch_rules::{Branch, Decision, Node};
 use carp_base::Memory;
 use std::alloc::Global;
 
-// The decisions on the way to the node at a place of a list of nodes in preorder, from the root on. The list is that of
-// a whole tree, of which the nodes before the place suffice. It takes time and memory in proportion to the place.
-pub(crate) fn branch_at(
-    alloc: Global,
-    nodes: &[GrowingNode],
-    place: usize,
-) -> Result<Branch, Memory>
-    requires place { place < length nodes.now }
-    requires fine { All (λ entry. IsFineNode entry.node) nodes.now }
-    ensures { (tree : Tree) → preorder tree ≡ map (λ entry. entry.node) nodes.now → IfOk result (λ branch. branch ≡ branch_to [] tree place) }
+// The decisions on the way to the node at a place of the nodes of blocks, in preorder, from the root on. The nodes are
+// those of a whole tree, of which those before the place suffice.
+pub(crate) fn branch_at(alloc: Global, blocks: &[Block], place: usize) -> Result<Branch, Memory>
+    requires place { place < length (joined blocks.now) }
+    requires few { length (joined blocks.now) < 2 ^ 64 }
+    requires fine { All (λ entry. IsFineNode entry.node) (joined blocks.now) }
+    ensures { (tree : Tree) → preorder tree ≡ map (λ entry. entry.node) (joined blocks.now) → IfOk result (λ branch. branch ≡ branch_to [] tree place) }
 {
-    let decisions = decisions_to(alloc, nodes, place)?;
+    let decisions = decisions_to(alloc, blocks, place)?;
     branch_of(alloc, &decisions)
 }
 
 // The decisions on the way to a place, from the root on.
 pub(crate) fn decisions_to(
     alloc: Global,
-    nodes: &[GrowingNode],
+    blocks: &[Block],
     place: usize,
 ) -> Result<Vec<Decision>, Memory>
-    requires place { place < length nodes.now }
-    requires fine { All (λ entry. IsFineNode entry.node) nodes.now }
-    ensures way { (tree : Tree) → preorder tree ≡ map (λ entry. entry.node) nodes.now → IfOk result (λ decisions. decisions.items ≡ branch_to [] tree place) }
+    requires place { place < length (joined blocks.now) }
+    requires few { length (joined blocks.now) < 2 ^ 64 }
+    requires fine { All (λ entry. IsFineNode entry.node) (joined blocks.now) }
+    ensures way { (tree : Tree) → preorder tree ≡ map (λ entry. entry.node) (joined blocks.now) → IfOk result (λ decisions. decisions.items ≡ branch_to [] tree place) }
     ensures fine { IfOk result (λ decisions. All IsFineDecision decisions.items) }
 {
-    let mut decisions = decisions_back(alloc, &nodes[..place])?;
+    let mut decisions = decisions_back(alloc, blocks, place)?;
     decisions.reverse();
     Ok(decisions)
 }
@@ -51,6 +52,42 @@ struct Way {
 }
 
 impl Way {
+    // Reads the nodes of blocks.
+    fn read_blocks(&mut self, blocks: &[Block]) -> Result<(), Memory>
+        requires { self.old.whole + length (joined blocks.now) < 2 ^ 64 }
+        ensures { OnOk result (found_by self.new ≡ read_from (found_by self.old) (map (λ entry. entry.node) (joined blocks.now))) }
+    {
+        for i in (0..blocks.len()).rev() {
+            self.read_block(&blocks[i])?;
+        }
+        Ok(())
+    }
+
+    // Reads the nodes of a block. If enough whole subtrees are behind it, each inner node in it joins two of them, and
+    // no node is looked at.
+    fn read_block(&mut self, block: &Block) -> Result<(), Memory>
+        requires { self.old.whole + length block.now < 2 ^ 64 }
+        ensures { OnOk result (found_by self.new ≡ read_from (found_by self.old) (map (λ entry. entry.node) block.now)) }
+    {
+        let skip = block.skip();
+        if self.whole < skip.need {
+            return self.read_nodes(block.nodes());
+        }
+        self.whole = self.whole + skip.leaves - skip.inner;
+        Ok(())
+    }
+
+    // Reads nodes.
+    fn read_nodes(&mut self, nodes: &[GrowingNode]) -> Result<(), Memory>
+        requires { self.old.whole + length nodes.now < 2 ^ 64 }
+        ensures { OnOk result (found_by self.new ≡ read_from (found_by self.old) (map (λ entry. entry.node) nodes.now)) }
+    {
+        for i in (0..nodes.len()).rev() {
+            self.read(&nodes[i].node)?;
+        }
+        Ok(())
+    }
+
     // Reads a node. If no whole subtree is behind a node with two children, the way goes through its first child. If
     // one is, it goes through the second child. If more are, the node is the root of a whole subtree itself, as a leaf
     // is.
@@ -102,17 +139,19 @@ impl Way {
     }
 }
 
-// The decisions on the way to the node behind these, the last one first.
-fn decisions_back(alloc: Global, before: &[GrowingNode]) -> Result<Vec<Decision>, Memory>
-    ensures { IfOk result (λ decisions. decisions.items ≡ (all_read (map (λ entry. entry.node) before.now)).decisions) }
+// The decisions on the way to the node at a place, the last one first.
+fn decisions_back(alloc: Global, blocks: &[Block], place: usize) -> Result<Vec<Decision>, Memory>
+    requires place { place < length (joined blocks.now) }
+    requires few { length (joined blocks.now) < 2 ^ 64 }
+    ensures { IfOk result (λ decisions. decisions.items ≡ (all_read (map (λ entry. entry.node) (take place (joined blocks.now)))).decisions) }
 {
+    let spot = find(blocks, place);
     let mut way = Way {
         decisions: Vec::new(alloc),
         whole: 0,
     };
-    for i in (0..before.len()).rev() {
-        way.read(&before[i].node)?;
-    }
+    way.read_nodes(&blocks[spot.block].nodes()[..spot.inner])?;
+    way.read_blocks(&blocks[..spot.block])?;
     Ok(way.decisions)
 }
 

@@ -1,7 +1,8 @@
 use Rattle.std.proofs.Common.{subst, sym}
 use Rattle.std.proofs.Common.{take, ◌+◌}
-use Rattle.grown_trees.proofs.Leasts.{IsLeast, least_more}
-use Rattle.grown_trees.proofs.growing.least_shown.Goals as goal
+use Rattle.grown_trees.specs.Blocks.{IsLeast}
+use Rattle.grown_trees.proofs.Leasts.{least_more}
+use Rattle.grown_trees.proofs.block.least_shown.Goals as goal
 
 pub loop-entry-preserved : goal.loop-entry-preserved
 loop-entry-preserved c =
