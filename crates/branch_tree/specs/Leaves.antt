@@ -1,5 +1,5 @@
 -- The leaf that a step takes, and what is put in its place. No public contract speaks of this.
-use Rattle.std.specs.Prelude.{◌≡◌, ℕ, zero, suc, ◌+◌, ◌-◌, ◌≤◌, List, [], ◌∷◌, ◌++◌, take, drop, map, length, slice_index_or, if◌then◌else◌, nat_lt, Result, IfOk, OnErr}
+use Rattle.std.specs.Prelude.{◌≡◌, ℕ, zero, suc, ◌+◌, ◌-◌, ◌*◌, ◌≤◌, List, [], ◌∷◌, ◌++◌, take, drop, map, length, slice_index_or, if◌then◌else◌, nat_lt, Result, IfOk, OnErr}
 use Rattle.std.specs.List.{All}
 use Rattle.carp_base.specs.declared.fail.Memory.{Memory}
 use Rattle.carp_base.specs.Problem.{Problem}
@@ -94,14 +94,15 @@ pub record IsSplitNode (p : Problem) (pool : List (List ℕ)) (branch : List Dec
   pub spelled : IsSpelledNode 0 node
   pub lean : IsLeanNode p pool branch (4 - cuts_of branch) node
 
--- the instance, the distances, the table, the budget, the bound of the beginning and the room for nodes are as before
+-- the instance, the distances, the table, the budget and the bound of the beginning are as before, and the tree has no more nodes than a
+-- budget of turns can make, if it had no more before
 pub record IsFramed (before after : Search) : Type 0 where
   pub net : after.net ≡ before.net
   pub dist : after.dist ≡ before.dist
   pub table : after.table ≡ before.table
   pub turns : after.turns ≡ before.turns
   pub least : after.least ≡ before.least
-  pub room : after.tree.room ≡ before.tree.room
+  pub few : length before.tree.nodes ≤ 2 * before.turns + 1 → length after.tree.nodes ≤ 2 * after.turns + 1
 
 -- so they are, except the table, which is one for the instance
 pub record IsRepriced (p : Problem) (before after : Search) : Type 0 where
@@ -110,7 +111,7 @@ pub record IsRepriced (p : Problem) (before after : Search) : Type 0 where
   pub table : IsRoom p after.table
   pub turns : after.turns ≡ before.turns
   pub least : after.least ≡ before.least
-  pub room : after.tree.room ≡ before.tree.room
+  pub few : length before.tree.nodes ≤ 2 * before.turns + 1 → length after.tree.nodes ≤ 2 * after.turns + 1
 
 -- a search with another pool
 abbrev pub with_pool : State → List (List ℕ) → State

@@ -1,5 +1,5 @@
 // How a search begins.
-ghost use Rattle.std.specs.Prelude.{◌≡◌, ◌*◌, ◌+◌, ◌≤◌, ◌∷◌, [], IfOk};
+ghost use Rattle.std.specs.Prelude.{◌≡◌, ◌≤◌, ◌∷◌, [], IfOk};
 ghost use Rattle.plan_model.specs.Plans.{plan_cost};
 ghost use Rattle.task_tours.specs.Shorts.{IsAllowedPlan};
 ghost use Rattle.branch_tree.specs.Beginnings.{AreTools, IsFloor, IsRoot};
@@ -41,8 +41,7 @@ impl Search {
     /// A search for an instance from a plan on, for a budget of turns from 1 to 1,048,576.
     ///
     /// The plan is lawful and has at most 100,000 tours and 2,000,000 steps. The tree is one leaf with the best set of
-    /// the floors (`dual_master::floors`), and the pool is as `floors` leaves it. Memory for all nodes that the budget
-    /// can make, up to `2 * turns + 1`, is taken here, so that no step lacks it.
+    /// the floors (`dual_master::floors`), and the pool is as `floors` leaves it.
     ///
     /// The only error is want of memory. It takes the time of least paths between all pairs of vertices and of the
     /// floors.
@@ -58,7 +57,7 @@ impl Search {
         let cost = allowed_cost(alloc, inst, &best)?;
         let mut tools = tools_of(alloc, inst)?;
         let floor = floor_of(alloc, inst, &mut tools)?;
-        let tree = plant(alloc, inst, turns, &floor)?;
+        let mut tree = plant(alloc, inst, &floor)?;
         let sets = one_set(alloc, floor.set)?;
         let least = tree.node(0).shows;
         let done = tree.turns(cost) as u64;
@@ -126,15 +125,13 @@ fn floor_of(alloc: Global, inst: &Instance, tools: &mut Tools) -> Result<Floor, 
     Ok(Floor { pool, set })
 }
 
-// The tree of one leaf that names the first set, with memory for all nodes that so many turns can make.
-fn plant(alloc: Global, inst: &Instance, turns: u64, floor: &Floor) -> Result<GrowingTree, Memory>
-    requires turns { turns ≤ 1048576 }
-    requires floor { IsFloor inst.now floor.now }
-    ensures { IfOk result (IsRoot inst.now turns floor.now) }
+// The tree of one leaf that names the first set.
+fn plant(alloc: Global, inst: &Instance, floor: &Floor) -> Result<GrowingTree, Memory>
+    requires { IsFloor inst.now floor.now }
+    ensures { IfOk result (IsRoot inst.now floor.now) }
 {
     let shows = shown_under(inst, &floor.pool, &Branch::new(alloc), &floor.set);
-    let room = 2 * turns as usize + 1;
-    GrowingTree::new(alloc, room, price_leaf(1, shows))
+    GrowingTree::new(alloc, price_leaf(1, shows))
 }
 
 // The list of one price set.

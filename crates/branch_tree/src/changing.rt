@@ -1,5 +1,6 @@
 // Changes of a search, each of them whole.
-ghost use Rattle.std.specs.Prelude.{◌≡◌, ◌<◌, ◌≤◌, ◌+◌, ◌++◌, ◌∷◌, [], length, OnOk, OnErr};
+ghost use Rattle.std.specs.Prelude.{◌≡◌, ◌<◌, ◌≤◌, ◌+◌, ◌*◌, ◌++◌, ◌∷◌, [], length, take, drop, IfOk, OnOk, OnErr};
+ghost use Rattle.grown_trees.specs.Growth.{turns_in};
 ghost use Rattle.branch_tree.specs.Leaves.{IsFramed, split_nodes, with_cheaper, with_news, with_set};
 ghost use Rattle.branch_tree.specs.Searches.{state_of};
 
@@ -7,8 +8,9 @@ use crate::children::Children;
 use crate::search::Search;
 use branch_rules::{Node, PriceSet};
 use carp_base::Memory;
-use grown_trees::GrowingNode;
+use grown_trees::{GrowingNode, GrowingTree};
 use plan_model::Plan;
+use std::alloc::Global;
 
 impl Search {
     // Puts another leaf in the place of a leaf.
@@ -17,29 +19,59 @@ impl Search {
         ensures framed { IsFramed self.old self.new }
         ensures state { state_of self.new ≡ with_news (state_of self.old) place (leaf ∷ []) }
     {
-        self.tree.replace(place, leaf);
-        let turns = self.tree.turns(self.cost);
-        self.done = turns as u64;
+        self.done = replace_leaf(&mut self.tree, place, leaf, self.cost);
     }
 
-    // Puts an inner node with two price leaves of one set in the place of a leaf.
-    pub(crate) fn put_split(&mut self, place: usize, node: Node, set: u32, children: Children)
+    // Puts an inner node with two price leaves of one set in the place of a leaf. Without memory all stays as it was.
+    pub(crate) fn put_split(
+        &mut self,
+        place: usize,
+        node: Node,
+        set: u32,
+        children: Children,
+    ) -> Result<(), Memory>
         requires place { place < length self.old.tree.nodes }
-        requires room { length self.old.tree.nodes + 2 ≤ self.old.tree.room }
+        requires few { length self.old.tree.nodes + 2 ≤ 2 * self.old.turns + 1 }
         ensures framed { IsFramed self.old self.new }
-        ensures state { state_of self.new ≡ with_news (state_of self.old) place (split_nodes node set children) }
+        ensures ok { OnOk result (state_of self.new ≡ with_news (state_of self.old) place (split_nodes node set children)) }
+        ensures err { OnErr result (state_of self.new ≡ state_of self.old) }
     {
-        let inner = GrowingNode {
-            node,
-            shows: u64::MAX,
-        };
-        self.tree.split(
+        let cost = self.cost;
+        let turns = split_leaf(self.alloc, &mut self.tree, place, node, set, children, cost)?;
+        self.done = turns;
+        Ok(())
+    }
+
+    // Adds a price set behind the others, and splits a leaf into two that carry it. Without memory all stays as it was.
+    pub(crate) fn put_split_with(
+        &mut self,
+        place: usize,
+        node: Node,
+        set: PriceSet,
+        children: Children,
+    ) -> Result<(), Memory>
+        requires place { place < length self.old.tree.nodes }
+        requires few { length self.old.tree.nodes + 2 ≤ 2 * self.old.turns + 1 }
+        requires few_sets { length self.old.sets.items < 256 }
+        ensures framed { IsFramed self.old self.new }
+        ensures ok { OnOk result (state_of self.new ≡ with_news (with_set (state_of self.old) set) place (split_nodes node (length self.old.sets.items + 1) children)) }
+        ensures err { OnErr result (state_of self.new ≡ state_of self.old) }
+    {
+        self.sets.reserve(1)?;
+        let added = self.sets.len() as u32 + 1;
+        let cost = self.cost;
+        let turns = split_leaf(
+            self.alloc,
+            &mut self.tree,
             place,
-            inner,
-            price_leaf(set, children.first),
-            price_leaf(set, children.second),
-        );
-        self.done = self.tree.turns(self.cost) as u64;
+            node,
+            added,
+            children,
+            cost,
+        )?;
+        self.sets.push(set).unwrap();
+        self.done = turns;
+        Ok(())
     }
 
     // Adds a price set behind the others. Without memory they stay as they were.
@@ -62,6 +94,44 @@ impl Search {
             self.cost = cost;
         }
     }
+}
+
+// Puts another leaf in the place of a leaf. It gives the turns of the tree for a cost.
+fn replace_leaf(tree: &mut GrowingTree, place: usize, leaf: GrowingNode, cost: u64) -> u64
+    requires { place < length tree.old.nodes }
+    ensures nodes { tree.new.nodes ≡ take place tree.old.nodes ++ ((leaf ∷ []) ++ drop (place + 1) tree.old.nodes) }
+    ensures long { length tree.new.nodes ≡ length tree.old.nodes }
+    ensures turns { result ≡ turns_in cost tree.new.nodes }
+{
+    tree.replace(place, leaf);
+    tree.turns(cost) as u64
+}
+
+// Puts an inner node with two price leaves of one set in the place of a leaf. It gives the turns of the tree for a
+// cost. Without memory the tree stays as it was.
+fn split_leaf(
+    alloc: Global,
+    tree: &mut GrowingTree,
+    place: usize,
+    node: Node,
+    set: u32,
+    children: Children,
+    cost: u64,
+) -> Result<u64, Memory>
+    requires { place < length tree.old.nodes }
+    ensures nodes { OnOk result (tree.new.nodes ≡ take place tree.old.nodes ++ (split_nodes node set children ++ drop (place + 1) tree.old.nodes)) }
+    ensures long { OnOk result (length tree.new.nodes ≡ length tree.old.nodes + 2) }
+    ensures turns { IfOk result (λ turns. turns ≡ turns_in cost tree.new.nodes) }
+    ensures err { OnErr result (tree.new ≡ tree.old) }
+{
+    let inner = GrowingNode {
+        node,
+        shows: u64::MAX,
+    };
+    let first = price_leaf(set, children.first);
+    let second = price_leaf(set, children.second);
+    tree.split(alloc, place, inner, first, second)?;
+    Ok(tree.turns(cost) as u64)
 }
 
 // A leaf that names a price set, and the greatest bound that it shows.

@@ -26,7 +26,7 @@ impl Search {
     ///
     /// The plan is lawful and has at most 100,000 tours and 2,000,000 steps. The tree may be another's: its price
     /// leaves may lie below the floors, and it may have all nodes, price sets and shores that a certificate can spell.
-    /// It shows the bound `least` then and at each moment. Memory for all nodes that the budget can make is taken here.
+    /// It shows the bound `least` then and at each moment.
     ///
     /// The only error is want of memory. It takes the time of least paths between all pairs of vertices, and in
     /// proportion to the number of nodes.
@@ -54,7 +54,7 @@ impl Search {
         let tools = tools_of(alloc, inst)?;
         let done = turns_for(nodes, cost);
         let budget = budget_from(done, turns);
-        let tree = GrowingTree::of(alloc, 2 * budget as usize + 1, nodes)?;
+        let tree = GrowingTree::of(alloc, nodes)?;
         Ok(Search {
             alloc,
             net: tools.net,

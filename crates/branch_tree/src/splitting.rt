@@ -135,9 +135,7 @@ impl Search {
     {
         known_laws();
         let halves = choose_halves(self.alloc, inst, &self.pool, branch, &set, gap, proposed)?;
-        self.push_set(set)?;
-        let added = self.sets.len() as u32;
-        self.put_split(place, halves.node, added, halves.children);
+        self.put_split_with(place, halves.node, set, halves.children)?;
         Ok(Turn::Split)
     }
 
@@ -160,7 +158,7 @@ impl Search {
         let halves = choose_halves_of(
             self.alloc, inst, &self.pool, branch, &self.sets, number, gap,
         )?;
-        self.put_split(place, halves.node, number, halves.children);
+        self.put_split(place, halves.node, number, halves.children)?;
         Ok(Turn::Split)
     }
 }

@@ -1,10 +1,11 @@
 -- Nodes in blocks: where a node stands, what becomes of the list of all nodes, and the halves of a block.
 use Rattle.std.proofs.Common.{◌≡◌, ℕ, suc, ◌+◌, ◌-◌, ◌≤◌, ◌<◌, cond, nat_le, List, [], ◌∷◌, ◌++◌, length, map, take, drop, get_or, set, refl, sym, ap, ◌∙◌, subst, arith, inl, inr, append_assoc, append-nil, length-append}
-use Rattle.std.specs.List.{insert}
+use Rattle.std.specs.List.{All, insert}
 use Rattle.std.proofs.Math.Seq.{split_at, get_or-append_seam, set-append_seam, take-append_seam}
 use Rattle.std.proofs.lemmas.Bool.{cases_lt}
 use Rattle.std.proofs.lemmas.List.{take_more, drop_more, take_all, take-append-drop, take-append-le, drop-append-le, length-take-le, length-drop, length-map, map-append, get_or_append_left, get_or-append-add, get_or_default}
 use Rattle.std.proofs.lemmas.List.Edits.{insert-append_right}
+use Rattle.std.proofs.lemmas.List.Elements.{All-append, All-drop, All-from_recursion, All-take}
 use Rattle.std.proofs.lemmas.List.Sums.{sum_by-append, count_by-le-length}
 use Rattle.branch_rules.specs.declared.node.Node.{Node}
 use Rattle.grown_trees.specs.Backward.{Found, all_read, read_from}
@@ -120,7 +121,7 @@ module _ (before here behind : Entries) (i : ℕ) (less : i < length here) where
   put_within : (news : Entries) → before ++ ((take i here ++ (news ++ drop (i + 1) here)) ++ behind) ≡ take (length before + i) all ++ (news ++ drop (length before + i + 1) all)
   put_within news =
       ap (λ (zs : Entries). before ++ zs)
-          (append_assoc (take i here) (news ++ drop (i + 1) here) behind ∙ ap (λ (zs : Entries). take i here ++ zs) (append_assoc news (drop (i + 1) here) behind))
+      (append_assoc (take i here) (news ++ drop (i + 1) here) behind ∙ ap (λ (zs : Entries). take i here ++ zs) (append_assoc news (drop (i + 1) here) behind))
       ∙ sym (append_assoc before (take i here) (news ++ (drop (i + 1) here ++ behind)))
       ∙ ap (λ (zs : Entries). zs ++ (news ++ (drop (i + 1) here ++ behind))) (sym take_within)
       ∙ ap (λ (zs : Entries). take (length before + i) all ++ (news ++ zs)) (sym drop_within)
@@ -258,3 +259,9 @@ module _ (before behind : List Entries) (here upper lower : Entries) where
   set_at now block is at =
       ap (λ (bs : List Entries). set bs block lower) is ∙ ap (λ (n : ℕ). set (before ++ (here ∷ upper ∷ behind)) n lower) at
       ∙ set-append_seam before here (upper ∷ behind) lower
+
+-- What is so of all nodes is so of all after a split.
+pub all_split : (P : GrowingNode → Type 0) (xs : Entries) (n m : ℕ) (a b c : GrowingNode) → All P xs → P a → P b → P c → All P (take n xs ++ ((a ∷ b ∷ c ∷ []) ++ drop m xs))
+all_split P xs n m a b c all first second third =
+    All-append P (take n xs) ((a ∷ b ∷ c ∷ []) ++ drop m xs) (All-take P n xs all)
+    (All-append P (a ∷ b ∷ c ∷ []) (drop m xs) (All-from_recursion P (a ∷ b ∷ c ∷ []) (first, (second, (third, tt)))) (All-drop P m xs all))

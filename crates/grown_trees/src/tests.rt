@@ -3,7 +3,6 @@ ghost use Rattle.std.specs.Prelude.{◌≡◌, ◌≤◌, length, All, IfOk};
 ghost use Rattle.grown_trees.specs.Examples.{IsSmall};
 ghost use Rattle.grown_trees.specs.Places.{IsFineNode};
 
-use crate::way::{branch_at, decisions_to};
 use crate::{GrowingNode, GrowingTree};
 use branch_rules::{Decision, Node};
 use std::alloc::{AllocError, Global};
@@ -86,17 +85,16 @@ fn text_of(alloc: Global, decisions: &[Decision]) -> Result<Vec<u8>, AllocError>
 fn expect_way(
     rt: &impl Abort,
     alloc: Global,
-    entries: &[GrowingNode],
+    tree: &GrowingTree,
     place: usize,
     want: &str,
 ) -> Result<(), Fail>
-    requires { All (λ entry. IsFineNode entry.node) entries.now }
+    requires { All (λ entry. IsFineNode entry.node) tree.now.nodes }
 {
-    assert!(rt; place < entries.len());
-    let text = text_of(alloc, &decisions_to(alloc, entries, place)?)?;
+    assert!(rt; place < tree.len());
+    let branch = tree.branch_to(alloc, place)?;
+    let text = text_of(alloc, branch.decisions())?;
     assert_eq!(rt; text.as_slice(), want.as_bytes(), "{want}");
-    let branch = branch_at(alloc, entries, place)?;
-    assert_eq!(rt; branch.len(), want.len() / 3);
     Ok(())
 }
 
@@ -108,10 +106,11 @@ fn expect_ways(
     ways: &'static str,
 ) -> Result<(), Fail> {
     let entries = entries_of(alloc, nodes.as_bytes())?;
+    let tree = GrowingTree::of(alloc, &entries)?;
     let mut place = 0;
     for want in ways.split('\n') {
         assert!(rt; place < entries.len());
-        expect_way(rt, alloc, &entries, place, want)?;
+        expect_way(rt, alloc, &tree, place, want)?;
         place += 1;
     }
     assert_eq!(rt; place, entries.len());
@@ -154,17 +153,18 @@ fn first_children_are_split(rt: HostRuntime) -> Result<(), Fail> {
     expect_ways(&rt, rt.alloc(), "c18c16p34v00v00s01s02", ways)
 }
 
-// A pair with two leaves, which show 3 and 1, and memory for two nodes more.
+// A pair with two leaves, which show 3 and 1.
 fn small_tree(alloc: Global) -> Result<GrowingTree, Fail>
     ensures { IfOk result IsSmall }
 {
-    let mut tree = GrowingTree::new(alloc, 5, entry_of(*b"s011"))?;
+    let mut tree = GrowingTree::new(alloc, entry_of(*b"s011"))?;
     tree.split(
+        alloc,
         0,
         entry_of(*b"p129"),
         entry_of(*b"s013"),
         entry_of(*b"s021"),
-    );
+    )?;
     Ok(tree)
 }
 
@@ -194,7 +194,7 @@ fn expect_entries(
 
 #[test]
 fn a_root_alone(rt: HostRuntime) -> Result<(), Fail> {
-    let tree = GrowingTree::new(rt.alloc(), 1, entry_of(*b"s027"))?;
+    let tree = GrowingTree::new(rt.alloc(), entry_of(*b"s027"))?;
     expect_entries(&rt, rt.alloc(), &tree, "s027")
 }
 
@@ -208,11 +208,12 @@ fn a_root_is_split(rt: HostRuntime) -> Result<(), Fail> {
 fn a_leaf_is_split(rt: HostRuntime) -> Result<(), Fail> {
     let mut tree = small_tree(rt.alloc())?;
     tree.split(
+        rt.alloc(),
         1,
         entry_of(*b"c149"),
         entry_of(*b"v009"),
         entry_of(*b"s034"),
-    );
+    )?;
     expect_entries(&rt, rt.alloc(), &tree, "p129c149v009s034s021")
 }
 
@@ -234,7 +235,7 @@ fn the_way_to_a_leaf(rt: HostRuntime) -> Result<(), Fail> {
 
 // The turns for a cost, the greatest bound up to it that is shown, and the place of the first leaf that shows least, or
 // `-`.
-fn expect_open(rt: &impl Abort, tree: &GrowingTree, rows: &'static str) -> Result<(), Fail> {
+fn expect_open(rt: &impl Abort, tree: &mut GrowingTree, rows: &'static str) -> Result<(), Fail> {
     for row in rows.split('\n') {
         let &[cost, turns, shown, place] = row.as_bytes() else {
             return Err("four signs")?;
@@ -254,8 +255,8 @@ fn expect_open(rt: &impl Abort, tree: &GrowingTree, rows: &'static str) -> Resul
 // Its nodes show 9, 3 and 1.
 #[test]
 fn the_leaf_that_shows_least(rt: HostRuntime) -> Result<(), Fail> {
-    let tree = small_tree(rt.alloc())?;
-    expect_open(&rt, &tree, "030-\n131-\n2212\n3212\n4112\n9112")
+    let mut tree = small_tree(rt.alloc())?;
+    expect_open(&rt, &mut tree, "030-\n131-\n2212\n3212\n4112\n9112")
 }
 
 // Both leaves show 3.
@@ -263,7 +264,7 @@ fn the_leaf_that_shows_least(rt: HostRuntime) -> Result<(), Fail> {
 fn leaves_that_show_the_same(rt: HostRuntime) -> Result<(), Fail> {
     let mut tree = small_tree(rt.alloc())?;
     tree.replace(2, entry_of(*b"s023"));
-    expect_open(&rt, &tree, "333-\n4131\n9131")
+    expect_open(&rt, &mut tree, "333-\n4131\n9131")
 }
 
 #[test]
@@ -271,5 +272,109 @@ fn a_tree_that_shows_each_cost(rt: HostRuntime) -> Result<(), Fail> {
     let mut tree = small_tree(rt.alloc())?;
     tree.replace(1, entry_of(*b"v009"));
     tree.replace(2, entry_of(*b"v009"));
-    expect_open(&rt, &tree, "838-\n939-")
+    expect_open(&rt, &mut tree, "838-\n939-")
+}
+
+// A split of a leaf by a pair.
+fn grow(
+    rt: &impl Abort,
+    alloc: Global,
+    tree: &mut GrowingTree,
+    place: usize,
+    second: u8,
+) -> Result<(), Fail>
+    requires { All (λ entry. IsFineNode entry.node) tree.old.nodes }
+    ensures { All (λ entry. IsFineNode entry.node) tree.new.nodes }
+{
+    assert!(rt; place < tree.len());
+    tree.split(
+        alloc,
+        place,
+        entry_of(*b"p12z"),
+        entry_of(*b"s015"),
+        entry_of([b's', b'0', b'1', second]),
+    )?;
+    Ok(())
+}
+
+// Splits the leaf at a place, and then 1,499 times the leaf that stands so many places behind the last one.
+fn grow_often(
+    rt: &impl Abort,
+    alloc: Global,
+    tree: &mut GrowingTree,
+    first: usize,
+    step: usize,
+    second: u8,
+) -> Result<(), Fail>
+    requires { All (λ entry. IsFineNode entry.node) tree.old.nodes }
+    ensures { All (λ entry. IsFineNode entry.node) tree.new.nodes }
+{
+    let mut place = first;
+    for _ in 0..1500 {
+        grow(rt, alloc, tree, place, second)?;
+        place = place.saturating_add(step);
+    }
+    Ok(())
+}
+
+// The second child is split 1,500 times, and then the first child of the root as often. First children show 5. Second
+// children show 6, if they stand below the first child of the root, and 7 if not.
+fn two_combs(rt: &impl Abort, alloc: Global) -> Result<GrowingTree, Fail>
+    ensures { IfOk result (λ tree. All (λ entry. IsFineNode entry.node) tree.nodes) }
+{
+    let mut tree = GrowingTree::new(alloc, entry_of(*b"s017"))?;
+    grow_often(rt, alloc, &mut tree, 0, 2, b'7')?;
+    grow_often(rt, alloc, &mut tree, 1, 1, b'6')?;
+    Ok(tree)
+}
+
+// The way to a place has so many decisions, of which so many are a yes.
+fn expect_long_way(
+    rt: &impl Abort,
+    alloc: Global,
+    tree: &GrowingTree,
+    place: usize,
+    long: usize,
+    yes: usize,
+) -> Result<(), Fail>
+    requires { All (λ entry. IsFineNode entry.node) tree.now.nodes }
+{
+    assert!(rt; place < tree.len());
+    let branch = tree.branch_to(alloc, place)?;
+    assert_eq!(rt; branch.len(), long);
+    let found = branch
+        .decisions()
+        .iter()
+        .filter(|decision| matches!(decision, Decision::Yes { .. }))
+        .count();
+    assert_eq!(rt; found, yes);
+    Ok(())
+}
+
+#[test]
+fn ways_over_many_blocks(rt: HostRuntime) -> Result<(), Fail> {
+    let tree = two_combs(&rt, rt.alloc())?;
+    expect_long_way(&rt, rt.alloc(), &tree, 0, 0, 0)?;
+    expect_long_way(&rt, rt.alloc(), &tree, 1, 1, 1)?;
+    expect_long_way(&rt, rt.alloc(), &tree, 1501, 1501, 1501)?;
+    expect_long_way(&rt, rt.alloc(), &tree, 1502, 1501, 1500)?;
+    expect_long_way(&rt, rt.alloc(), &tree, 3001, 2, 1)?;
+    expect_long_way(&rt, rt.alloc(), &tree, 3002, 1, 0)?;
+    expect_long_way(&rt, rt.alloc(), &tree, 6000, 1500, 0)
+}
+
+// The 3,000 inner nodes show each cost. 1,500 leaves show 5, 1,500 show 6, and the last one shows 7.
+#[test]
+fn numbers_over_many_blocks(rt: HostRuntime) -> Result<(), Fail> {
+    let mut tree = two_combs(&rt, rt.alloc())?;
+    assert_eq!(&rt; tree.len(), 6001);
+    assert_eq!(&rt; tree.turns(5), 6001);
+    assert_eq!(&rt; tree.turns(6), 4501);
+    assert_eq!(&rt; tree.turns(8), 3000);
+    assert!(&rt; tree.open_leaf(8) == Some(1501));
+    assert!(&rt; 1501 < tree.len());
+    tree.replace(1501, entry_of(*b"v009"));
+    assert_eq!(&rt; tree.turns(8), 3001);
+    assert!(&rt; tree.open_leaf(8) == Some(3003));
+    Ok(())
 }

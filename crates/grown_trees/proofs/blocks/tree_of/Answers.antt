@@ -29,4 +29,4 @@ loop-block-preserved c =
     c.put_nodes.ensures
     ∙ ap (λ (t : NodeList). record { nodes = t.nodes ++ map node_of c.nodes.result.now; room = t.room }) c.loop-block.invariant
     ∙ ap (λ (ns : List Node). record { nodes = ns; room = c.args.len })
-        (ap (λ (es : List GrowingNode). map node_of (joined (take i blocks)) ++ map node_of es) (c.nodes.ensures ∙ c.block-item.is) ∙ sym (nodes_more blocks i c.block-item.result c.loop-block-test.true))
+    (ap (λ (es : List GrowingNode). map node_of (joined (take i blocks)) ++ map node_of es) (c.nodes.ensures ∙ c.block-item.is) ∙ sym (nodes_more blocks i c.block-item.result c.loop-block-test.true))

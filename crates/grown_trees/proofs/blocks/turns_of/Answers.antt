@@ -21,10 +21,9 @@ overflow_add-turns c =
 pub loop-i-preserved : goal.loop-i-preserved
 loop-i-preserved c =
     let y = c.index_mut.result.now in
-    let here : y ≡ get_or c.args.blocks.now.items c.loop-i.i y = c.index_mut.ensures.value ∙ ap (λ (bs : List (List GrowingNode)). get_or bs c.loop-i.i y) c.loop-i.invariant.0 in
-    (
+    let here : y ≡ get_or c.args.blocks.now.items c.loop-i.i y = c.index_mut.ensures.value ∙ ap (λ (bs : List (List GrowingNode)). get_or bs c.loop-i.i y) c.loop-i.invariant.0 in (
       ap (λ (z : List GrowingNode). set c.loop-i.blocks.items c.loop-i.i z) (c.turns-turns.ensures.same ∙ c.index_mut.ensures.value) ∙ set-get_or c.loop-i.blocks.items c.loop-i.i y
-      ∙ c.loop-i.invariant.0,
+          ∙ c.loop-i.invariant.0,
       omega (
         arith,
         c.loop-i.invariant.1,

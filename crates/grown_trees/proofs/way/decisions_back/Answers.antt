@@ -34,8 +34,8 @@ returns c =
     let here : x ≡ s.here = c.nodes.ensures ∙ c.index-blocks-spot.is ∙ block_is blocks c.args.place spot s c.index-blocks-spot.result in
     let first : Found = record { decisions = c.new.result.items; whole = 0 } in
     ap (λ (f : Found). f.decisions) (
-      c.in_ok-read_blocks.ensures
-      ∙ ap (λ (f : Found). read_from f (map node_of (joined (take spot.block blocks)))) c.in_ok-read_nodes.ensures
-      ∙ read_before blocks c.args.place spot s x here first
-      ∙ ap (λ (ds : List Decision). read_from (record { decisions = ds; whole = 0 }) (map node_of (take c.args.place (joined blocks)))) c.new.ensures.items
+    c.in_ok-read_blocks.ensures
+    ∙ ap (λ (f : Found). read_from f (map node_of (joined (take spot.block blocks)))) c.in_ok-read_nodes.ensures
+    ∙ read_before blocks c.args.place spot s x here first
+    ∙ ap (λ (ds : List Decision). read_from (record { decisions = ds; whole = 0 }) (map node_of (take c.args.place (joined blocks)))) c.new.ensures.items
     )

@@ -6,8 +6,8 @@ use Rattle.branch_tree.proofs.search.Search.finish.Goals as goal
 pub returns-clause-found : goal.returns-clause-found
 returns-clause-found c =
     let s = c.args.self in
-    is_found c.sound_trees_are_lean.ensures.tree c.short_plans_cost_little.ensures c.args.inst.now (state_of s) c.requires.held c.in_ok-tree.tree.nodes c.in_ok-tree.ensures.nodes
-    (node_count s.tree.nodes c.in_ok-tree.tree.nodes c.in_ok-tree.ensures.nodes s.tree.room s.turns c.in_ok-tree.ensures.few c.requires.room c.requires.turns_in_range)
+    is_found c.sound_trees_are_lean.ensures.tree c.short_plans_cost_little.ensures c.args.inst.now (state_of s) c.requires.held c.in_ok-tree.tree.nodes c.in_ok-tree.ensures
+    (node_count s.tree.nodes c.in_ok-tree.tree.nodes c.in_ok-tree.ensures s.turns c.requires.few c.requires.turns_in_range)
     c.shown-bound.result c.shown-bound.ensures.at_most c.shown-bound.ensures.each c.shown-bound.ensures.greatest
 
 pub returns-clause-closed : goal.returns-clause-closed
@@ -18,6 +18,6 @@ returns-clause-closed c closed =
 pub returns-clause-least : goal.returns-clause-least
 returns-clause-least c =
     let s = c.args.self in
-    no_less c.sound_trees_are_lean.ensures.tree c.short_plans_cost_little.ensures c.args.inst.now (state_of s) c.requires.held c.in_ok-tree.tree.nodes c.in_ok-tree.ensures.nodes
-    (node_count s.tree.nodes c.in_ok-tree.tree.nodes c.in_ok-tree.ensures.nodes s.tree.room s.turns c.in_ok-tree.ensures.few c.requires.room c.requires.turns_in_range)
+    no_less c.sound_trees_are_lean.ensures.tree c.short_plans_cost_little.ensures c.args.inst.now (state_of s) c.requires.held c.in_ok-tree.tree.nodes c.in_ok-tree.ensures
+    (node_count s.tree.nodes c.in_ok-tree.tree.nodes c.in_ok-tree.ensures s.turns c.requires.few c.requires.turns_in_range)
     c.shown-bound.result c.shown-bound.ensures.at_most c.shown-bound.ensures.each c.shown-bound.ensures.greatest

@@ -1,22 +1,18 @@
-use Rattle.std.proofs.Common.{◌≡◌, ℕ, List, ◌∙◌, ap, refl, subst, sym, arith}
+use Rattle.std.proofs.Common.{◌≡◌, ℕ, List, ◌∙◌, length, ap, refl, subst, sym, arith}
 use Rattle.grown_trees.specs.Growth.{Growth, turns_in}
 use Rattle.grown_trees.specs.declared.growing.GrowingNode.{GrowingNode}
 use Rattle.branch_tree.specs.Searches.{IsHeld}
 use Rattle.branch_tree.proofs.Regrown.{few_nodes, in_range, resumed_held}
 use Rattle.branch_tree.proofs.search.Search.resume.Goals as goal
 
-pub of-requires : goal.of-requires
-of-requires c =
-    let few = few_nodes c.short_plans_cost_little.ensures c.args.inst.now c.vertices.ensures.valid c.args.best c.requires.allowed c.args.pool c.args.sets.items c.args.least c.args.nodes.now c.requires.may
-    c.in_ok-cost.cost c.in_ok-cost.ensures in
-    let most = in_range c.short_plans_cost_little.ensures c.args.inst.now c.vertices.ensures.valid c.args.best c.requires.allowed c.args.pool c.args.sets.items c.args.least c.args.nodes.now c.requires.may in
-    omega (arith, few, most, c.turns_for-done.ensures, c.budget_from-budget.ensures)
-
 pub returns-clause-search : goal.returns-clause-search
 returns-clause-search c =
     let p = c.args.inst.now in
     let tree = c.in_ok-tree.ensures in
     let entries : c.in_ok-tree.tree.nodes ≡ c.args.nodes.now = ap (λ (t : Growth). t.nodes) tree in
+    let few = few_nodes c.short_plans_cost_little.ensures p c.vertices.ensures.valid c.args.best c.requires.allowed c.args.pool c.args.sets.items c.args.least c.args.nodes.now c.requires.may
+    c.in_ok-cost.cost c.in_ok-cost.ensures in
+    let most = in_range c.short_plans_cost_little.ensures p c.vertices.ensures.valid c.args.best c.requires.allowed c.args.pool c.args.sets.items c.args.least c.args.nodes.now c.requires.may in
     record {
       net = c.in_ok-tools.ensures.net;
       problem = c.in_ok-tools.ensures.problem;
@@ -24,7 +20,7 @@ returns-clause-search c =
       table = c.in_ok-tools.ensures.table;
       some_turns = omega (arith, c.budget_from-budget.ensures, c.requires.some_turns);
       turns_in_range = omega (arith, c.budget_from-budget.ensures);
-      room = ap (λ (t : Growth). t.room) tree;
+      few = omega (arith, few, most, ap (λ (es : List GrowingNode). length es) entries, c.turns_for-done.ensures, c.budget_from-budget.ensures);
       held =
           subst (λ (ns : List GrowingNode). IsHeld p (record { pool = c.args.pool; sets = c.args.sets.items; nodes = ns; plan = c.args.best; cost = c.in_ok-cost.cost; done = c.turns_for-done.result; least = c.args.least }))
           (sym entries)
