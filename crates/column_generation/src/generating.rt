@@ -15,6 +15,7 @@ use crate::separating::Separator;
 use crate::setting_out::{Start, first_program, use_tour};
 use crate::size::steps_of_fill;
 use crate::trimming::{drop_slack_rows, trim_columns};
+use crate::whole::{Whole, whole_of};
 use carp_base::{Instance, Memory};
 use deadhead_paths::Distances;
 use linear_program::{Caps, Program};
@@ -52,6 +53,8 @@ pub(crate) struct Generation {
     pub(crate) fills: u32,
     /// Entries of programs that were touched and steps of fills that were made, for all leaves so far.
     pub(crate) spent: u64,
+    /// The cheapest plan that solutions showed since it was asked for.
+    pub(crate) whole: Option<Whole>,
 }
 
 // What became of the tours of a point.
@@ -109,6 +112,7 @@ impl Generation {
             tolerance: LEAST_TOLERANCE,
             fills: limits.fills,
             spent: 0,
+            whole: None,
             limits,
             master,
             best,
@@ -149,6 +153,7 @@ impl Generation {
         ensures generation { IsGeneration town.now.inst.now self.new }
     {
         self.solve(alloc)?;
+        self.note_whole(alloc, town.inst)?;
         let target = Point::of_program(alloc, town.inst, &self.master.constraints, &self.program)?;
         self.gap = target.value.saturating_sub(self.best.value);
         if self.is_spent() {
@@ -159,6 +164,20 @@ impl Generation {
         } else {
             self.come_nearer(alloc, town, table, &target)
         }
+    }
+
+    // Keeps the plan that the program's solution shows, if it shows one that is cheaper than the one that is kept.
+    fn note_whole(&mut self, alloc: Global, inst: &Instance) -> Result<(), Memory>
+        ensures { self.new.best ≡ self.old.best }
+    {
+        let found = whole_of(alloc, inst, &self.master, &self.program)?;
+        let Some(whole) = found else {
+            return Ok(());
+        };
+        if whole.is_cheaper(&self.whole) {
+            self.whole = Some(whole);
+        }
+        Ok(())
     }
 
     // Counts what the turns took.

@@ -20,8 +20,9 @@ use crate::rivals::try_rivals;
 use crate::shelf::Shelf;
 use crate::size::is_small;
 use crate::trials::{Scored, Tried, decisions_of};
+use crate::whole::Whole;
 use branch_rules::{Branch, Decision, Node, PriceSet};
-use carp_base::{Instance, Memory};
+use carp_base::{Instance, Memory, Task};
 use cut_pool::ShorePool;
 use price_points::Town;
 use road_network::Network;
@@ -233,7 +234,7 @@ impl LeafPrograms {
 
     // The same from the generation of another leaf.
     fn next_generation(
-        &self,
+        &mut self,
         alloc: Global,
         town: &Town<'_>,
         table: &mut Table,
@@ -252,8 +253,11 @@ impl LeafPrograms {
         ensures room { IsRoom town.now.inst.now table.new }
     {
         let limits = Limits::of_leaf(town.inst, enough);
-        if let Some(kept) = self.shelf.find(number, last_of(branch)) {
-            return taken_up(alloc, town, pool, branch, kept, limits, generation);
+        let last = last_of(branch);
+        if let Some(kept) = self.shelf.find(number, last) {
+            let found = taken_up(alloc, town, pool, branch, kept, limits, generation)?;
+            self.shelf.forget(number, last);
+            return Ok(found);
         }
         if let Some(kept) = self.shelf.last() {
             return adopted(alloc, town, table, pool, branch, kept, limits, generation);
@@ -311,6 +315,20 @@ impl LeafPrograms {
             Some(tried) => self.keep_children(number, tried),
             None => self.keep_whole(number, kept, &ranked),
         }
+    }
+
+    /// The tours, as lists of tasks, of the cheapest plan that a solution of a program showed since this was asked
+    /// before, or `None`. A solution shows a plan if its tours of an activity above a half serve each required edge
+    /// once.
+    ///
+    /// Programs are solved by `raise` for the leaf, and by `split` for both children of splits that are tried. So the
+    /// plan need not meet the decisions of a leaf. It promises nothing of the tours. It takes constant time and no
+    /// memory.
+    pub fn whole_tours(&mut self) -> Option<Vec<Vec<Task>>> {
+        let generation = self.generation.as_mut()?;
+        let whole = mem::replace(&mut generation.whole, None)?;
+        let Whole { tours, .. } = whole;
+        Some(tours)
     }
 
     // Splits by what both children come to after a few steps, the best ones first. If each gained nothing before, all

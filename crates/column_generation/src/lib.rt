@@ -8,6 +8,8 @@
 //! are deadheads and relaxed tours. [`LeafPrograms`] solves it over the rows and columns found so far, and looks for
 //! more. It only proposes: the pricing table says whether a set fits.
 //!
+//! A solution of the program is sometimes a plan. Its tours are kept for whoever asks for them.
+//!
 //! It does so for each leaf of a tree. A child goes on from the program of its parent, with rows for the decisions on
 //! its way, and without the tours that these exclude. Splits are tried on copies of a program.
 //!
@@ -25,6 +27,7 @@
 //!   from it, and how the first one begins.
 //! - `cuts`, `pairs`, `poor`, `candidates`: splits that look worth a trial.
 //! - `trials`, `ranking_splits`, `rivals`: what both children of a split come to, and which split is proposed.
+//! - `whole`: solutions that show a plan.
 //! - `leaf_programs`: the public type.
 #![tactic(auto)]
 
@@ -64,5 +67,6 @@ mod taking_up;
 mod tours;
 mod trials;
 mod trimming;
+mod whole;
 
 pub use leaf_programs::LeafPrograms;

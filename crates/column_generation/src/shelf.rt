@@ -1,4 +1,5 @@
 // Programs that are kept for the leaves that name a price set.
+ghost use Rattle.std.specs.Prelude.{◌<◌, IfSome, length};
 
 use crate::keeping::Kept;
 use branch_rules::Decision;
@@ -56,11 +57,29 @@ impl Shelf {
         }
     }
 
+    /// Forgets the program of a leaf's own last decision. The program that was put there last stays, for leaves that
+    /// have none.
+    pub(crate) fn forget(&mut self, set: u32, last: Option<Decision>) {
+        if last.is_none() {
+            return;
+        }
+        if let Some(place) = self.place(set, last) {
+            if place + 1 < self.entries.len() {
+                self.entries.remove(place);
+            }
+        }
+    }
+
     fn at(&self, set: u32, last: Option<Decision>) -> Option<&Kept> {
-        let place = self
-            .entries
-            .iter()
-            .position(|entry| entry.set == set && entry.last == last)?;
+        let place = self.place(set, last)?;
         Some(&self.entries[place].kept)
+    }
+
+    fn place(&self, set: u32, last: Option<Decision>) -> Option<usize>
+        ensures { IfSome result (λ place. place < length self.now.entries.items) }
+    {
+        self.entries
+            .iter()
+            .position(|entry| entry.set == set && entry.last == last)
     }
 }

@@ -71,12 +71,18 @@ impl Tour {
 
     /// What its deadheads cost, in parts, with a noise that its number tells, so that few tours are alike.
     pub(crate) fn cost(&self, edges: &[Edge], number: u64) -> i64 {
+        let cost = self.deadheads_cost(edges);
+        let parts = cost.saturating_mul(UNIT).saturating_add(number % NOISE);
+        parts.min(1 << 55) as i64
+    }
+
+    /// What its deadheads cost.
+    pub(crate) fn deadheads_cost(&self, edges: &[Edge]) -> u64 {
         let mut cost: u64 = 0;
         for count in &self.deadheads {
             cost = cost.saturating_add(cost_of(edges, count));
         }
-        let parts = cost.saturating_mul(UNIT).saturating_add(number % NOISE);
-        parts.min(1 << 55) as i64
+        cost
     }
 }
 
