@@ -14,3 +14,4 @@ mod Finding
 mod Groups
 mod Shortness
 mod Tightness
+mod Cheaper

@@ -36,7 +36,7 @@ use Rattle.branch_tree.proofs.Standing.{leaf_shores, named_groups, named_shores,
 use Rattle.branch_tree.proofs.Taking.{is_leaf, old, old_is, sound}
 use Rattle.branch_tree.proofs.Turning.{Goes, closes_fixed, closes_new, same_pool, splits_new}
 
-framed_repriced : (p : Problem) (before after : Search) → IsSearch p before → IsFramed before after → IsRepriced p before after
+pub framed_repriced : (p : Problem) (before after : Search) → IsSearch p before → IsFramed before after → IsRepriced p before after
 framed_repriced p before after search framed = record {
   net = framed.net;
   dist = framed.dist;

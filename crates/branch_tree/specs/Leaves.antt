@@ -1,5 +1,5 @@
 -- The leaf that a step takes, and what is put in its place. No public contract speaks of this.
-use Rattle.std.specs.Prelude.{◌≡◌, ℕ, zero, suc, ◌+◌, ◌-◌, ◌*◌, ◌≤◌, List, [], ◌∷◌, ◌++◌, take, drop, map, length, slice_index_or, if◌then◌else◌, nat_lt, Result, IfOk, OnErr}
+use Rattle.std.specs.Prelude.{◌≡◌, ℕ, zero, suc, ◌+◌, ◌-◌, ◌*◌, ◌≤◌, List, [], ◌∷◌, ◌++◌, take, drop, map, length, slice_index_or, if◌then◌else◌, nat_lt, Bool, Result, IfOk, OnErr}
 use Rattle.std.specs.List.{All}
 use Rattle.carp_base.specs.declared.fail.Memory.{Memory}
 use Rattle.carp_base.specs.Problem.{Problem}
@@ -26,7 +26,8 @@ use Rattle.branch_tree.specs.declared.search.Search.{Search}
 use Rattle.branch_tree.specs.Searches.{HasGroupsInRange, IsSearch, State, state_of}
 use Rattle.branch_tree.specs.declared.search.Turn.{Turn}
 use Rattle.branch_tree.specs.declared.search.Turn.TheVariants.{Closed, Split}
-use Rattle.branch_tree.specs.Steps.{IsAsBefore, IsStep}
+use Rattle.branch_tree.specs.Steps.{IsAsBefore, IsOffered, IsStep}
+use Rattle.task_tours.specs.Shorts.{IsShortPlan}
 use Rattle.branch_tree.specs.Splits.{IsInner, first_of, second_of}
 use Rattle.grown_trees.specs.Values.{IsMostShown}
 
@@ -131,6 +132,10 @@ with_news s place news =
 abbrev pub with_cheaper : State → List (List Step) → ℕ → State
 with_cheaper s plan cost = if nat_lt cost s.cost then record s { plan = plan; cost = cost } else s
 
+-- another best plan; the turns are counted anew
+abbrev pub with_plan : State → List (List Step) → ℕ → State
+with_plan s plan cost = record s { plan = plan; cost = cost; done = turns_in cost s.nodes }
+
 -- an inner node, and two price leaves of one set
 abbrev pub split_nodes : Node → ℕ → Children → List GrowingNode
 split_nodes node set c =
@@ -161,3 +166,12 @@ pub record HasSplit (p : Problem) (before : State) (place : ℕ) (branch : List 
   pub children : Children
   pub by : IsSplitBy p before.pool branch set node children
   pub state : after ≡ with_news before place (split_nodes node number children)
+
+-- what an offer of a plan leaves, whether there is memory for it or not
+pub record IsOffer (p : Problem) (before after : Search) (answer : Result Bool Memory) : Type 0 where
+  pub search : IsSearch p after
+  pub turns : after.turns ≡ before.turns
+  pub least : after.least ≡ before.least
+  pub short : IsShortPlan p before.best → IsShortPlan p after.best
+  pub offered : IfOk answer (IsOffered p (state_of before) (state_of after))
+  pub err : OnErr answer (state_of after ≡ state_of before)

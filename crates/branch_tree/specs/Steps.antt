@@ -1,5 +1,5 @@
 -- What a step of a search does.
-use Rattle.std.specs.Prelude.{◌≡◌, ℕ, ◌+◌, ◌<◌, ◌≤◌, ◌⊎◌, List, [], ◌∷◌, ◌++◌, take, drop, map, length, slice_index_or}
+use Rattle.std.specs.Prelude.{◌≡◌, ℕ, ◌+◌, ◌<◌, ◌≤◌, ◌⊎◌, Bool, true, false, List, [], ◌∷◌, ◌++◌, take, drop, map, length, slice_index_or}
 use Rattle.std.specs.List.{All}
 use Rattle.carp_base.specs.Problem.{Problem}
 use Rattle.decision_chains.specs.declared.decision.Decision.{Decision}
@@ -11,7 +11,7 @@ use Rattle.branch_rules.specs.declared.node.Node.TheVariants as nodes
 use Rattle.task_tours.specs.Shorts.{IsShortPlan}
 use Rattle.shore_prices.specs.Proposals.{IsGrown}
 use Rattle.tight_prices.specs.Tight.{IsTight}
-use Rattle.grown_trees.specs.Growth.{IsLeastOpen}
+use Rattle.grown_trees.specs.Growth.{IsLeastOpen, turns_in}
 use Rattle.grown_trees.specs.Places.{IsLeaf, branch_to}
 use Rattle.grown_trees.specs.declared.growing.GrowingNode.{GrowingNode}
 use Rattle.branch_tree.specs.declared.search.Turn.{Turn}
@@ -100,3 +100,19 @@ pub record IsStep (p : Problem) (before after : State) (turn : Turn) : Type 0 wh
   pub does : Does p before after turn
   pub grown : IsGrown before.pool after.pool
   pub more_done : AreClosed before ⊎ (before.done < after.done)
+
+-- What became of a plan that the program of a leaf showed, by the answer: it is the best plan, short and cheaper than the one before; or the best
+-- plan is as before.
+abbrev pub HasTaken : Problem → State → State → Bool → Type 0
+HasTaken p before after true = IsShortPlan p after.plan × (after.cost < before.cost)
+HasTaken p before after false = (after.plan ≡ before.plan) × (after.cost ≡ before.cost)
+
+-- the shores, the price sets, the tree and its bound at the beginning are as before, and the turns are counted for the cost of the best plan
+pub record IsOffered (p : Problem) (before after : State) (taken : Bool) : Type 0 where
+  pub pool : after.pool ≡ before.pool
+  pub sets : after.sets ≡ before.sets
+  pub nodes : after.nodes ≡ before.nodes
+  pub least : after.least ≡ before.least
+  pub plan : HasTaken p before after taken
+  pub done : after.done ≡ turns_in after.cost before.nodes
+  pub no_fewer : before.done ≤ after.done

@@ -4,13 +4,15 @@
 //!
 //! [`Search::begin`] plants a tree of one leaf, which has the best set of the floors. [`Search::resume`] goes on from
 //! another tree. [`Search::step`] takes one turn (Land and Doig 1960): it closes the first leaf that shows least, or
-//! splits it. [`Search::finish`] gives what was [`Found`]: the best plan, the tree, and the greatest bound that the
-//! tree shows.
+//! splits it. [`Search::take_plan`] takes a plan that the program of the leaf showed, if it is cheaper than the best
+//! one. [`Search::finish`] gives what was [`Found`]: the best plan, the tree, and the greatest bound that the tree
+//! shows.
 //!
 //! - `search`, `beginning`, `resuming`, `finishing`: the search, how it begins and goes on, and what it has found.
 //! - `stepping`, `kinds`, `closing`: one turn, what a branch is, and steps that close a leaf.
 //! - `raising`, `choosing`, `children`, `splitting`: price sets for a leaf and a split that is proposed, which split is
 //!   taken, what both children show, and steps at a leaf that is neither void nor fixed.
+//! - `offering`: plans that the programs of leaves show.
 //! - `changing`: changes of a search, each of them whole.
 //! - `values`: what price sets show under a branch. `laws`: the laws that a search stands on.
 #![tactic(auto)]
@@ -24,6 +26,7 @@ mod examples;
 mod finishing;
 mod kinds;
 mod laws;
+mod offering;
 mod raising;
 mod resuming;
 mod search;
