@@ -4,3 +4,4 @@ pub mod Certified
 pub mod Olds
 pub mod Better
 pub mod Named
+pub mod Turned

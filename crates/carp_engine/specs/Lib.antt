@@ -1,4 +1,5 @@
 pub mod Solutions
 pub mod Improved
 pub mod Certifying
+pub mod Turns
 pub mod Asked

@@ -1,5 +1,5 @@
 // Searches for a tree that shows the cost of a plan, within a budget of turns.
-ghost use Rattle.std.specs.Prelude.{◌≡◌, ◌⊎◌, ◌+◌, ◌≤◌, IfOk, OnOk, min};
+ghost use Rattle.std.specs.Prelude.{◌≡◌, ◌⊎◌, ◌+◌, ◌<◌, ◌≤◌, IfOk, OnOk, min};
 ghost use Rattle.plan_model.specs.Plans.{plan_cost};
 ghost use Rattle.task_tours.specs.Shorts.{IsAllowedPlan, IsShortPlan};
 ghost use Rattle.grown_trees.specs.Growth.{turns_in};
@@ -8,6 +8,7 @@ ghost use Rattle.branch_tree.specs.Searches.{IsSearch, state_of};
 ghost use Rattle.branch_tree.specs.Steps.{AreClosed};
 ghost use Rattle.cert_format.specs.Certs.{certificate_in};
 ghost use Rattle.carp_engine.specs.Certifying.{IsSearched, IsSearchedAnew};
+ghost use Rattle.carp_engine.specs.Turns.{HasTurned};
 
 use crate::Solved;
 use crate::certifying::certify;
@@ -107,11 +108,32 @@ fn take_turns<W: Watch>(
     ensures ended { OnOk result (AreClosed (state_of search.new) ⊎ (turns ≤ search.new.done)) }
 {
     while search.done() < turns {
-        let turn = search.step(inst)?;
+        let turn = take_turn(inst, search)?;
         tell(search, watch);
         if turn == Turn::Done {
             return Ok(());
         }
     }
     Ok(())
+}
+
+// Takes a turn, and then the plan that the program of its leaf showed, if that is cheaper.
+fn take_turn(inst: &Instance, search: &mut Search) -> Result<Turn, Memory>
+    requires search { IsSearch inst.now search.old }
+    requires left { search.old.done < search.old.turns }
+    ensures search { IsSearch inst.now search.new }
+    ensures turns { search.new.turns ≡ search.old.turns }
+    ensures no_dearer { search.new.cost ≤ search.old.cost }
+    ensures short { IsShortPlan inst.now search.old.best → IsShortPlan inst.now search.new.best }
+    ensures least { search.new.least ≡ search.old.least }
+    ensures turn { IfOk result (HasTurned (state_of search.old) (state_of search.new)) }
+{
+    let turn = search.step(inst)?;
+    match turn {
+        Turn::Done => Ok(Turn::Done),
+        Turn::Closed | Turn::Split => {
+            search.take_plan(inst)?;
+            Ok(turn)
+        }
+    }
 }
