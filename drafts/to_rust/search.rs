@@ -30,7 +30,8 @@ pub fn main(){
   let limit:f64=std::env::var("LIMIT").ok().map(|x|x.parse().unwrap()).unwrap_or(1e9);
   while search.done()<search.budget()&&now()-t0-troot<limit{
     let t1=now();let turn=search.step(&inst).ok().unwrap();if turn==branch_tree::Turn::Done{break}
-    steps+=1;if steps==1{root=search.tree.shown(search.cost);troot=now()-t0;}
+    steps+=1;if search.take_plan(&inst).ok().unwrap(){println!("  step {} takes a plan of cost {}",steps,search.cost)}
+    if steps==1{root=search.tree.shown(search.cost);troot=now()-t0;}
     if vt{eprintln!("{} turns {} shows {} nodes {} sets {} {:.2} s",steps,search.done(),search.tree.shown(search.cost),search.tree.len(),search.sets.len(),now()-t1)}
   }
   let b=search.tree.shown(search.cost);
