@@ -1,4 +1,4 @@
-// Searches on small instances: one vertex, and a star of five streets behind a long way.
+// Searches on small instances: one vertex, and streets behind a long way.
 ghost use Rattle.std.specs.Prelude.{◌≡◌, ◌≤◌, IfOk};
 ghost use Rattle.task_tours.specs.Shorts.{IsShortPlan};
 ghost use Rattle.branch_tree.specs.Searches.{IsSearch};
@@ -138,5 +138,56 @@ fn a_star_is_split(rt: HostRuntime) -> Result<(), Fail> {
     let (before, turn, after, bound) = first_step(alloc, &inst, 2, plan)?;
     assert_eq!(rt; (before, turn, bound), (0, Turn::Split, 510));
     assert!(rt; after == 1 || after == 2);
+    Ok(())
+}
+
+// Two streets of cost 1 at vertex 2, to which a way of cost 100 leads; both fit one vehicle.
+fn two_streets(alloc: Global) -> Result<Instance, Fail> {
+    let streets = [street(2, 3, 1, 1), street(2, 4, 1, 1)];
+    Ok(Instance::build(alloc, 4, 1, 2, &streets, &[street(1, 2, 100, 0)])?)
+}
+
+// A tour for each of the two streets.
+fn two_tours(alloc: Global) -> Result<Plan, Memory> {
+    let mut plan = Plan::new(alloc);
+    for edge in [1, 2] {
+        let steps = [
+            (3, true, false),
+            (edge, true, true),
+            (edge, false, false),
+            (3, false, false),
+        ];
+        plan.push(walk_of(alloc, &steps)?)?;
+    }
+    Ok(plan)
+}
+
+// What the best plan costs after a step, whether a plan is taken then, and the same again.
+fn offers_after_a_step(
+    alloc: Global,
+    inst: &Instance,
+    plan: Plan,
+) -> Result<(u64, bool, u64, bool), Fail>
+    requires { IsShortPlan inst.now plan }
+{
+    short_plans_are_allowed();
+    let _ = inst.vertices();
+    let mut search = Search::begin(alloc, inst, 2, plan)?;
+    step(inst, &mut search, 2)?;
+    let before = search.cost();
+    let taken = search.take_plan(inst)?;
+    let after = search.cost();
+    let again = search.take_plan(inst)?;
+    Ok((before, taken, after, again))
+}
+
+// Two tours cost 202 each, and one tour of both streets 204. The program over tours has no other solution.
+#[test]
+fn a_plan_that_a_program_shows_is_taken(rt: HostRuntime) -> Result<(), Fail> {
+    let alloc = rt.alloc();
+    let inst = two_streets(alloc)?;
+    let plan = short(alloc, &inst, &two_tours(alloc)?)?;
+    let seen = offers_after_a_step(alloc, &inst, plan)?;
+    assert_eq!(rt; seen, (404, true, 204, false));
     Ok(())
 }

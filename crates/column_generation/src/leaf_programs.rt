@@ -76,7 +76,7 @@ impl LeafPrograms {
     /// instance. All shores of the pool have to belong to the instance. What it proposed for another instance before is
     /// no matter to what it promises. The only error is want of memory. A leaf takes some 100 fills of the table at
     /// most, and the first one some 1,000. The program touches some 1.5 * 10^9 entries at a leaf at most, and 4 * 10^9
-    /// at the first one. All leaves and splits together take 2 * 10^10 entries and steps of fills; then it answers
+    /// at the first one. All leaves and splits together take 1.5 * 10^10 entries and steps of fills; then it answers
     /// `None` at once. No clock decides.
     pub fn raise(
         &mut self,

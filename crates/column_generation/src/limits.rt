@@ -15,7 +15,7 @@ const TRIAL_WORK: u64 = 400_000_000;
 
 /// So many entries of programs are touched and so many steps of fills are made for all leaves together, but for what
 /// the last one takes.
-pub(crate) const MOST_WORK: u64 = 20_000_000_000;
+pub(crate) const MOST_WORK: u64 = 15_000_000_000;
 
 /// How far a generation goes.
 #[derive(Clone, Copy)]
