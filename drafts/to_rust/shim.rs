@@ -1,7 +1,8 @@
 pub use std::ops::{Deref,DerefMut};
 #[derive(Clone,Copy,Debug,PartialEq,Eq)] pub struct Global;
 #[derive(Clone,Copy,Debug,PartialEq,Eq)] pub struct AllocError;
-#[derive(Debug)] pub struct AllocFailed<T>{pub value:T}
+pub struct AllocFailed<T>{pub value:T}
+impl<T> std::fmt::Debug for AllocFailed<T>{fn fmt(&self,f:&mut std::fmt::Formatter)->std::fmt::Result{f.write_str("AllocFailed")}}
 impl<T> From<AllocFailed<T>> for AllocError{fn from(_:AllocFailed<T>)->Self{AllocError}}
 pub trait Allocator{} impl Allocator for Global{}
 #[derive(Debug,PartialEq,Eq,PartialOrd,Ord,Hash,Clone)] pub struct Vec<T>(pub std::vec::Vec<T>);
