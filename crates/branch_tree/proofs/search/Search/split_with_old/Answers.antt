@@ -29,7 +29,7 @@ returns-in_err-halves c =
 
 pub returns-in_err-put_split : goal.returns-in_err-put_split
 returns-in_err-put_split c =
-    failed_framed c.args.inst.now c.args.self.now c.put_split.new.self c.from_residual.result c.from_residual.ensures.0 c.requires.search c.put_split.ensures.framed c.in_err-put_split.ensures.err
+    failed_framed c.args.inst.now c.args.self.now c.put_split.new.self c.from_residual-in_err-put_split.result c.from_residual-in_err-put_split.ensures.0 c.requires.search c.put_split.ensures.framed c.in_err-put_split.ensures.err
 
 pub returns : goal.returns
 returns c =
