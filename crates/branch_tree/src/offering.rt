@@ -21,13 +21,13 @@ use task_tours::{add_tour, short_plans_are_allowed};
 const MOST_TASKS: usize = 600;
 
 impl Search {
-    /// Takes the plan that a program of the last step's leaf showed (`column_generation`), if there is one, if it is
-    /// lawful, and if it costs less than the best plan. It answers whether it did. The plan is short, and the turns of
-    /// the tree are counted anew for its cost. Else the best plan stays. All else is as before.
+    /// Takes the cheapest plan that programs showed in the last step (`column_generation`), for its leaf or for splits
+    /// that were tried there, if there is one, if it is lawful, and if it costs less than the best plan. It answers
+    /// whether it did. The plan is short then, and the turns of the tree are counted anew for its cost. Else the best
+    /// plan stays. All else is as before.
     ///
-    /// It is to be called after a step. The next call finds nothing, unless there was another step. The only error is
-    /// want of memory, and then the search is as before. It takes time in proportion to the number of nodes and to the
-    /// steps of the plan.
+    /// A second call after the same step finds nothing. The only error is want of memory, and then the search is as
+    /// before. It takes time in proportion to the number of nodes and to the steps of the plan.
     pub fn take_plan(&mut self, inst: &Instance) -> Result<bool, Memory>
         requires search { IsSearch inst.now self.old }
         ensures search { IsSearch inst.now self.new }

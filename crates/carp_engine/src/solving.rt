@@ -37,7 +37,8 @@ pub struct Solved {
 /// error is want of memory.
 ///
 /// Then a tree of decisions is searched by turns (`branch_tree`), until it shows the cost of the best plan or its turns
-/// reach the budget, which is 1 to 1,048,576. The turns are the inner nodes of the tree and its leaves that show the
+/// reach the budget, which is 1 to 1,048,576. After each turn the plan that the program of its leaf shows is taken, if
+/// there is one that is cheaper. The turns are the inner nodes of the tree and its leaves that show the
 /// cost by themselves. So the bound is below the cost only if the budget is spent. With m required edges, a budget of
 /// `2^(m (m - 1) / 2 + 5)` is never spent. A budget can be so large if m is at most 6.
 ///
