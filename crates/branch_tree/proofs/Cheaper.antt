@@ -1,14 +1,10 @@
 -- A search with a cheaper best plan.
-use Rattle.std.proofs.Common.{◌≡◌, ℕ, ◌<◌, ◌≤◌, Bool, true, false, List, refl, sym, subst, ap, ◌∙◌, arith, Result, Ok, Err, IfOk}
-use Rattle.std.specs.Prelude.{IsErr, OnErr}
-use Rattle.std.proofs.lemmas.Result.{IfOk-from_err}
+use Rattle.std.proofs.Common.{◌≡◌, ℕ, ◌<◌, ◌≤◌, true, List, refl, sym, subst, ap, arith, Ok}
 use Rattle.carp_base.specs.Problem.{Problem}
-use Rattle.carp_base.specs.declared.fail.Memory.{Memory}
 use Rattle.plan_model.specs.declared.step.Step.{Step}
 use Rattle.plan_model.specs.Plans.{plan_cost}
 use Rattle.task_tours.specs.Shorts.{IsAllowedPlan, IsShortPlan}
-use Rattle.route_pricing.specs.Tables.{IsRoom}
-use Rattle.branch_tree.specs.Leaves.{IsFramed, IsOffer, IsRepriced, with_plan}
+use Rattle.branch_tree.specs.Leaves.{IsFramed, IsOffer, with_plan}
 use Rattle.branch_tree.specs.Searches.{IsHeld, IsSearch, State, state_of}
 use Rattle.branch_tree.specs.Steps.{IsOffered}
 use Rattle.branch_tree.specs.declared.search.Search.{Search}
@@ -46,17 +42,6 @@ module _ (p : Problem) (s : State) (held : IsHeld p s) where
     no_fewer = more_turns plan cost (omega (arith, less));
   }
 
-  offered_none : IsOffered p s s false
-  offered_none = record {
-    pool = refl;
-    sets = refl;
-    nodes = refl;
-    least = refl;
-    plan = (refl, refl);
-    done = held.done_is;
-    no_fewer = omega arith;
-  }
-
 -- the plan was taken
 pub plan_taken : (p : Problem) (before after : Search) (plan : List (List Step)) (cost : ℕ) → IsSearch p before → IsFramed before after → state_of after ≡ with_plan (state_of before) plan cost →
     IsShortPlan p plan → IsAllowedPlan p plan → cost ≡ plan_cost p plan → cost < before.cost → IsOffer p before after (Ok true)
@@ -70,29 +55,3 @@ plan_taken p before after plan cost search framed is short allowed cost_is less 
       offered = subst (λ (s : State). IsOffered p (state_of before) s true) (sym is) (offered_then p (state_of before) search.held plan cost short less);
       err = tt;
     }
-
--- no plan was taken
-pub none_taken : (p : Problem) (s : Search) → IsSearch p s → IsOffer p s s (Ok false)
-none_taken p s search = record {
-  search = search;
-  turns = refl;
-  least = refl;
-  short = λ short. short;
-  offered = offered_none p (state_of s) search.held;
-  err = tt;
-}
-
-on_err : {X : Type 0} (r : Result Bool Memory) → X → OnErr r X
-on_err (Ok answer) x = tt
-on_err (Err memory) x = x
-
--- there was no memory
-pub offer_failed : (p : Problem) (s : Search) (r : Result Bool Memory) → IsErr r → IsSearch p s → IsOffer p s s r
-offer_failed p s r failed search = record {
-  search = search;
-  turns = refl;
-  least = refl;
-  short = λ short. short;
-  offered = IfOk-from_err r (IsOffered p (state_of s) (state_of s)) failed;
-  err = on_err r refl;
-}

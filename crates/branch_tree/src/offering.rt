@@ -1,10 +1,10 @@
 // Plans that the programs of leaves show.
-ghost use Rattle.std.specs.Prelude.{◌≡◌, ◌<◌, Ok, IfOk, IfSome, IsTrue, OnErr, length};
+ghost use Rattle.std.specs.Prelude.{◌≡◌, IfOk, IfSome, IsTrue, OnErr};
 ghost use Rattle.std.specs.List.{All};
 ghost use Rattle.carp_base.specs.Problem.{IsRequired};
 ghost use Rattle.deadhead_paths.specs.Prices.{costs_of};
-ghost use Rattle.plan_model.specs.Plans.{IsLawful, plan_cost};
-ghost use Rattle.task_tours.specs.Shorts.{IsAllowedPlan, IsShortPlan};
+ghost use Rattle.plan_model.specs.Plans.{IsLawful};
+ghost use Rattle.task_tours.specs.Shorts.{IsShortPlan};
 ghost use Rattle.branch_tree.specs.Leaves.{IsFramed, IsOffer, with_plan};
 ghost use Rattle.branch_tree.specs.Searches.{IsSearch, state_of};
 ghost use Rattle.branch_tree.specs.Steps.{IsOffered};
