@@ -147,18 +147,22 @@ fn two_streets(alloc: Global) -> Result<Instance, Fail> {
     Ok(Instance::build(alloc, 4, 1, 2, &streets, &[street(1, 2, 100, 0)])?)
 }
 
+// Serves one of the two streets.
+fn alone(alloc: Global, edge: u32) -> Result<Walk, Memory> {
+    let steps = [
+        (3, true, false),
+        (edge, true, true),
+        (edge, false, false),
+        (3, false, false),
+    ];
+    walk_of(alloc, &steps)
+}
+
 // A tour for each of the two streets.
 fn two_tours(alloc: Global) -> Result<Plan, Memory> {
     let mut plan = Plan::new(alloc);
-    for edge in [1, 2] {
-        let steps = [
-            (3, true, false),
-            (edge, true, true),
-            (edge, false, false),
-            (3, false, false),
-        ];
-        plan.push(walk_of(alloc, &steps)?)?;
-    }
+    plan.push(alone(alloc, 1)?)?;
+    plan.push(alone(alloc, 2)?)?;
     Ok(plan)
 }
 
