@@ -30,7 +30,7 @@ const ROWS: &str = "\
     full: check file cert | 7 | 0 | 0 | accepted~cost 20~bound 20~\n\
     full: sheet file cert | 7 | 0 | 0 | tour 1 load 2 cost 6~1 serve 1 2 cost 3\n\
     star: solve file cert --turns 1 | 5 | 1 | 1 | instance vertices 7 edges 6 required 5 capacity 5 demand 10~cost 1010~bound 510~\n\
-    solve file cert --turns 1 | 4 | 1 | 1 | instance vertices 3 edges 3 required 3 capacity 3 demand 3~cost 34~bound 16~turns 1~open gap 18~tours 3~\n\
+    solve file cert --turns 1 | 4 | 1 | 0 | instance vertices 3 edges 3 required 3 capacity 3 demand 3~cost 16~bound 16~turns 3~proven~tours 1~\n\
     check file cert | 7 | 0 | 0 | accepted~cost 16~bound 16~\n\
     sheet file cert | 7 | 0 | 0 | tour 1 load 3 cost 16~1 serve 1 2 cost 5\n\
     upgrade file cert new | 7 | 1 | 0 | upgraded~cost 16~bound 16~\n\

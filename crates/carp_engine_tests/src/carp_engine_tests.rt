@@ -35,13 +35,14 @@ fn solved_by(alloc: Global, inst: &Instance, turns: u64) -> Result<Solved, Fail>
     Ok(solve(alloc, inst, turns, 1, &mut helpers, &mut Silent)?)
 }
 
+// The round tour of cost 16 is least. Single tours cost 34. The program of the root shows the round tour.
 #[test]
-fn single_tours_stand_without_helpers(rt: HostRuntime) -> Result<(), Fail> {
+fn a_program_shows_what_no_helper_offers(rt: HostRuntime) -> Result<(), Fail> {
     let alloc = rt.alloc();
     let solved = solved_by(alloc, &triangle(alloc)?, 1)?;
     assert_eq!(rt;
         (solved.cert.cost, solved.cert.bound, solved.cert.plan.len()),
-        (34, 16, 3)
+        (16, 16, 1)
     );
     Ok(())
 }
