@@ -25,10 +25,10 @@ fn parts_of(alloc: Global, row: &str) -> Result<(String, String), Fail> {
 
 // Texts of valid instances: the answer, with the numbers of the report on cost, bound and tours. They are the empty instance,
 // the street in many layouts, one with a street that need not be reached, costs and service costs at their limits, a
-// triangle (5 + 5, 4 + 7 + 5 and 4 + 4), two streets in a row (3 + 3, and 3 + 4 + 4 + 3), three streets round a far corner
-// (each tour drives 10 out and 10 home, and 1 more from the other end), for which room for two makes no difference, a file in the
-// layout of the data sets, and five streets of cost 1 far from the depot (each tour drives 100 out and 100 home, and 1 more from
-// the other end).
+// triangle (5 + 7 + 4), two streets in a row (3 + 3, and 3 + 4 + 4 + 3), three streets round a far corner (each tour drives 10
+// out and 10 home, and 1 more from the other end) without and with room for two (2 * 10 + 1 + 1 + 1, and 2 * 10 + 1 + 1), a file
+// in the layout of the data sets, and five streets of cost 1 far from the depot (each tour drives 100 out and 100 home, and 1
+// more from the other end).
 const SOLVED: &str = "\
     proven 0 0 0|VERTICES 1~ARISTAS_REQ 0~CAPACIDAD 1~DEPOSITO 1\n\
     proven 10 10 1|vertices : 2\r~aristas_req 1\r~\tComentario café\r~Capacidad: 1\r~lista_aristas_req :\r~\r~(1,2)COSTE 5 Demanda 1\r~deposito : 1\n\
@@ -41,10 +41,10 @@ const SOLVED: &str = "\
     proven 2000000 2000000 1|VERTICES 2~ARISTAS_REQ 1~CAPACIDAD 1~LISTA_ARISTAS_REQ~(1,2) coste 1000000 demanda 1~DEPOSITO 1\n\
     proven 14 14 1|VERTICES 2~ARISTAS_REQ 1~CAPACIDAD 1~LISTA_ARISTAS_REQ~(1,2) coste 5 demanda 1 servicio 9~DEPOSITO 1\n\
     proven 5 5 1|VERTICES 2~ARISTAS_REQ 1~CAPACIDAD 1~LISTA_ARISTAS_REQ~(1,2) coste 5 demanda 1 servicio 0~DEPOSITO 1\n\
-    gap 34 16 3|VERTICES 3~ARISTAS_REQ 3~CAPACIDAD 3~LISTA_ARISTAS_REQ~(1,2) coste 5 demanda 1~(2,3) coste 7 demanda 1~(1,3) coste 4 demanda 1~DEPOSITO 1\n\
+    proven 16 16 1|VERTICES 3~ARISTAS_REQ 3~CAPACIDAD 3~LISTA_ARISTAS_REQ~(1,2) coste 5 demanda 1~(2,3) coste 7 demanda 1~(1,3) coste 4 demanda 1~DEPOSITO 1\n\
     proven 20 20 2|VERTICES 3~ARISTAS_REQ 2~CAPACIDAD 2~LISTA_ARISTAS_REQ~(1,2) coste 3 demanda 2~(2,3) coste 4 demanda 2~DEPOSITO 1\n\
     proven 67 67 3|VERTICES 4~ARISTAS_REQ 3~ARISTAS_NOREQ 1~CAPACIDAD 3~LISTA_ARISTAS_REQ~(2,3) coste 1 demanda 2~(3,4) coste 1 demanda 2~(4,2) coste 1 demanda 2~LISTA_ARISTAS_NOREQ~(1,2) coste 10~DEPOSITO 1\n\
-    gap 67 45 3|VERTICES 4~ARISTAS_REQ 3~ARISTAS_NOREQ 1~CAPACIDAD 5~LISTA_ARISTAS_REQ~(2,3) coste 1 demanda 2~(3,4) coste 1 demanda 2~(4,2) coste 1 demanda 2~LISTA_ARISTAS_NOREQ~(1,2) coste 10~DEPOSITO 1\n\
+    proven 45 45 2|VERTICES 4~ARISTAS_REQ 3~ARISTAS_NOREQ 1~CAPACIDAD 5~LISTA_ARISTAS_REQ~(2,3) coste 1 demanda 2~(3,4) coste 1 demanda 2~(4,2) coste 1 demanda 2~LISTA_ARISTAS_NOREQ~(1,2) coste 10~DEPOSITO 1\n\
     gap 843 316 22|NOMBRE : sample~COMENTARIO : 22 streets, all required~VERTICES : 12~ARISTAS_REQ : 22~ARISTAS_NOREQ : 0~\
         VEHICULOS : 5~CAPACIDAD : 5~TIPO_COSTES_ARISTAS : EXPLICITOS~COSTE_TOTAL_REQ : 252~LISTA_ARISTAS_REQ :~\
         ( 1, 2)   coste 13   demanda 1~( 1, 4)   coste 17   demanda 1~( 1, 7)   coste 19   demanda 1~\
