@@ -84,8 +84,7 @@ fn absorb(
     ensures tour { IfOk result (λ tour. (taken : List Task) → FlagsSay inst.now served.old taken → IsAbsorbed inst.now load walk.now served.new taken tour) }
     ensures fewer { unflagged served.new ≤ unflagged served.old }
 {
-    // What a read of the instance says of it is needed: that it is valid.
-    let _ = inst.vertices();
+    inst.validity();
     let mut load = load;
     let mut tour = Tour::new(alloc);
     for i in 0..walk.len() {
@@ -120,8 +119,7 @@ fn take_all(
     ensures taken { IfOk result (λ tours. AreAugmented inst.now singles.now [] tours.items) }
     ensures few { IfOk result (λ tours. length tours.items ≤ 600) }
 {
-    // What a read of the instance says of it is needed: that it is valid.
-    let _ = inst.vertices();
+    inst.validity();
     let mut tours = Vec::new(alloc);
     while let Some(place) = dearest(costs, served) {
         served[place] = true;

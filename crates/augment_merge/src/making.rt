@@ -25,8 +25,7 @@ fn plan_of(alloc: Global, inst: &Instance, dist: &Distances, tours: &[Tour]) -> 
     ensures tours { IfOk result (λ plan. plan_tours plan ≡ filter has_tasks tours.now) }
     ensures paths { IfOk result (PlanGoesByLeastPaths inst.now) }
 {
-    // What a read of the instance says of it is needed: that it is valid.
-    let _ = inst.vertices();
+    inst.validity();
     let mut plan = Plan::new(alloc);
     for tour in tours {
         if !tour.tasks().is_empty() {
@@ -58,8 +57,7 @@ pub fn augment_merge(alloc: Global, inst: &Instance, dist: &Distances) -> Result
 {
     tours_are_linked();
     plans_are_tours();
-    // What a read of the instance says of it is needed: that it is valid.
-    let _ = inst.vertices();
+    inst.validity();
     let augmented = augment(alloc, inst, dist)?;
     let merged = merge(alloc, inst, dist, augmented)?;
     let plan = plan_of(alloc, inst, dist, &merged)?;

@@ -81,8 +81,7 @@ fn join_all(
     ensures { OnOk result (AreJoined inst.now tours.old tours.new) }
 {
     tours_have_deadheads();
-    // What a read of the instance says of it is needed: that it is valid.
-    let _ = inst.vertices();
+    inst.validity();
     while let Some(join) = first_of(rows) {
         make(alloc, inst, dist, &join, tours, outlines)?;
         renew(inst, dist, outlines, &join, rows);

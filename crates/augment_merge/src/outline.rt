@@ -51,8 +51,7 @@ fn load_of(inst: &Instance, tasks: &[Task]) -> u64
     requires load { tour_load inst.now tasks.now ≤ inst.now.capacity }
     ensures { result ≡ tour_load inst.now tasks.now }
 {
-    // What a read of the instance says of it is needed: that it is valid.
-    let _ = inst.vertices();
+    inst.validity();
     let mut load = 0;
     for task in tasks {
         load += inst.edge(task.edge).demand;

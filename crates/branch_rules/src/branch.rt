@@ -49,6 +49,15 @@ impl Branch {
         }
     }
 
+    /// The same decisions again. The only error is want of memory.
+    pub fn copy(&self, alloc: Global) -> Result<Branch, Memory>
+        ensures { IfOk result (λ copy. copy ≡ self.now) }
+    {
+        Ok(Branch {
+            decisions: Vec::from_slice(alloc, &self.decisions)?,
+        })
+    }
+
     /// Adds a decision at the end. The number of a cut is at most 1,000,000. The only error is want of memory, and then
     /// the branch stays as it was.
     pub fn push(&mut self, d: Decision) -> Result<(), Memory>

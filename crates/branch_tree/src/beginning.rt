@@ -11,11 +11,11 @@ use crate::search::Search;
 use crate::values::shown_under;
 use branch_rules::{Branch, PriceSet, prices_bound};
 use carp_base::{Instance, Memory};
-use column_generation::LeafPrograms;
 use cut_pool::ShorePool;
 use deadhead_paths::Distances;
 use dual_master::{floors, level_sets_are_there};
 use grown_trees::GrowingTree;
+use leaf_programs::LeafPrograms;
 use plan_model::Plan;
 use road_network::Network;
 use route_pricing::Table;
@@ -86,8 +86,7 @@ pub(crate) fn allowed_cost(alloc: Global, inst: &Instance, plan: &Plan) -> Resul
     ensures { IfOk result (λ cost. cost ≡ plan_cost inst.now plan.now) }
 {
     short_plans_cost_little();
-    // What a read of the instance says is needed: that it is valid.
-    let _ = inst.vertices();
+    inst.validity();
     let cost = lawful_cost(alloc, inst, plan)?;
     Ok(cost as u64)
 }
@@ -111,7 +110,7 @@ fn floor_of(alloc: Global, inst: &Instance, tools: &mut Tools) -> Result<Floor, 
     level_sets_are_there();
     prices_bound();
     // What reads of the instance and of the set say is needed: that both are within their limits.
-    let _ = inst.vertices();
+    inst.validity();
     let mut pool = ShorePool::new(alloc);
     let set = floors(
         alloc,

@@ -21,7 +21,7 @@ use task_tours::{add_tour, short_plans_are_allowed};
 const MOST_TASKS: usize = 600;
 
 impl Search {
-    /// Takes the cheapest plan that programs showed in the last step (`column_generation`), for its leaf or for splits
+    /// Takes the cheapest plan that programs showed in the last step (`leaf_programs`), for its leaf or for splits
     /// that were tried there, if there is one, if it is lawful, and if it costs less than the best plan. It answers
     /// whether it did. The plan is short then, and the turns of the tree are counted anew for its cost. Else the best
     /// plan stays. All else is as before.
@@ -61,8 +61,7 @@ impl Search {
         ensures { IsOffer inst.now self.old self.new result }
     {
         short_plans_are_allowed();
-        // What a read of the instance says is needed: that it is valid.
-        let _ = inst.vertices();
+        inst.validity();
         let cost = allowed_cost(self.alloc, inst, &plan)?;
         if self.cost <= cost {
             return Ok(false);

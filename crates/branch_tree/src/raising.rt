@@ -5,10 +5,10 @@ ghost use Rattle.branch_rules.specs.Decisions.{rules_of};
 ghost use Rattle.branch_rules.specs.Laws.{FitsBranch};
 ghost use Rattle.branch_rules.specs.Limits.{AreShoresIn, IsShoreOf};
 ghost use Rattle.branch_rules.specs.Prices.{value_of};
-ghost use Rattle.decision_chains.specs.Pairs.{ArePairsIn};
 ghost use Rattle.grown_trees.specs.Values.{IsShown};
 ghost use Rattle.route_pricing.specs.Tables.{IsRoom};
 ghost use Rattle.shore_prices.specs.Proposals.{IsGrown};
+ghost use Rattle.leaf_programs.specs.Leaves.{IsLeaf};
 ghost use Rattle.branch_tree.specs.Leaves.{IsRaisedFrom, IsRepriced, MayBegin, NamesSet, set_in, with_pool};
 ghost use Rattle.branch_tree.specs.Searches.{IsSearch, state_of};
 
@@ -17,10 +17,9 @@ use crate::search::Search;
 use crate::values::shown_under;
 use branch_rules::{Branch, Node, PriceSet};
 use carp_base::{Instance, Memory};
-use column_generation::LeafPrograms;
 use cut_pool::ShorePool;
-use dual_master::{growth_keeps_sets, raise_with};
-use road_network::Network;
+use dual_master::{Aim, growth_keeps_sets, raise_with};
+use leaf_programs::{Leaf, LeafPrograms};
 use route_pricing::Table;
 use std::alloc::Global;
 
@@ -55,20 +54,26 @@ impl Search {
         ensures raised { IfOk result (λ raised. IsRaisedFrom inst.now self.old.pool branch.now self.old.sets.items number self.new.pool raised.set) }
     {
         known_laws();
-        let rounds = self.rounds;
+        inst.validity();
+        let aim = Aim {
+            number,
+            rounds: self.rounds,
+            cost: self.cost,
+        };
         self.rounds = 0;
+        let leaf = Leaf {
+            inst,
+            net: &self.net,
+            branch,
+        };
         raise_and_propose(
             self.alloc,
-            inst,
-            &self.net,
+            &leaf,
             &mut self.table,
             &mut self.pool,
-            branch,
             &self.sets,
-            number,
-            rounds,
+            aim,
             &mut self.programs,
-            self.cost,
         )
     }
 }
@@ -77,98 +82,81 @@ impl Search {
 // cost.
 fn raise_and_propose(
     alloc: Global,
-    inst: &Instance,
-    net: &Network,
+    leaf: &Leaf<'_>,
     table: &mut Table,
     pool: &mut ShorePool,
-    branch: &Branch,
     sets: &[PriceSet],
-    number: u32,
-    rounds: u32,
+    aim: Aim,
     programs: &mut LeafPrograms,
-    cost: u64,
 ) -> Result<Raised, Memory>
-    requires net { net.now ≡ inst.now }
-    requires room { IsRoom inst.now table.old }
-    requires belong { All (Belongs inst.now) pool.old }
-    requires begins { MayBegin inst.now pool.old branch.now sets.now number }
-    requires shores { AreShoresIn inst.now pool.old branch.now }
-    requires some { 1 ≤ (set_in sets.now number).unit → IsShown (set_in sets.now number).unit (value_of (rules_of inst.now pool.old branch.now) (set_in sets.now number)) 0 }
+    requires leaf { IsLeaf leaf.now }
+    requires room { IsRoom leaf.now.inst.now table.old }
+    requires belong { All (Belongs leaf.now.inst.now) pool.old }
+    requires begins { MayBegin leaf.now.inst.now pool.old leaf.now.branch.now sets.now aim.number }
+    requires shores { AreShoresIn leaf.now.inst.now pool.old leaf.now.branch.now }
+    requires some { 1 ≤ (set_in sets.now aim.number).unit → IsShown (set_in sets.now aim.number).unit (value_of (rules_of leaf.now.inst.now pool.old leaf.now.branch.now) (set_in sets.now aim.number)) 0 }
     requires few { length sets.now ≤ 256 }
-    ensures raised { IfOk result (λ raised. IsRaisedFrom inst.now pool.old branch.now sets.now number pool.new raised.set) }
+    ensures raised { IfOk result (λ raised. IsRaisedFrom leaf.now.inst.now pool.old leaf.now.branch.now sets.now aim.number pool.new raised.set) }
     ensures grown { IsGrown pool.old pool.new }
-    ensures belong { All (Belongs inst.now) pool.new }
-    ensures room { IsRoom inst.now table.new }
+    ensures belong { All (Belongs leaf.now.inst.now) pool.new }
+    ensures room { IsRoom leaf.now.inst.now table.new }
 {
     growth_keeps_sets();
-    let set = raise_from(
-        alloc, inst, net, table, pool, branch, sets, number, rounds, programs, cost,
-    )?;
+    let set = raise_from(alloc, leaf, table, pool, sets, aim, programs)?;
     let added = sets.len() as u32 + 1;
-    let proposed = propose(
-        alloc, inst, net, table, pool, branch, &set, added, programs, cost,
-    )?;
+    let proposed = propose(alloc, leaf, table, pool, &set, added, programs, aim.cost)?;
     Ok(Raised { set, proposed })
 }
 
 // A tight set, from the set of a number.
 fn raise_from(
     alloc: Global,
-    inst: &Instance,
-    net: &Network,
+    leaf: &Leaf<'_>,
     table: &mut Table,
     pool: &mut ShorePool,
-    branch: &Branch,
     sets: &[PriceSet],
-    number: u32,
-    rounds: u32,
+    aim: Aim,
     programs: &mut LeafPrograms,
-    cost: u64,
 ) -> Result<PriceSet, Memory>
-    requires net { net.now ≡ inst.now }
-    requires room { IsRoom inst.now table.old }
-    requires belong { All (Belongs inst.now) pool.old }
-    requires begins { MayBegin inst.now pool.old branch.now sets.now number }
-    ensures raised { IfOk result (IsRaisedFrom inst.now pool.old branch.now sets.now number pool.new) }
+    requires leaf { IsLeaf leaf.now }
+    requires room { IsRoom leaf.now.inst.now table.old }
+    requires belong { All (Belongs leaf.now.inst.now) pool.old }
+    requires begins { MayBegin leaf.now.inst.now pool.old leaf.now.branch.now sets.now aim.number }
+    ensures raised { IfOk result (IsRaisedFrom leaf.now.inst.now pool.old leaf.now.branch.now sets.now aim.number pool.new) }
     ensures grown { IsGrown pool.old pool.new }
-    ensures belong { All (Belongs inst.now) pool.new }
-    ensures room { IsRoom inst.now table.new }
+    ensures belong { All (Belongs leaf.now.inst.now) pool.new }
+    ensures room { IsRoom leaf.now.inst.now table.new }
 {
-    let start = &sets[number as usize - 1];
+    let start = &sets[aim.number as usize - 1];
     let _ = start.unit();
-    raise_with(
-        alloc, inst, net, table, pool, branch, start, rounds, programs, number, cost,
-    )
+    raise_with(alloc, leaf, table, pool, start, aim, programs)
 }
 
 // A node that the programs propose to split a leaf by, if the leaf's new set does not show the cost. Its children will
 // know the set by the number.
 fn propose(
     alloc: Global,
-    inst: &Instance,
-    net: &Network,
+    leaf: &Leaf<'_>,
     table: &mut Table,
     pool: &mut ShorePool,
-    branch: &Branch,
     set: &PriceSet,
     number: u32,
     programs: &mut LeafPrograms,
     cost: u64,
 ) -> Result<Option<Node>, Memory>
-    requires net { net.now ≡ inst.now }
-    requires room { IsRoom inst.now table.old }
-    requires belong { All (Belongs inst.now) pool.old }
-    requires pairs { ArePairsIn inst.now branch.now }
-    requires shores { AreShoresIn inst.now pool.old branch.now }
-    requires weights { All (λ w. IsShoreOf inst.now pool.old w.shore) set.now.weights }
-    requires fits { FitsBranch inst.now pool.old branch.now set.now }
-    requires some { 1 ≤ set.now.unit → IsShown set.now.unit (value_of (rules_of inst.now pool.old branch.now) set.now) 0 }
+    requires leaf { IsLeaf leaf.now }
+    requires room { IsRoom leaf.now.inst.now table.old }
+    requires belong { All (Belongs leaf.now.inst.now) pool.old }
+    requires shores { AreShoresIn leaf.now.inst.now pool.old leaf.now.branch.now }
+    requires weights { All (λ w. IsShoreOf leaf.now.inst.now pool.old w.shore) set.now.weights }
+    requires fits { FitsBranch leaf.now.inst.now pool.old leaf.now.branch.now set.now }
+    requires some { 1 ≤ set.now.unit → IsShown set.now.unit (value_of (rules_of leaf.now.inst.now pool.old leaf.now.branch.now) set.now) 0 }
     ensures grown { IsGrown pool.old pool.new }
-    ensures belong { All (Belongs inst.now) pool.new }
-    ensures room { IsRoom inst.now table.new }
+    ensures belong { All (Belongs leaf.now.inst.now) pool.new }
+    ensures room { IsRoom leaf.now.inst.now table.new }
 {
-    if cost <= shown_under(inst, pool, branch, set) {
+    if cost <= shown_under(leaf.inst, pool, leaf.branch, set) {
         return Ok(None);
     }
-    programs.split(alloc, inst, net, table, pool, branch, number)
+    programs.split(alloc, leaf, table, pool, number)
 }

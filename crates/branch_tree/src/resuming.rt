@@ -10,9 +10,9 @@ use crate::raising::FIRST_ROUNDS;
 use crate::search::Search;
 use branch_rules::PriceSet;
 use carp_base::{Instance, Memory};
-use column_generation::LeafPrograms;
 use cut_pool::ShorePool;
 use grown_trees::{GrowingNode, GrowingTree, sound_trees_are_lean};
+use leaf_programs::LeafPrograms;
 use plan_model::Plan;
 use std::alloc::Global;
 use task_tours::short_plans_cost_little;
@@ -49,7 +49,7 @@ impl Search {
         ensures resumed { IfOk result (λ search. IsResumed inst.now best pool sets.items least nodes.now (state_of search)) }
     {
         short_plans_cost_little();
-        let _ = inst.vertices();
+        inst.validity();
         let cost = allowed_cost(alloc, inst, &best)?;
         let tools = tools_of(alloc, inst)?;
         let done = turns_for(nodes, cost);

@@ -1,10 +1,10 @@
 // The search, and what its steps answer.
 
 use branch_rules::PriceSet;
-use column_generation::LeafPrograms;
 use cut_pool::ShorePool;
 use deadhead_paths::Distances;
 use grown_trees::GrowingTree;
+use leaf_programs::LeafPrograms;
 use plan_model::Plan;
 use road_network::Network;
 use route_pricing::Table;

@@ -50,7 +50,7 @@ impl Search {
     ///   is the best one from then on.
     /// - Else, if the search has fewer than 256 price sets, the step seeks a tight set for the leaf
     ///   (`dual_master::raise_with`). If that shows the cost, the set closes the leaf. If not, the step splits the leaf
-    ///   by a pair or a shore, as the program of the leaf proposes (`column_generation`) if that may stand there. Both
+    ///   by a pair or a shore, as the program of the leaf proposes (`leaf_programs`) if that may stand there. Both
     ///   new leaves name the set.
     /// - If the search has 256 price sets, both new leaves name the set of the leaf.
     ///

@@ -106,7 +106,6 @@ pub fn find_components(
     kept_labels_are_components();
     let labels = label_components(alloc, inst, net, x, unit)?;
     let marks = needy_labels(alloc, inst, &labels, x, unit)?;
-    // What a read of the instance says is needed: that it is valid.
-    let _ = inst.vertices();
+    inst.validity();
     list_marked(alloc, inst, &labels, &marks)
 }

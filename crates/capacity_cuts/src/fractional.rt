@@ -79,8 +79,7 @@ pub fn find_fractional(
 {
     vertices_are_listed();
     equal_sets_have_one_border();
-    // What a read of the instance says is needed: that it is valid.
-    let _ = inst.vertices();
+    inst.validity();
     match find_side(alloc, inst, x, unit)? {
         None => Ok(None),
         Some(side) => Ok(Some(list_side(alloc, inst, &side)?)),

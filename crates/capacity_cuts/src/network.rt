@@ -43,8 +43,7 @@ fn demand_met(alloc: Global, inst: &Instance) -> Result<Vec<u64>, Memory>
     ensures sums { IfOk result (λ sums. (v : ℕ) → IsVertex inst.now v → slice_index sums.items v ≡ demand_at inst.now v) }
     ensures small { IfOk result (λ sums. (v : ℕ) → slice_index sums.items v ≤ 18000000) }
 {
-    // What a read of the instance says is needed: that it is valid.
-    let _ = inst.vertices();
+    inst.validity();
     let labels = own_labels(alloc, inst)?;
     demand_by_label(alloc, inst, &labels)
 }

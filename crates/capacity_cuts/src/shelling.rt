@@ -127,8 +127,7 @@ pub fn shells(alloc: Global, inst: &Instance, dist: &Distances) -> Result<Vec<We
     requires costs { dist.now.prices ≡ costs_of inst.now }
     ensures { IfOk result (λ shells. AreShells inst.now shells.items) }
 {
-    // What a read of the instance says is needed: that it is valid.
-    let _ = inst.vertices();
+    inst.validity();
     let lengths = lengths_of(alloc, inst, dist)?;
     let ends = in_order(alloc, &lengths)?;
     list_shells(alloc, inst, &lengths, &ends)

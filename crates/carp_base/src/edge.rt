@@ -1,4 +1,6 @@
 // Edges, and the tasks on them.
+ghost use Rattle.std.specs.Prelude.{◌≡◌};
+ghost use Rattle.carp_base.specs.Problem.{head_of, tail_of};
 
 /// An edge as it is described, before it is known to be valid.
 #[derive(Clone, Copy, Debug, PartialEq, Eq)]
@@ -28,6 +30,22 @@ pub struct Edge {
     pub demand: u64,
     /// What one crossing with service costs: 0 to 1,000,000. It is 0 if the edge is not required.
     pub service: u64,
+}
+
+impl Edge {
+    /// The end at which a crossing starts. A crossing is forward if it goes from the first end to the second.
+    pub fn tail(&self, forward: bool) -> u32
+        ensures { result ≡ tail_of self.now forward }
+    {
+        if forward { self.u } else { self.v }
+    }
+
+    /// The end that a crossing reaches. A crossing is forward if it goes from the first end to the second.
+    pub fn head(&self, forward: bool) -> u32
+        ensures { result ≡ head_of self.now forward }
+    {
+        if forward { self.v } else { self.u }
+    }
 }
 
 /// An edge with the direction in which it is crossed.

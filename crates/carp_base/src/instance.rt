@@ -104,6 +104,13 @@ impl Instance {
         })
     }
 
+    /// Says that the instance is valid, as each instance is. It does nothing: proofs need what it says.
+    pub fn validity(&self)
+        ensures { IsValid self.now }
+    {
+        let _vertices = self.vertices;
+    }
+
     /// The number of vertices, 1 to 1,000. Vertices are numbered from 1.
     pub fn vertices(&self) -> u32
         ensures value { result ≡ self.now.vertices }

@@ -72,7 +72,7 @@ pub fn improve<P: Proposer, W: Watch>(
     fixed_values_compare();
     resumed_trees_have_turns();
     named_sets_suffice();
-    let _ = inst.vertices();
+    inst.validity();
     let dist = cost_distances(alloc, inst)?;
     let mut plan = tidy(alloc, inst, &dist, &cert.plan)?;
     watch.asks();

@@ -81,7 +81,7 @@ pub fn solve<P: Proposer, W: Watch>(
     fine_is_spellable();
     shores_are_fine();
     plans_are_on_edges();
-    let _ = inst.vertices();
+    inst.validity();
     let dist = cost_distances(alloc, inst)?;
     let mut plan = tidy(alloc, inst, &dist, &single_tours(alloc, inst, &dist)?)?;
     watch.asks();

@@ -110,7 +110,7 @@ fn first_step(
     requires short { IsShortPlan inst.now plan }
 {
     short_plans_are_allowed();
-    let _ = inst.vertices();
+    inst.validity();
     let mut search = Search::begin(alloc, inst, turns, plan)?;
     let before = search.done();
     let turn = step(inst, &mut search, turns)?;
@@ -175,7 +175,7 @@ fn offers_after_a_step(
     requires { IsShortPlan inst.now plan }
 {
     short_plans_are_allowed();
-    let _ = inst.vertices();
+    inst.validity();
     let mut search = Search::begin(alloc, inst, 2, plan)?;
     step(inst, &mut search, 2)?;
     let before = search.cost();

@@ -57,8 +57,7 @@ fn answer(alloc: Global, claim: &Claim<'_>, tree: &Tree) -> Result<Answer, Memor
 {
     good_is_proof();
     spellable_is_fine();
-    // What a read of the instance says of it is needed: that it is valid.
-    let _ = claim.inst.vertices();
+    claim.inst.validity();
     if let Some(reason) = head_reason(alloc, claim)? {
         return Ok(Answer::Rejected(reason));
     }

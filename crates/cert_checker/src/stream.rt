@@ -45,8 +45,7 @@ impl Stream {
     pub(crate) fn new(alloc: Global, inst: &Instance) -> Result<Stream, Memory>
         ensures { IfOk result (λ stream. HasStreamed inst.now stream []) }
     {
-        // What a read of the instance says of it is needed: that it is valid.
-        let _ = inst.vertices();
+        inst.validity();
         Ok(Stream {
             reader: CertReader::new(alloc)?,
             stage: Stage::Before,

@@ -45,7 +45,7 @@ pub fn carry(
 {
     known_laws();
     // The instance and the edits tell only that the certificate was good, and what was edited.
-    let _ = before.vertices();
+    before.validity();
     let _ = edits;
     let counts = counts_of(after);
     let dist = cost_distances(alloc, after)?;

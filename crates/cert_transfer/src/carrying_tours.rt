@@ -88,8 +88,7 @@ pub fn carry_plan(
 {
     plans_are_tours();
     served_once_are_as_many();
-    // What a read of the instance says of it is needed: that it is valid.
-    let _ = inst.vertices();
+    inst.validity();
     let mut carried = Plan::new(alloc);
     for place in 0..plan.len() {
         add_walk(alloc, inst, dist, &mut carried, plan.walk(place))?;

@@ -13,8 +13,7 @@ fn demand_at(inst: &Instance, tasks: &[Task], place: usize) -> u64
     ensures value { result ≡ (edge_at inst.now (task_at tasks.now place).edge).demand }
     ensures fits { result ≤ inst.now.capacity }
 {
-    // What a read of the instance says of it is needed: that it is valid.
-    let _ = inst.vertices();
+    inst.validity();
     inst.edge(tasks[place].edge).demand
 }
 

@@ -1,5 +1,3 @@
 pub mod Surcharges
 pub mod Offered
 pub mod Pushed
-pub mod Placed
-pub mod Grown

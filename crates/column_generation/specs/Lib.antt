@@ -1,4 +1,3 @@
 pub mod Groups
 pub mod Points
 pub mod Proposals
-pub mod Splits

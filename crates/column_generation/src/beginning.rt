@@ -17,8 +17,12 @@ use price_points::Town;
 use route_pricing::Table;
 use std::alloc::Global;
 
-/// A generation that begins with a set, or `None` if no edge is required.
-pub(crate) fn begin(
+/// A generation for a leaf that begins with a set, or `None` if no edge is required. A value of `enough` ends it.
+///
+/// It asks for a table that was made for the instance, and for a set with a price for each required edge and weights on
+/// shores of the pool that belong to the instance. The branch is that of the leaf. The only error is want of memory. It
+/// takes one fill of the table, and the time of the first program.
+pub fn begin(
     alloc: Global,
     town: &Town<'_>,
     table: &mut Table,
@@ -40,7 +44,7 @@ pub(crate) fn begin(
     let dist = distances(alloc, inst, town.net, &costs)?;
     let first = Start::of(alloc, inst, &dist, pool, &none, start)?;
     let limits = Limits::of_root(enough);
-    let begun = Generation::begin(alloc, town, table, &dist, first, limits)?;
+    let begun = Generation::from_start(alloc, town, table, &dist, first, limits)?;
     let Some(mut generation) = begun else {
         return Ok(None);
     };
@@ -67,33 +71,39 @@ fn use_decisions_of(
     generation.decide(alloc, inst, pool, branch, limits)
 }
 
-/// A generation that goes on under a branch from what was kept.
-pub(crate) fn taken_up(
+/// A generation that goes on for a leaf from what was kept of the leaf's parent. A value of `enough` ends it.
+///
+/// The only error is want of memory. It takes the time of a program of the rows and columns that were kept.
+pub fn taken_up(
     alloc: Global,
     town: &Town<'_>,
     pool: &ShorePool,
     branch: &Branch,
     kept: &Kept,
-    limits: Limits,
+    enough: i128,
     generation: Generation,
 ) -> Result<Option<Generation>, Memory>
     requires { IsTown town.now }
     ensures { IfOk result (λ found. IfSome found (IsGeneration town.now.inst.now)) }
 {
+    let limits = Limits::of_leaf(town.inst, enough);
     let mut generation = generation;
     generation.take_up(alloc, town, pool, branch, kept, limits)?;
     Ok(Some(generation))
 }
 
-/// A generation that goes on under a branch from what was kept for another one.
-pub(crate) fn adopted(
+/// A generation that goes on for a leaf from what was kept for another leaf. A value of `enough` ends it.
+///
+/// It asks for a table that was made for the instance. The only error is want of memory. It takes one fill of the
+/// table, and the time of a program of the rows and columns that were kept.
+pub fn adopted(
     alloc: Global,
     town: &Town<'_>,
     table: &mut Table,
     pool: &ShorePool,
     branch: &Branch,
     kept: &Kept,
-    limits: Limits,
+    enough: i128,
     generation: Generation,
 ) -> Result<Option<Generation>, Memory>
     requires town { IsTown town.now }
@@ -101,6 +111,7 @@ pub(crate) fn adopted(
     ensures generation { IfOk result (λ found. IfSome found (IsGeneration town.now.inst.now)) }
     ensures room { IsRoom town.now.inst.now table.new }
 {
+    let limits = Limits::of_leaf(town.inst, enough);
     let mut generation = generation;
     generation.adopt(alloc, town, table, pool, branch, kept, limits)?;
     Ok(Some(generation))

@@ -71,7 +71,7 @@ impl BoxSize {
 
     /// Places the box around the prices of a point.
     pub(crate) fn place(self, inst: &Instance, center: &Point, program: &mut Program) {
-        let _ = inst.vertices();
+        inst.validity();
         for place in 0..inst.required() {
             self.place_row(inst, center, program, place + 1);
         }

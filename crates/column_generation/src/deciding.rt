@@ -1,6 +1,5 @@
 // Decisions in a program: their rows, and the tours that they forbid.
-ghost use Rattle.std.specs.Prelude.{◌≡◌, ◌<◌, All, IfOk, IsTrue, length};
-ghost use Rattle.branch_rules.specs.Limits.{IsShoreOf};
+ghost use Rattle.std.specs.Prelude.{◌≡◌, ◌<◌, All, IfOk, length};
 ghost use Rattle.route_pricing.specs.Pricing.{IsServicePrice};
 ghost use Rattle.column_generation.specs.Points.{IsPoint};
 
@@ -13,7 +12,7 @@ use branch_rules::{Branch, Decision};
 use carp_base::{Allowed, Instance, Memory, Task};
 use cut_pool::{Shore, ShorePool};
 use linear_program::{ColumnId, Program, Variable};
-use price_points::{copy_of, number_at};
+use price_points::number_at;
 use std::alloc::Global;
 
 /// Puts the rows of the decisions of a branch in use.
@@ -45,14 +44,14 @@ pub(crate) fn use_decision(
         Decision::No { .. } => None,
         Decision::Low { shore, k } => match shore_in(pool, shore) {
             Some(shore) => {
-                let demand = Demand::FewDeadheads(copy_of(alloc, shore)?);
+                let demand = Demand::FewDeadheads(shore.copy(alloc)?);
                 master.place_of_decision(alloc, inst, *decision, demand, k)?
             }
             None => None,
         },
         Decision::High { shore, k } => match shore_in(pool, shore) {
             Some(shore) => {
-                let demand = Demand::Deadheads(copy_of(alloc, shore)?);
+                let demand = Demand::Deadheads(shore.copy(alloc)?);
                 master.place_of_decision(alloc, inst, *decision, demand, k.saturating_add(2))?
             }
             None => None,
@@ -78,23 +77,13 @@ fn place_of_pair(
     master.place_of_decision(alloc, inst, decision, Demand::Joined(members), 1)
 }
 
-/// The shore of a number in a pool, if there is one.
-pub(crate) fn shore_in(pool: &ShorePool, number: u32) -> Option<&Shore> {
+// The shore of a number in a pool, if there is one.
+fn shore_in(pool: &ShorePool, number: u32) -> Option<&Shore> {
     if 1 <= number && number <= pool.len() {
         Some(pool.shore(number))
     } else {
         None
     }
-}
-
-/// Whether a number is that of a shore in a pool that belongs to the instance.
-pub(crate) fn is_shore_in(inst: &Instance, pool: &ShorePool, number: u32) -> bool
-    ensures { IsTrue result → IsShoreOf inst.now pool.now number }
-{
-    if number < 1 || pool.len() < number {
-        return false;
-    }
-    pool.shore(number).belongs(inst)
 }
 
 /// Forbids the columns of a program in whose tours excluded pairs follow each other.
@@ -147,8 +136,8 @@ fn may_follow(inst: &Instance, allowed: &Allowed, tasks: &[Task]) -> bool
     true
 }
 
-/// Whether two edges are required, and not excluded.
-pub(crate) fn may_be_near(inst: &Instance, allowed: &Allowed, e: u32, f: u32) -> bool
+/// Whether two edges are required, and not excluded. It takes constant time.
+pub fn may_be_near(inst: &Instance, allowed: &Allowed, e: u32, f: u32) -> bool
     requires { allowed.now.size ≡ inst.now.required }
 {
     1 <= e && e <= inst.required() && 1 <= f && f <= inst.required() && allowed.may(e, f)

@@ -19,9 +19,11 @@ const MOST_ACTIVITY: i64 = 1 << 52;
 /// How often the solution of a program crosses each edge without service, and how often one service follows another,
 /// in parts of 2^20.
 #[derive(Drop)]
-pub(crate) struct Solution {
-    pub(crate) deadheads: Vec<u64>,
-    pub(crate) flow: Flow,
+pub struct Solution {
+    /// How often each edge is crossed without service, in the order of the edges.
+    pub deadheads: Vec<u64>,
+    /// How often one service follows another.
+    pub flow: Flow,
 }
 
 /// The solution of a program.

@@ -34,9 +34,9 @@ const LEAST_TOLERANCE: u64 = 16;
 
 const FINER: i128 = 8192;
 
-/// Where a generation of columns stands.
+/// Where a generation of columns stands, for the leaf that it was begun or taken up for last.
 #[derive(Drop)]
-pub(crate) struct Generation {
+pub struct Generation {
     pub(crate) master: Master,
     /// The best point that pays.
     pub(crate) best: Point,
@@ -70,7 +70,7 @@ pub(crate) struct Asked {
 
 impl Generation {
     /// A generation from a start within limits, or `None` if no edge is required.
-    pub(crate) fn begin(
+    pub(crate) fn from_start(
         alloc: Global,
         town: &Town<'_>,
         table: &mut Table,
@@ -122,12 +122,11 @@ impl Generation {
 
     /// Makes turns until the value of the best point is near that of the program, and no row is found any more, or
     /// until a limit ends it.
-    pub(crate) fn go_on(
-        &mut self,
-        alloc: Global,
-        town: &Town<'_>,
-        table: &mut Table,
-    ) -> Result<(), Memory>
+    ///
+    /// It asks for a table that was made for the instance. The only error is want of memory. It takes up to 1,000 fills
+    /// of the table and 4 * 10^9 entries of the program if the generation began with a set, and up to 100 fills and
+    /// 1.5 * 10^9 entries if it went on from what was kept.
+    pub fn go_on(&mut self, alloc: Global, town: &Town<'_>, table: &mut Table) -> Result<(), Memory>
         requires town { IsTown town.now }
         requires room { IsRoom town.now.inst.now table.old }
         requires generation { IsGeneration town.now.inst.now self.old }

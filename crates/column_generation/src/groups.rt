@@ -177,8 +177,7 @@ fn push_group(
     requires offered { AreOffered inst.now groups.old.items }
     ensures offered { OnOk result (AreOffered inst.now groups.new.items) }
 {
-    // What a read of the instance says is needed: that it is valid.
-    let _ = inst.vertices();
+    inst.validity();
     let group = WeightedGroup::new(alloc, edges, weight)?;
     groups.push(group)?;
     Ok(())

@@ -9,7 +9,7 @@ use std::alloc::Global;
 
 /// What is kept of a generation. It takes some 40,000 bytes for 250 rows.
 #[derive(Drop)]
-pub(crate) struct Kept {
+pub struct Kept {
     /// The rows in use, by place, and the basis.
     pub(crate) rows: Vec<RowId>,
     pub(crate) basis: Vec<Variable>,
@@ -23,8 +23,8 @@ pub(crate) struct Kept {
 }
 
 impl Generation {
-    /// What is kept of it.
-    pub(crate) fn kept(&self, alloc: Global, inst: &Instance) -> Result<Kept, Memory> {
+    /// What is kept of it. The only error is want of memory.
+    pub fn kept(&self, alloc: Global, inst: &Instance) -> Result<Kept, Memory> {
         Ok(Kept {
             rows: Vec::from_slice(alloc, self.program.rows())?,
             basis: basis_of(alloc, &self.program)?,

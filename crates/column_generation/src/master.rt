@@ -237,7 +237,7 @@ fn service_bounds(inst: &Instance, dist: &Distances, scale: Scale, e: u32) -> Ro
     requires dist { dist.now.problem ≡ inst.now }
     requires edge { IsRequired inst.now e }
 {
-    let _ = inst.vertices();
+    inst.validity();
     scale.service_bounds(inst.edge(e).cost, way_to(inst, dist, e))
 }
 

@@ -14,6 +14,3 @@ pub(crate) fn mixed(number: u64) -> u64 {
 pub(crate) fn coefficient(count: i64) -> i32 {
     count.clamp(-MOST_COEFFICIENT, MOST_COEFFICIENT) as i32
 }
-
-/// One deadhead, or one service behind another, in the parts of a solution.
-pub(crate) const PART: u64 = 1 << 20;

@@ -11,14 +11,11 @@ use crate::constraints::{Constraint, Demand};
 use crate::groups::weighted_groups;
 use crate::points::{Point, negative, sum_within};
 use branch_rules::PriceSet;
-use carp_base::{Fail, Instance, Memory};
-use cut_pool::{PoolFull, Shore, ShorePool};
-use price_points::{UNIT, copy_of, number_at};
-use shore_prices::list_weights;
+use carp_base::{Instance, Memory};
+use cut_pool::{MOST_SHORES, Shore, ShorePool};
+use price_points::{UNIT, number_at};
+use shore_prices::{list_weights, number_in};
 use std::alloc::Global;
-
-// How many shores a pool holds at most.
-const MOST: usize = 2000;
 
 /// A point as a price set, with its shores placed in the pool.
 pub(crate) fn offer(
@@ -37,8 +34,7 @@ pub(crate) fn offer(
     let placed = place_shores(alloc, inst, pool, constraints, &point.weights)?;
     let listed = list_weights(alloc, pool, &placed)?;
     let groups = weighted_groups(alloc, inst, constraints, &point.weights)?;
-    // What a read of the instance says is needed: that it is valid.
-    let _ = inst.vertices();
+    inst.validity();
     let set = PriceSet::new(alloc, UNIT, &point.prices, &listed)?;
     Ok(set.with_groups(groups))
 }
@@ -58,7 +54,7 @@ fn place_shores(
     ensures grown { IsGrown pool.old pool.new }
     ensures belong { All (Belongs inst.now) pool.new }
 {
-    let mut placed = vec![in alloc; 0; MOST + 1]?;
+    let mut placed = vec![in alloc; 0; MOST_SHORES + 1]?;
     for place in 0..constraints.len() {
         let weight = number_at(weights, place);
         place_constraint(alloc, inst, pool, &mut placed, &constraints[place], weight)?;
@@ -112,30 +108,11 @@ fn place_shore(
     if weight == 0 || !shore.belongs(inst) {
         return Ok(());
     }
-    let copy = copy_of(alloc, shore)?;
+    let copy = shore.copy(alloc)?;
     if let Some(number) = number_in(inst, pool, copy)? {
         add_to(placed, number as usize, weight);
     }
     Ok(())
-}
-
-/// The number of a shore of the instance in a pool, where it is placed behind the others if it is new, or `None` if
-/// the pool is full.
-pub(crate) fn number_in(
-    inst: &Instance,
-    pool: &mut ShorePool,
-    shore: Shore,
-) -> Result<Option<u32>, Memory>
-    requires shore { Belongs inst.now shore }
-    requires belong { All (Belongs inst.now) pool.old }
-    ensures grown { IsGrown pool.old pool.new }
-    ensures belong { All (Belongs inst.now) pool.new }
-{
-    match pool.add(shore) {
-        Ok(number) => Ok(Some(number)),
-        Err(Fail::Memory) => Err(Memory),
-        Err(Fail::Refused(PoolFull)) => Ok(None),
-    }
 }
 
 // Adds a weight to the one at a place, if there is one.

@@ -66,7 +66,7 @@ fn add_tours_through(
     requires rate { IsRate rate }
 {
     let inst = pricing.inst;
-    let _ = inst.vertices();
+    inst.validity();
     for place in 0..inst.required() {
         let tasks = tour_over(alloc, inst, table, place + 1, rate)?;
         offers.push(offer_of(alloc, pricing, tasks)?)?;

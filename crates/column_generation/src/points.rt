@@ -113,7 +113,7 @@ fn program_price(inst: &Instance, program: &Program, e: u32) -> i64
 pub(crate) fn service_cost(inst: &Instance, e: u32) -> i128
     requires { IsRequired inst.now e }
 {
-    let _ = inst.vertices();
+    inst.validity();
     i128::from(UNIT).saturating_mul(i128::from(inst.edge(e).service))
 }
 

@@ -14,33 +14,33 @@ use cut_pool::ShorePool;
 use price_points::UNIT;
 use std::alloc::Global;
 
-/// The best point of a generation as a price set, if it is above the start.
-pub(crate) fn proposal(
-    alloc: Global,
-    inst: &Instance,
-    pool: &mut ShorePool,
-    branch: &Branch,
-    start: &PriceSet,
-    generation: &Generation,
-) -> Result<Option<PriceSet>, Memory>
-    requires belong { All (Belongs inst.now) pool.old }
-    requires shores { All (λ w. IsShoreOf inst.now pool.old w.shore) start.now.weights }
-    requires generation { IsGeneration inst.now generation.now }
-    ensures proposed { IfOk result (λ set. IfSome set (IsGroupedProposal inst.now pool.new)) }
-    ensures grown { IsGrown pool.old pool.new }
-    ensures belong { All (Belongs inst.now) pool.new }
-{
-    if !is_above(inst, pool, branch, start, generation.best.value) {
-        return Ok(None);
+impl Generation {
+    /// The best point as a price set, if it is above the start, or `None`.
+    ///
+    /// The set has a price for each required edge, weights on shores of the pool that belong to the instance, and
+    /// weights on groups of required edges. Shores with a weight are placed in the pool behind those that it held. If
+    /// there is no room for one, it loses its weight. The only error is want of memory.
+    pub fn proposal(
+        &self,
+        alloc: Global,
+        inst: &Instance,
+        pool: &mut ShorePool,
+        branch: &Branch,
+        start: &PriceSet,
+    ) -> Result<Option<PriceSet>, Memory>
+        requires belong { All (Belongs inst.now) pool.old }
+        requires shores { All (λ w. IsShoreOf inst.now pool.old w.shore) start.now.weights }
+        requires generation { IsGeneration inst.now self.now }
+        ensures proposed { IfOk result (λ set. IfSome set (IsGroupedProposal inst.now pool.new)) }
+        ensures grown { IsGrown pool.old pool.new }
+        ensures belong { All (Belongs inst.now) pool.new }
+    {
+        if !is_above(inst, pool, branch, start, self.best.value) {
+            return Ok(None);
+        }
+        let set = offer(alloc, inst, pool, &self.master.constraints, &self.best)?;
+        Ok(Some(set))
     }
-    let set = offer(
-        alloc,
-        inst,
-        pool,
-        &generation.master.constraints,
-        &generation.best,
-    )?;
-    Ok(Some(set))
 }
 
 // Whether a value, which counts no service costs, is above that of a set.
@@ -59,7 +59,7 @@ fn is_above(inst: &Instance, pool: &ShorePool, branch: &Branch, set: &PriceSet, 
 }
 
 /// A value, which counts no service costs, that is enough for a bound.
-pub(crate) fn enough_for(inst: &Instance, cost: u64) -> i128 {
+pub fn enough_for(inst: &Instance, cost: u64) -> i128 {
     let unit = i128::from(UNIT);
     let below = i128::from(cost.saturating_sub(1)).saturating_mul(unit);
     let services = i128::from(inst.required_cost()).saturating_mul(unit);

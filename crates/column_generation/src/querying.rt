@@ -80,7 +80,7 @@ fn surcharges_of(
 {
     surcharges_are_bond_weights();
     let groups = weighted_groups(alloc, inst, constraints, weights)?;
-    let _ = inst.vertices();
+    inst.validity();
     let surcharges = surcharge_table(alloc, inst.required(), &groups)?;
     Ok(surcharges)
 }

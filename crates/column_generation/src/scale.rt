@@ -114,7 +114,7 @@ pub(crate) fn way_to(inst: &Instance, dist: &Distances, e: u32) -> u64
     requires dist { dist.now.problem ≡ inst.now }
     requires edge { IsRequired inst.now e }
 {
-    let _ = inst.vertices();
+    inst.validity();
     let edge = inst.edge(e);
     let out = dist.get(inst.depot(), edge.u).unwrap_or(0);
     let back = dist.get(inst.depot(), edge.v).unwrap_or(0);

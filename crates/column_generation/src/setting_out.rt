@@ -16,7 +16,7 @@ use carp_base::{Instance, Memory, Task};
 use cut_pool::ShorePool;
 use deadhead_paths::Distances;
 use linear_program::{ColumnId, Program, RowId};
-use price_points::{UNIT, clamped, copy_of, floor, start_prices, start_weight};
+use price_points::{UNIT, clamped, floor, start_prices, start_weight};
 use std::alloc::Global;
 
 // By how much a reduced cost may fall below 0 in the dual method, in parts of a unit of cost. Without it, costs that are a
@@ -119,7 +119,7 @@ fn take_shore(
     }
     let number = set.weight(at).shore;
     let lower = branch.lower(inst, pool, number);
-    let shore = copy_of(alloc, pool.shore(number))?;
+    let shore = pool.shore(number).copy(alloc)?;
     let place = master.place_of_shore(alloc, inst, shore, lower)?;
     push_weight(weights, place, start_weight(set, at))
 }
@@ -228,7 +228,7 @@ fn use_single_tours(
 ) -> Result<(), Memory>
     requires { dist.now.problem ≡ inst.now }
 {
-    let _ = inst.vertices();
+    inst.validity();
     for place in 0..inst.required() {
         let tour = single_tour(alloc, inst, dist, place + 1)?;
         use_tour(alloc, inst, master, program, tour)?;

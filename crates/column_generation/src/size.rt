@@ -10,8 +10,9 @@ const MOST_EDGES: u32 = 400;
 
 const MOST_STEPS: u64 = 100_000_000;
 
-/// Whether the instance is small enough.
-pub(crate) fn is_small(inst: &Instance) -> bool {
+/// Whether the instance is small enough: it has at most 120 required edges and 400 edges, and for m required edges and
+/// a capacity Q, `4 * Q * m * m` is at most 10^8.
+pub fn is_small(inst: &Instance) -> bool {
     inst.required() <= MOST_REQUIRED
         && inst.edge_count() <= MOST_EDGES
         && steps_of_fill(inst) <= MOST_STEPS

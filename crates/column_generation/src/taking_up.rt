@@ -75,8 +75,9 @@ impl Generation {
         Ok(())
     }
 
-    /// Takes columns of great reduced cost out of use, so that trials are short, and gives the dual method its slack.
-    pub(crate) fn trim_for_trials(&mut self, alloc: Global, inst: &Instance) -> Result<(), Memory> {
+    /// Takes columns of great reduced cost out of use, so that trials are short, and gives the dual method its slack. The
+    /// only error is want of memory.
+    pub fn trim_for_trials(&mut self, alloc: Global, inst: &Instance) -> Result<(), Memory> {
         self.program.set_slack(SLACK);
         let keep = self
             .program

@@ -32,8 +32,7 @@ pub(crate) fn count_fleet<'a>(
     ensures { IfOk result (λ d. ((d.status ≡ Status.Proven) ⊎ (d.status ≡ Status.Gap)) × IsFleetFound inst.now turns d.status (output_in d)) }
 {
     plans_are_packings();
-    // A read of the instance says that it is valid.
-    let _ = inst.vertices();
+    inst.validity();
     let found = pack(alloc, inst, turns)?;
     let plan = plan_of(alloc, inst, &found)?;
     let text = spell_fleet(alloc, inst, &plan, &found)?;

@@ -20,5 +20,5 @@ mod shore;
 
 pub use border::{need, required_crossings, touched};
 pub use laws::need_is_met;
-pub use pool::{PoolFull, ShorePool};
+pub use pool::{MOST_SHORES, PoolFull, ShorePool};
 pub use shore::{Shore, Weighted};

@@ -9,7 +9,7 @@ use std::alloc::Global;
 use std::marker::Model;
 
 /// How many shores a pool holds at most.
-const MOST: usize = 2000;
+pub const MOST_SHORES: usize = 2000;
 
 /// The pool holds 2,000 shores already.
 #[derive(Clone, Copy, Debug, PartialEq, Eq)]
@@ -57,7 +57,7 @@ impl ShorePool {
         if let Some(number) = self.number_of(&s) {
             return Ok(number);
         }
-        if self.shores.len() == MOST {
+        if self.shores.len() == MOST_SHORES {
             return Err(Fail::Refused(PoolFull));
         }
         self.place(s)?;

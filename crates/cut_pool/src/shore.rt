@@ -82,6 +82,13 @@ impl Shore {
         Ok(Shore { vertices, marks })
     }
 
+    /// The same set again. It takes memory and time as [`Shore::from_list`] does, and its only error is want of memory.
+    pub fn copy(&self, alloc: Global) -> Result<Shore, Memory>
+        ensures { IfOk result (λ copy. copy ≡ self.now) }
+    {
+        Shore::from_list(alloc, &self.vertices)
+    }
+
     /// Whether each of its vertices is in the instance, and none is the depot. It takes constant time.
     pub fn belongs(&self, inst: &Instance) -> bool
         ensures { IsTrue result ↔ Belongs inst.now self.now }

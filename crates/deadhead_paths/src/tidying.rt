@@ -41,10 +41,9 @@ pub(crate) fn serve(
     ensures added { OnOk result (AddsService dist.now at (tail_of (edge_at inst.now step.edge) step.forward) step joined.old joined.new) }
 {
     let edge = inst.edge(step.edge);
-    let tail = if step.forward { edge.u } else { edge.v };
-    dist.follow(joined, at, tail)?;
+    dist.follow(joined, at, edge.tail(step.forward))?;
     joined.push(step)?;
-    Ok(if step.forward { edge.v } else { edge.u })
+    Ok(edge.head(step.forward))
 }
 
 // The cheapest walk with the services of a lawful one, in their order and direction.

@@ -37,8 +37,7 @@ fn tour(
     requires closed { AreClosed chains.now.decisions.now marks.old }
     ensures { IfOk result (λ walk. IsChainTour chains.now edge marks.old walk marks.new) }
 {
-    // What a read of the instance says of it is needed: that it is valid.
-    let _ = chains.inst.vertices();
+    chains.inst.validity();
     let edges = order(alloc, chains, marks, edge)?;
     let tasks = direct(alloc, chains.inst, dist, &edges)?;
     let walk = join(alloc, chains.inst, dist, &tasks)?;

@@ -49,7 +49,7 @@ pub fn join_prices(
     ensures made { IfOk result (IsJoinSet inst.now pool.new) }
     ensures belong { All (Belongs inst.now) pool.new }
 {
-    let _ = inst.vertices();
+    inst.validity();
     let bound = join_bound(alloc, inst, net, dist)?;
     set_of_shores(alloc, inst, 2, pool, bound.shores)
 }

@@ -43,6 +43,6 @@ pub use best::floors;
 pub use floor_laws::{better_sets_reach_as_much, level_sets_are_there, packing_weights_fit};
 pub use join::join_prices;
 pub use laws::growth_keeps_sets;
-pub use raising::{raise, raise_with};
+pub use raising::{Aim, raise, raise_with};
 pub use ratio::ratio_prices;
 pub use shell::shell_prices;

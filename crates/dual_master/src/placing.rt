@@ -62,8 +62,7 @@ pub(crate) fn set_of_shores(
     ensures ok { OnOk result (pool.new ≡ shores_of shores.items) }
     ensures first { HoldsFirst shores.items pool.new }
 {
-    // What a read of the instance says of it is needed: that it is valid.
-    let _ = inst.vertices();
+    inst.validity();
     let weights = place_shores(alloc, pool, shores)?;
     let services = service_prices(alloc, inst, unit, 0)?;
     PriceSet::new(alloc, unit, &services, &weights)

@@ -48,7 +48,7 @@ pub fn ratio_prices(
     ensures room { IsRoom inst.now table.new }
 {
     least_prices_are_there();
-    let _ = inst.vertices();
+    inst.validity();
     match least_ratio(alloc, inst, dist, table)? {
         None => prices_by(alloc, inst, &NOTHING),
         Some(ratio) => prices_by(alloc, inst, &ratio),
@@ -68,8 +68,7 @@ fn least_ratio(
     ensures value { IfOk result (λ found. MatchOption found (inst.now.required ≡ 0) (λ r. IsLeastCostRatio inst.now r.deadhead r.load)) }
     ensures room { IsRoom inst.now table.new }
 {
-    // What a read of the instance says of it is needed: that it is valid.
-    let _ = inst.vertices();
+    inst.validity();
     let services = service_prices(alloc, inst, 1, 0)?;
     let allowed = Allowed::all(alloc, inst)?;
     let surcharges = surcharge_table(alloc, inst.required(), &[])?;
@@ -82,7 +81,7 @@ fn prices_by(alloc: Global, inst: &Instance, ratio: &Ratio) -> Result<PriceSet, 
     requires { IsRatioIn inst.now ratio.now.deadhead ratio.now.load }
     ensures { IfOk result (λ set. set ≡ ratio_set inst.now ratio.now.deadhead ratio.now.load) }
 {
-    let _ = inst.vertices();
+    inst.validity();
     let services = service_prices(alloc, inst, ratio.load, ratio.deadhead as u64)?;
     PriceSet::new(alloc, ratio.load, &services, &[])
 }

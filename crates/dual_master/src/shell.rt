@@ -48,7 +48,7 @@ pub fn shell_prices(
     packing_weights_fit();
     shells_are_duals();
     least_prices_are_there();
-    let _ = inst.vertices();
+    inst.validity();
     let found = shells(alloc, inst, dist)?;
     set_of_shores(alloc, inst, 1, pool, found)
 }

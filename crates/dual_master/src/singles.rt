@@ -5,11 +5,8 @@ ghost use Rattle.cut_pool.specs.Shores.{Belongs};
 ghost use Rattle.dual_master.specs.Singles.{HasSingles, IsTried};
 
 use carp_base::{Fail, Instance, Memory};
-use cut_pool::{PoolFull, Shore, ShorePool, need};
+use cut_pool::{MOST_SHORES, PoolFull, Shore, ShorePool, need};
 use std::alloc::Global;
-
-// How many shores a pool holds at most.
-const MOST: u32 = 2000;
 
 // Places the shore of each vertex but the depot over which some deadhead is needed, in order, while there is room.
 pub(crate) fn place_singles(
@@ -33,7 +30,7 @@ fn place_single(alloc: Global, inst: &Instance, pool: &mut ShorePool, v: u32) ->
     ensures ok { OnOk result (IsTried inst.now pool.old v pool.new) }
     ensures err { OnErr result (pool.new ≡ pool.old) }
 {
-    if v == inst.depot() || pool.len() == MOST {
+    if v == inst.depot() || pool.len() as usize == MOST_SHORES {
         return Ok(());
     }
     let shore = Shore::from_list(alloc, &[v])?;

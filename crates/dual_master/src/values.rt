@@ -23,7 +23,7 @@ pub(crate) fn value_under(
     ensures within { IsValueWithin result }
 {
     // What reads of the instance, the branch and the set say is needed: that all are within their limits.
-    let _ = inst.vertices();
+    inst.validity();
     let _ = branch.len();
     let _ = set.unit();
     match branch.value_at(inst, pool, set) {

@@ -31,7 +31,7 @@ pub fn pack(alloc: Global, inst: &Instance, turns: u64) -> Result<Packing, Memor
     requires few { turns ≤ 1048576 }
     ensures { IfOk result (IsPacked inst.now turns) }
 {
-    let _ = inst.vertices();
+    inst.validity();
     trees_bound_packings();
     lean_trees_are_small();
     let best = improved(alloc, inst, first_fit(alloc, inst)?)?;

@@ -67,7 +67,7 @@ impl Search {
         ensures none { IfOk result (λ search. search.nodes.items ≡ []) }
         ensures best { IfOk result (λ search. search.best ≡ best) }
     {
-        let _ = inst.vertices();
+        inst.validity();
         let share = share_of(alloc, inst, &[])?;
         let mut shares = Vec::new(alloc);
         shares.push(share)?;

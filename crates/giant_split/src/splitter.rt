@@ -62,8 +62,7 @@ fn improve(
 {
     served_once_are_as_many();
     let count = order.len();
-    // What a read of the instance says of it is needed: that it is valid.
-    let _ = inst.vertices();
+    inst.validity();
     let mut cutter = Cutter::new(alloc, count)?;
     let mut least = cutter.cut(inst, dist, order);
     for _ in 0..MOST_DRAWS.min(4 * count) {

@@ -29,8 +29,7 @@ fn join_tours(
     plans_are_tours();
     tours_are_linked();
     served_once_are_as_many();
-    // What a read of the instance says of it is needed: that it is valid.
-    let _ = inst.vertices();
+    inst.validity();
     let mut plan = Plan::new(alloc);
     let mut from = 0;
     while from < order.len() {
@@ -63,8 +62,7 @@ pub fn split(
     ensures { IfOk result (IsSplit inst.now order.now) }
 {
     served_once_are_as_many();
-    // What a read of the instance says of it is needed: that it is valid.
-    let _ = inst.vertices();
+    inst.validity();
     let mut cutter = Cutter::new(alloc, order.len())?;
     cutter.cut(inst, dist, order);
     join_tours(alloc, inst, dist, order, &cutter)

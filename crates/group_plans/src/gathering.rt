@@ -42,7 +42,6 @@ pub(crate) fn group_tasks(
     ensures serves { IfOk result (λ tasks. ServesGroup inst.now groups.now group tasks.items) }
     ensures order { IfOk result (λ tasks. tasks.items ≡ gathered groups.now group inst.now.required) }
 {
-    // What a read of the instance says of it is needed: that it is valid.
-    let _ = inst.vertices();
+    inst.validity();
     gather(alloc, groups, group)
 }

@@ -33,8 +33,7 @@ fn add_next(
     ensures order { OnOk result (InOrderUpTo inst.now groups.now done (plan_tours plan.old) → InOrderUpTo inst.now groups.now (done + 1) (plan_tours plan.new)) }
     ensures paths { OnOk result (PlanGoesByLeastPaths inst.now plan.old → PlanGoesByLeastPaths inst.now plan.new) }
 {
-    // What a read of the instance says of it is needed: that it is valid.
-    let _ = inst.vertices();
+    inst.validity();
     let tasks = group_tasks(alloc, inst, groups, done + 1)?;
     add_tour(alloc, inst, dist, plan, &tasks)?;
     Ok(())
@@ -66,8 +65,7 @@ pub fn plan_of_groups(
 {
     // That a plan of lawful tours by least paths is lawful.
     plans_are_tours();
-    // What a read of the instance says of it is needed: that it is valid.
-    let _ = inst.vertices();
+    inst.validity();
     let mut plan = Plan::new(alloc);
     for done in 0..count {
         add_next(alloc, inst, dist, groups, done, &mut plan)?;

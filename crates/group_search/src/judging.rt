@@ -102,8 +102,7 @@ pub fn violation(inst: &Instance, flow: &Flow, group: &[u32]) -> u64
     requires group { IsGroup inst.now group.now }
     ensures { result ≡ violation inst.now flow.now group.now }
 {
-    // A read of the instance says that it is valid.
-    let _ = inst.required();
+    inst.validity();
     let needed = (1 << 20) * (2 * vehicles(inst, group));
     needed.saturating_sub(cut(flow, group))
 }

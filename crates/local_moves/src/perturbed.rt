@@ -89,8 +89,7 @@ pub(crate) fn perturbed(
 {
     plans_are_tours();
     required_edges_are_served_once();
-    // What a read of the instance says of it is needed: that it is valid.
-    let _ = inst.vertices();
+    inst.validity();
     let costs = stop_costs(alloc, inst)?;
     let start = sequence_of_plan(alloc, inst, best)?;
     let sequence = ruin_and_recreate(alloc, board, &costs, start, generator)?;

@@ -39,8 +39,7 @@ pub(crate) fn settle_from(
     ensures each_serves { IfOk result (λ after. AllByRecursion (λ tour. tour ≢ []) (plan_tours after)) }
 {
     plans_are_tours();
-    // What a read of the instance says of it is needed: that it is valid.
-    let _ = inst.vertices();
+    inst.validity();
     let settled = settle_sequence(alloc, board, sequence)?;
     plan_of_sequence(alloc, inst, dist, &settled)
 }
@@ -66,8 +65,7 @@ pub(crate) fn settle_on(
 {
     plans_are_tours();
     required_edges_are_served_once();
-    // What a read of the instance says of it is needed: that it is valid.
-    let _ = inst.vertices();
+    inst.validity();
     let sequence = sequence_of_plan(alloc, inst, plan)?;
     settle_from(alloc, inst, dist, board, sequence)
 }

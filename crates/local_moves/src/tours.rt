@@ -37,8 +37,7 @@ pub(crate) fn sequence_of_plan(
     requires { IsLawful inst.now plan.now }
     ensures { IfOk result (λ sequence. sequence.items ≡ sequence_of (plan_tours plan.now)) }
 {
-    // What a read of the instance says of it is needed: that it is valid.
-    let _ = inst.vertices();
+    inst.validity();
     let mut sequence = Vec::new(alloc);
     sequence.push(0)?;
     for i in 0..plan.len() {

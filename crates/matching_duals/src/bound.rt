@@ -48,7 +48,7 @@ pub fn join_bound(
     ensures { IfOk result (λ bound. IsJoinBound inst.now bound.deadheads.items bound.shores.items bound.value) }
 {
     vertices_are_listed();
-    let _ = inst.vertices();
+    inst.validity();
     let ground = Ground::survey(alloc, inst, net, dist)?;
     let costs = pair_costs(alloc, inst, &ground)?;
     let matching = match_least(alloc, &costs)?;

@@ -56,7 +56,7 @@ fn reach_of(inst: &Instance, dist: &Distances, v: u32, x: u32) -> u64
     ensures small { result ≤ far }
 {
     least_prices_are_there();
-    let _ = inst.vertices();
+    inst.validity();
     match dist.get(v, x) {
         None => FAR,
         Some(price) => price as u64,

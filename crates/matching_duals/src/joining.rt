@@ -55,7 +55,7 @@ fn join_pair(
     ensures { OnOk result (ArePaired inst.now ground.now.odd.items ground.now.table.items (mate_in matching.now) (i + 1) counts.new) }
 {
     vertices_are_listed();
-    let _ = inst.vertices();
+    inst.validity();
     let mate = matching.mate(i as u32 + 1) as usize - 1;
     if i < mate {
         let mut walk = Walk::new(alloc);

@@ -35,7 +35,7 @@ pub(crate) fn pair_costs(alloc: Global, inst: &Instance, ground: &Ground) -> Res
     ensures { IfOk result (AreCosts inst.now ground.now.odd.items ground.now.table.items) }
 {
     vertices_are_listed();
-    let _ = inst.vertices();
+    inst.validity();
     let mut costs = Costs::new(alloc, ground.odd.len() as u32)?;
     for a in 0..ground.odd.len() {
         set_row(inst, ground, a, &mut costs);

@@ -64,7 +64,7 @@ fn add_run(
     ensures { OnOk result (Adds inst.now depths.now level end shores.old.items shores.new.items) }
 {
     vertices_are_listed();
-    let _ = inst.vertices();
+    inst.validity();
     let side = list_side(alloc, inst, depths, level)?;
     let shore = Shore::from_list(alloc, &side)?;
     add_shore(shores, shore, end - level)
@@ -122,7 +122,7 @@ fn add_ends(
     requires small { all_halves shores.old.items + weight ≤ 4000000000000000 }
     ensures { OnOk result (Adds inst.now depths.now 0 weight shores.old.items shores.new.items) }
 {
-    let _ = inst.vertices();
+    inst.validity();
     let mut level = 0;
     for end in ends {
         level = add_levels_to(alloc, inst, depths, level, *end, shores)?;

@@ -69,7 +69,7 @@ fn lay_set(
     ensures { OnOk result (AreLaid inst.now ground.now.table.items (set_of ground.now.odd.items matching.now i ∷ sets_to ground.now.odd.items matching.now (len_in matching.now i) i) laying.new.enclosing.items laying.new.shores.items) }
 {
     vertices_are_listed();
-    let _ = inst.vertices();
+    inst.validity();
     let weight = matching.halves(i);
     let members = list_members(alloc, &ground.odd, matching, i)?;
     let depths = depths_of(

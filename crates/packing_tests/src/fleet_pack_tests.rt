@@ -14,7 +14,7 @@ fn accepted(alloc: Global, inst: &Instance, turns: u64) -> Result<Packing, Fail>
     requires some { 1 ≤ turns }
     requires few { turns ≤ 1048576 }
 {
-    let _ = inst.vertices();
+    inst.validity();
     let found = pack(alloc, inst, turns)?;
     match check_pack(alloc, inst, &found)? {
         PackAnswer::Accepted => Ok(found),

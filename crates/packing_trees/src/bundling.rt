@@ -143,6 +143,6 @@ pub fn bundle_count(inst: &Instance, bundles: &Bundles) -> u32
     requires { HasBundles inst.now bundles.now.labels.items bundles.now.weights.items }
     ensures { (branch : List PackChoice) → AreBundles inst.now branch bundles.now.labels.items bundles.now.weights.items → result ≡ bundle_count inst.now branch }
 {
-    let _ = inst.required();
+    inst.validity();
     count_bundles(&bundles.labels)
 }

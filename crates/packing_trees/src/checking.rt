@@ -29,7 +29,7 @@ pub fn check_pack(alloc: Global, inst: &Instance, p: &Packing) -> Result<PackAns
     ensures answer { IfOk result (IsPackAnswer inst.now (claim_of p.now)) }
     ensures bound { IfOk result (ProvesBound inst.now (claim_of p.now)) }
 {
-    let _ = inst.required();
+    inst.validity();
     trees_bound_packings();
     match first_reason(alloc, inst, p.bound, &p.groups, p.count, &p.tree)? {
         Some(reason) => Ok(PackAnswer::Rejected(reason)),

@@ -64,7 +64,6 @@ pub fn find(alloc: Global, inst: &Instance, net: &Network, x: &[u64]) -> Result<
     kept_labels_are_components();
     let labels = label_components(alloc, inst, net, x, 1)?;
     let marks = odd_labels(alloc, inst, &labels)?;
-    // What a read of the instance says is needed: that it is valid.
-    let _ = inst.vertices();
+    inst.validity();
     list_marked(alloc, inst, &labels, &marks)
 }

@@ -48,8 +48,7 @@ impl Scan {
     {
         least_prices_are_there();
         walks_are_task_tours();
-        // What a read of the instance says of it is needed: that it is valid.
-        let _ = inst.vertices();
+        inst.validity();
         let mut best = Scan::by(alloc, inst, dist, Rule::Far)?;
         for &rule in &OTHER_RULES {
             let next = Scan::by(alloc, inst, dist, rule)?;

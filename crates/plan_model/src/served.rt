@@ -54,7 +54,7 @@ pub(crate) fn least_other(inst: &Instance, plan: &Plan) -> Option<u32>
     ensures valid { IsValid inst.now }
 {
     // What a read of the instance says of it reaches the caller, who needs that it is valid.
-    let _ = inst.required();
+    inst.validity();
     let mut least = None;
     for tour in 0..plan.len() {
         least = smaller(least, least_other_in(inst, plan.walk(tour)));

@@ -18,16 +18,14 @@ fn start_of(inst: &Instance, step: Step) -> u32
     requires { IsEdgeNumber inst.now step.edge }
     ensures { result ≡ start_of inst.now step }
 {
-    let edge = inst.edge(step.edge);
-    if step.forward { edge.u } else { edge.v }
+    inst.edge(step.edge).tail(step.forward)
 }
 
 fn end_of(inst: &Instance, step: Step) -> u32
     requires { IsEdgeNumber inst.now step.edge }
     ensures { result ≡ end_of inst.now step }
 {
-    let edge = inst.edge(step.edge);
-    if step.forward { edge.v } else { edge.u }
+    inst.edge(step.edge).head(step.forward)
 }
 
 // Whether the step at a place is on an edge, and starts where the step before it ends.

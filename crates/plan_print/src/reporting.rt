@@ -18,8 +18,7 @@ fn push_crossing(text: &mut Vec<u8>, inst: &Instance, step: Step) -> Result<(), 
     ensures { OnOk result (text.new.items ≡ text.old.items ++ crossing_text inst.now step) }
 {
     text.push(if step.served { b'=' } else { b'-' })?;
-    let edge = inst.edge(step.edge);
-    push_number(text, if step.forward { edge.v } else { edge.u })
+    push_number(text, inst.edge(step.edge).head(step.forward))
 }
 
 fn push_crossings(text: &mut Vec<u8>, inst: &Instance, walk: &Walk) -> Result<(), Memory>

@@ -16,8 +16,8 @@ fn push_crossing_words(text: &mut Vec<u8>, inst: &Instance, step: Step) -> Resul
     ensures { OnOk result (text.new.items ≡ text.old.items ++ crossing_words inst.now step) }
 {
     let edge = inst.edge(step.edge);
-    push_number(text, if step.forward { edge.u } else { edge.v })?;
-    push_words(text, b" ", if step.forward { edge.v } else { edge.u })?;
+    push_number(text, edge.tail(step.forward))?;
+    push_words(text, b" ", edge.head(step.forward))?;
     push_words(
         text,
         b" cost ",
@@ -122,8 +122,7 @@ fn total_cost(inst: &Instance, plan: &Plan) -> u128
     requires { IsLawful inst.now plan.now }
     ensures { result ≡ plan_cost inst.now plan.now }
 {
-    // What a read of the instance says of it is needed: that it is valid.
-    let _ = inst.vertices();
+    inst.validity();
     let mut sum: u128 = 0;
     for i in 0..plan.len() {
         sum += cost_of(inst, plan.walk(i));

@@ -46,7 +46,7 @@ fn lay_round(
     ensures { IfOk result (λ r. IsShownRound inst.now r.walk r.shores.items r.cost) }
 {
     rounds_pay_joins();
-    let _ = inst.vertices();
+    inst.validity();
     let mut deadheads = bound.deadheads;
     let cost = inst.required_cost() + bound.value;
     let walk = lay_circuit(alloc, inst, net, &mut deadheads)?;

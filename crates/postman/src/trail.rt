@@ -66,7 +66,7 @@ fn turn(inst: &Instance, stack: &mut Vec<Step>, walk: &mut Walk) -> Result<Optio
         forward: !step.forward,
         served: step.served,
     })?;
-    Ok(Some(if step.forward { edge.u } else { edge.v }))
+    Ok(Some(edge.tail(step.forward)))
 }
 
 // Crosses an edge from the vertex at hand, or goes back over the last step where no crossing is left there. It gives

@@ -7,7 +7,7 @@ ghost use Rattle.price_ascent.specs.Points.{IsActive};
 use branch_rules::{Branch, PriceSet};
 use carp_base::{Edge, Instance, Memory};
 use cut_pool::{Shore, ShorePool, need};
-use price_points::{PARTS, copy_of, number_at};
+use price_points::{PARTS, number_at};
 use std::alloc::Global;
 
 /// A shore whose weight moves.
@@ -85,7 +85,7 @@ fn active_of(
     ensures { IfOk result (IsActive inst.now) }
 {
     Ok(Active {
-        shore: copy_of(alloc, pool.shore(number))?,
+        shore: pool.shore(number).copy(alloc)?,
         lower: branch.lower(inst, pool, number),
         upper: branch.upper(number).unwrap_or(0),
     })

@@ -117,8 +117,7 @@ fn best_ascent(
     ensures ascent { IfOk result (λ found. IfSome found (IsAscent inst.now)) }
     ensures room { IsRoom inst.now table.new }
 {
-    // What a read of the instance says is needed: that it is valid.
-    let _ = inst.vertices();
+    inst.validity();
     let allowed = branch.allowed(alloc, inst)?;
     let town = Town {
         inst,
@@ -151,8 +150,7 @@ fn offer(
     let least = least_weight(inst);
     let placed = place_weights(alloc, inst, pool, &ascent.actives, &best.weights, least)?;
     let listed = list_weights(alloc, pool, &placed)?;
-    // What a read of the instance says is needed: that it is valid.
-    let _ = inst.vertices();
+    inst.validity();
     PriceSet::new(alloc, UNIT, &best.prices, &listed)
 }
 

@@ -9,7 +9,7 @@ ghost use Rattle.price_ascent.specs.Points.{IsActive};
 use crate::active::Active;
 use carp_base::{Instance, Memory};
 use cut_pool::ShorePool;
-use price_points::{copy_of, number_at};
+use price_points::number_at;
 use shore_prices::place_weight;
 use std::alloc::Global;
 
@@ -72,6 +72,6 @@ fn place_active(
     if weight >= 0 && weight < least {
         return Ok(());
     }
-    let shore = copy_of(alloc, &active.shore)?;
+    let shore = active.shore.copy(alloc)?;
     place_weight(inst, pool, placed, shore, weight)
 }

@@ -121,7 +121,7 @@ fn parts_of(inst: &Instance, e: u32) -> u64
     requires { IsRequired inst.now e }
     ensures { result ≤ 1048576 }
 {
-    let _ = inst.vertices();
+    inst.validity();
     let whole = (PARTS as u64).saturating_mul(inst.edge(e).demand);
     (whole / inst.capacity()).min(PARTS as u64)
 }

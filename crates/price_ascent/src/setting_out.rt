@@ -56,7 +56,7 @@ fn first_price(inst: &Instance, dist: &Distances, e: u32) -> i64
     requires edge { IsRequired inst.now e }
     ensures { IsServicePrice result }
 {
-    let _ = inst.vertices();
+    inst.validity();
     let edge = inst.edge(e);
     let out = dist.get(inst.depot(), edge.u).unwrap_or(0);
     let back = dist.get(edge.v, inst.depot()).unwrap_or(0);

@@ -9,13 +9,12 @@
 //! - `numbers`: the denominator of proposals, and sums that stay within limits.
 //! - `town`: what a set is proposed for. `starting`: the numbers of a set to begin with.
 //! - `touring`: tours that a filled table tells, and how often they serve and cross each edge.
-//! - `paying`: prices that pay. `deadheads`, `shores`: deadheads in parts, and copies of shores.
+//! - `paying`: prices that pay. `deadheads`: deadheads in parts.
 #![tactic(auto)]
 
 mod deadheads;
 mod numbers;
 mod paying;
-mod shores;
 mod starting;
 mod touring;
 mod town;
@@ -23,7 +22,6 @@ mod town;
 pub use deadheads::parts_of;
 pub use numbers::{PARTS, UNIT, add_at, clamped, floor, number_at, quotient};
 pub use paying::paying_prices;
-pub use shores::copy_of;
 pub use starting::{start_prices, start_weight, start_weights};
 pub use touring::{Cover, best_tour, excess_over, least_tour, load_of, tour_over};
 pub use town::Town;

@@ -27,8 +27,7 @@ pub fn paying_prices(
     requires rate { IsRate rate }
     ensures { IfOk result (λ paying. AreServicePrices inst.now paying.items) }
 {
-    // What a read of the instance says is needed: that it is valid.
-    let _ = inst.vertices();
+    inst.validity();
     let mut paying = Vec::with_capacity(alloc, inst.required() as usize)?;
     for place in 0..inst.required() {
         paying.push(paying_price(inst, table, prices, place + 1, rate))?;
@@ -44,7 +43,7 @@ fn paying_price(inst: &Instance, table: &Table, prices: &[i64], e: u32, rate: Ra
     requires rate { IsRate rate }
     ensures { IsServicePrice result }
 {
-    let _ = inst.vertices();
+    inst.validity();
     let price = number_at(prices, e as usize - 1);
     let excess = excess_over(inst, table, e, rate);
     let demand = i128::from(inst.edge(e).demand);

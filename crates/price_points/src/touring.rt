@@ -63,14 +63,9 @@ fn ends_of(inst: &Instance, task: &Task) -> (u32, u32)
     ensures from { IsVertex inst.now result.0 }
     ensures to { IsVertex inst.now result.1 }
 {
-    // What a read of the instance says of it is needed: that it is valid.
-    let _ = inst.vertices();
+    inst.validity();
     let edge = inst.edge(task.edge);
-    if task.forward {
-        (edge.u, edge.v)
-    } else {
-        (edge.v, edge.u)
-    }
+    (edge.tail(task.forward), edge.head(task.forward))
 }
 
 // Adds so many parts of a least path.
@@ -102,7 +97,7 @@ fn add_walk(deadheads: &mut [i64], walk: &Walk, parts: i64) {
 pub fn load_of(inst: &Instance, tasks: &[Task]) -> u64
     requires { AreServices inst.now tasks.now }
 {
-    let _ = inst.vertices();
+    inst.validity();
     let mut load: u64 = 0;
     for task in tasks {
         load = load.saturating_add(inst.edge(task.edge).demand);

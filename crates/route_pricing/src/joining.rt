@@ -28,7 +28,7 @@ impl Grid {
         ensures load { result.load ≡ load }
         ensures column { result.column ≡ column }
     {
-        let _capacity = self.inst.capacity();
+        self.inst.validity();
         Successor {
             load,
             column,

@@ -78,8 +78,7 @@ fn demand(inst: &Instance, x: u32) -> u32
     ensures value { result ≡ (edge_at inst.now (edge_of x)).demand }
     ensures light { result ≤ 30000 }
 {
-    // What a read of the instance says of it is needed: that it is valid.
-    let _ = inst.vertices();
+    inst.validity();
     if x / 2 == 0 {
         return 0;
     }

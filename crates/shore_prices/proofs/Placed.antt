@@ -1,13 +1,14 @@
 -- A pool after a shore was placed.
-use Rattle.std.proofs.Common.{◌≡◌, ◌⊎◌, ℕ, zero, suc, true, false, List, [], ◌∷◌, ◌++◌, get_or, nat_eq, sym, ap, ◌∙◌, subst, refl, arith, inl, inr}
+use Rattle.std.proofs.Common.{◌≡◌, ◌⊎◌, ℕ, ◌+◌, length, zero, suc, true, false, List, [], ◌∷◌, ◌++◌, get_or, nat_eq, sym, ap, ◌∙◌, subst, refl, arith, inl, inr}
 use Rattle.std.specs.List.{All, list_any}
 use Rattle.std.specs.Cmp.Lexicographic.{pointwise, same_text, other_text}
+use Rattle.std.proofs.Math.Seq.{get_or-append_seam}
 use Rattle.std.proofs.lemmas.Bool.{cases_Bool, false≢true}
-use Rattle.std.proofs.lemmas.List.{append-nil, append_assoc, get_or_default}
+use Rattle.std.proofs.lemmas.List.{append-nil, append_assoc, get_or_default, length-append}
 use Rattle.std.proofs.lemmas.List.Folds.{list_any_at, Any-from_list_any}
 use Rattle.std.proofs.lemmas.List.Elements.{All-append, All-cons, All-nil}
 use Rattle.carp_base.specs.Problem.{Problem}
-use Rattle.cut_pool.specs.Pools.{Holds}
+use Rattle.cut_pool.specs.Pools.{Holds, IsHeldAs, shore_at}
 use Rattle.cut_pool.specs.Shores.{Belongs}
 use Rattle.shore_prices.specs.Proposals.{IsGrown}
 
@@ -36,6 +37,21 @@ held pool shore = elim (cases_Bool (list_any (pointwise nat_eq shore) pool)) [
 pub record IsAfter (pool after : List (List ℕ)) (shore : List ℕ) : Type 0 where
   pub old : Holds pool shore → after ≡ pool
   pub new : ¬ (Holds pool shore) → after ≡ pool ++ shore ∷ []
+
+last_is_held : (pool : List (List ℕ)) (shore : List ℕ) → IsHeldAs (pool ++ shore ∷ []) shore (suc (length pool))
+last_is_held pool shore = record {
+  number = record { from_one = omega arith; in_range = omega (arith, length-append pool (shore ∷ [])) };
+  same = get_or-append_seam pool shore [] [];
+}
+
+-- a pool that a shore was added to holds it under the number that it got
+pub after_holds : (pool after : List (List ℕ)) (shore : List ℕ) (number : ℕ) → IsAfter pool after shore → (Holds pool shore → IsHeldAs pool shore number) → (¬ (Holds pool shore) → number ≡ length pool + 1) → IsHeldAs after shore number
+after_holds pool after shore number is old new = elim (held pool shore) [
+  | inl there ↦ subst (λ (now : List (List ℕ)). IsHeldAs now shore number) (sym (is.old there)) (old there)
+  | inr none ↦
+      let same : number ≡ suc (length pool) = omega (arith, new none) in
+      subst (λ (now : List (List ℕ)). IsHeldAs now shore number) (sym (is.new none)) (subst (IsHeldAs (pool ++ shore ∷ []) shore) (sym same) (last_is_held pool shore))
+]
 
 pub after_grows : (pool after : List (List ℕ)) (shore : List ℕ) → IsAfter pool after shore → IsGrown pool after
 after_grows pool after shore is = elim (held pool shore) [

@@ -16,5 +16,5 @@ mod placing;
 mod proposing;
 mod rounds;
 
-pub use placing::{list_weights, place_weight};
+pub use placing::{list_weights, number_in, place_weight};
 pub use proposing::shore_prices;

@@ -1,5 +1,6 @@
 // Shores with weights that are placed in a pool, and the list of their weights.
-ghost use Rattle.std.specs.Prelude.{◌≡◌, ◌+◌, ◌≤◌, All, IfOk, length};
+ghost use Rattle.std.specs.Prelude.{◌≡◌, ◌+◌, ◌≤◌, All, IfOk, IfSome, length};
+ghost use Rattle.cut_pool.specs.Pools.{IsHeldAs};
 ghost use Rattle.cut_pool.specs.Shores.{Belongs};
 ghost use Rattle.branch_rules.specs.Limits.{IsPriceNumber};
 ghost use Rattle.shore_prices.specs.Offers.{IsOffer};
@@ -7,11 +8,8 @@ ghost use Rattle.shore_prices.specs.Proposals.{AreListed, IsGrown};
 
 use branch_rules::Weight;
 use carp_base::{Fail, Instance, Memory};
-use cut_pool::{PoolFull, Shore, ShorePool, Weighted};
+use cut_pool::{MOST_SHORES, PoolFull, Shore, ShorePool, Weighted};
 use std::alloc::Global;
-
-// How many shores a pool holds at most.
-const MOST: usize = 2000;
 
 // Places the shores, and gives for each number of a shore its weight, and 0 where it has none.
 pub(crate) fn place_weights(
@@ -27,7 +25,7 @@ pub(crate) fn place_weights(
     ensures grown { IsGrown pool.old pool.new }
     ensures belong { All (Belongs inst.now) pool.new }
 {
-    let mut placed = vec![in alloc; 0; MOST + 1]?;
+    let mut placed = vec![in alloc; 0; MOST_SHORES + 1]?;
     for weighted in shores {
         let weight = weighted.weight;
         place_weight(inst, pool, &mut placed, weighted.shore, weight)?;
@@ -57,13 +55,28 @@ pub fn place_weight(
     ensures grown { IsGrown pool.old pool.new }
     ensures belong { All (Belongs inst.now) pool.new }
 {
+    if let Some(number) = number_in(inst, pool, shore)? {
+        note(placed, number, weight);
+    }
+    Ok(())
+}
+
+/// The number of a shore of the instance in a pool, where it is placed behind the others if it is new, or `None` if
+/// the pool is full.
+///
+/// It asks for a pool of shores that belong to the instance, which stay where they are. The only error is want of
+/// memory. It takes expected time in proportion to the number of the shore's vertices.
+pub fn number_in(inst: &Instance, pool: &mut ShorePool, shore: Shore) -> Result<Option<u32>, Memory>
+    requires shore { Belongs inst.now shore }
+    requires belong { All (Belongs inst.now) pool.old }
+    ensures held { IfOk result (λ found. IfSome found (IsHeldAs pool.new shore)) }
+    ensures grown { IsGrown pool.old pool.new }
+    ensures belong { All (Belongs inst.now) pool.new }
+{
     match pool.add(shore) {
-        Ok(number) => {
-            note(placed, number, weight);
-            Ok(())
-        }
+        Ok(number) => Ok(Some(number)),
         Err(Fail::Memory) => Err(Memory),
-        Err(Fail::Refused(PoolFull)) => Ok(()),
+        Err(Fail::Refused(PoolFull)) => Ok(None),
     }
 }
 

@@ -46,8 +46,7 @@ pub fn shore_prices(
     let placed = place_weights(alloc, inst, pool, shores)?;
     let listed = list_weights(alloc, pool, &placed)?;
     let services = service_prices(alloc, inst)?;
-    // What a read of the instance says is needed: that it is valid.
-    let _ = inst.vertices();
+    inst.validity();
     PriceSet::new(alloc, UNIT, &services, &listed)
 }
 

@@ -103,7 +103,7 @@ fn add_held(
 {
     for number in 1..pool.len() + 1 {
         let least = branch.lower(inst, pool, number);
-        program.add(alloc, copy_of(alloc, pool.shore(number))?, least)?;
+        program.add(alloc, pool.shore(number).copy(alloc)?, least)?;
     }
     Ok(())
 }
@@ -196,15 +196,4 @@ fn add_all(
         added = added.saturating_add(usize::from(is_new));
     }
     Ok(added)
-}
-
-// A copy of a shore.
-fn copy_of(alloc: Global, shore: &Shore) -> Result<Shore, Memory>
-    ensures { IfOk result (λ copy. copy ≡ shore.now) }
-{
-    let mut vertices = Vec::with_capacity(alloc, shore.len())?;
-    for place in 0..shore.len() {
-        vertices.push(shore.vertex(place))?;
-    }
-    Shore::from_list(alloc, &vertices)
 }

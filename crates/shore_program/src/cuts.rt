@@ -42,14 +42,3 @@ pub(crate) fn count_marks(marks: &[bool]) -> u32 {
     }
     count
 }
-
-/// A copy of a shore.
-pub(crate) fn copy_of(alloc: Global, shore: &Shore) -> Result<Shore, Memory>
-    ensures { IfOk result (λ copy. copy ≡ shore.now) }
-{
-    let mut list = Vec::with_capacity(alloc, shore.len())?;
-    for place in 0..shore.len() {
-        list.push(shore.vertex(place))?;
-    }
-    Shore::from_list(alloc, &list)
-}

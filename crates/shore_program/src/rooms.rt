@@ -4,7 +4,7 @@ ghost use Rattle.plan_model.specs.Plans.{crosses};
 ghost use Rattle.cut_pool.specs.Shores.{is_in};
 ghost use Rattle.shore_program.specs.Tableaus.{HasRoom, IsLaid, LeavesRoom, Takes};
 
-use crate::cuts::{Cut, copy_of};
+use crate::cuts::Cut;
 use crate::tableau::UNIT;
 use carp_base::{Edge, Memory};
 use cut_pool::{Shore, Weighted};
@@ -98,7 +98,7 @@ pub(crate) fn lay(
 {
     let weight = take(edges, rooms, &cut.shore, most.min(MOST));
     if weight > 0 {
-        let shore = copy_of(alloc, &cut.shore)?;
+        let shore = cut.shore.copy(alloc)?;
         shores.push(Weighted {
             shore,
             weight: weight as i64,

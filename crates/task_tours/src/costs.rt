@@ -36,8 +36,7 @@ pub fn least_cost(inst: &Instance, dist: &Distances, from: u32, to: u32) -> u64
     ensures small { result ≤ 999000000 }
 {
     tours_are_linked();
-    // What a read of the instance says of it is needed: that it is valid.
-    let _ = inst.vertices();
+    inst.validity();
     dist.get(from, to).unwrap() as u64
 }
 

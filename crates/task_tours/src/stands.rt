@@ -13,8 +13,7 @@ pub fn ends(inst: &Instance, task: Task) -> (u32, u32)
     ensures tail_stands { IsStand inst.now result.0 }
     ensures head_stands { IsStand inst.now result.1 }
 {
-    // What a read of the instance says of it is needed: that it is valid.
-    let _ = inst.vertices();
+    inst.validity();
     let edge = inst.edge(task.edge);
     if task.forward {
         (edge.u, edge.v)

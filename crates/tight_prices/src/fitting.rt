@@ -43,8 +43,7 @@ pub fn fits(
     ensures filled { OnOk result (NoneTooHeavy inst.now pool.now set.now → IsFilledFor inst.now pool.now branch.now set.now table.new) }
     ensures room { IsRoom inst.now table.new }
 {
-    // What a read of the instance says is needed: that it is valid.
-    let _ = inst.vertices();
+    inst.validity();
     let allowed = branch.allowed(alloc, inst)?;
     let setting = Setting {
         inst,

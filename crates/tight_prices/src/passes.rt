@@ -78,7 +78,7 @@ pub fn tighten(
 {
     least_prices_are_there();
     // What reads of the instance and of the set say is needed: that both are within their limits.
-    let _ = inst.vertices();
+    inst.validity();
     let _ = start.unit();
     let allowed = branch.allowed(alloc, inst)?;
     let setting = Setting {

@@ -41,7 +41,7 @@ fn is_paid_for(inst: &Instance, set: &PriceSet, e: u32) -> bool
     requires one_each { length set.now.services ≡ inst.now.required }
     ensures { IsTrue result → IsPaidFor inst.now set.now e }
 {
-    let _ = inst.edge_count();
+    inst.validity();
     let price = i128::from(set.service(e));
     let cost = u128::from(set.unit()) * u128::from(inst.edge(e).service);
     0 <= price && price <= cost as i128

@@ -21,7 +21,7 @@ absorb-requires-clause-own c =
     let loop = c.loop-place.invariant in
     let place = c.in-Some.place in
     subst (AllByRecursion (λ (s : Step). IsTrue s.served → IsFlagged p _ s.edge)) (sym c.walk.ensures.value)
-    (own_flagged p c.vertices.ensures.valid c.args.singles.now c.requires.singles c.args.costs.now c.requires.costs c.loop-place.served (all_tasks c.loop-place.tours.items) loop.says place c.in-Some.ensures)
+    (own_flagged p c.validity.ensures c.args.singles.now c.requires.singles c.args.costs.now c.requires.costs c.loop-place.served (all_tasks c.loop-place.tours.items) loop.says place c.in-Some.ensures)
 
 pub loop-place-preserved : goal.loop-place-preserved
 loop-place-preserved c =
@@ -33,13 +33,13 @@ loop-place-preserved c =
     let tour = c.in_ok-tour.tour in
     let after = c.absorb.new.served in
     let own : List Task = all_tasks tours ++ task_of (service_of (place + 1)) ∷ [] in
-    let now = flags_now p c.vertices.ensures.valid c.args.singles.now c.requires.singles c.args.costs.now c.requires.costs c.loop-place.served (all_tasks tours) loop.says place found in
+    let now = flags_now p c.validity.ensures c.args.singles.now c.requires.singles c.args.costs.now c.requires.costs c.loop-place.served (all_tasks tours) loop.says place found in
     let absorbed : IsAbsorbed p c.edge-load.result.demand (walk_at c.args.singles.now place) after own tour =
     subst (λ walk. IsAbsorbed p c.edge-load.result.demand walk after own tour) c.walk.ensures.value (c.in_ok-tour.ensures.tour own now) in
     let load_is : c.edge-load.result.demand ≡ (edge_at p (place + 1)).demand = ap (λ x. x.demand) c.edge-load.ensures in
-    let taken = is_taken p c.vertices.ensures.valid c.args.singles.now c.requires.singles c.args.costs.now c.requires.costs c.loop-place.served (all_tasks tours) loop.says place found
+    let taken = is_taken p c.validity.ensures c.args.singles.now c.requires.singles c.args.costs.now c.requires.costs c.loop-place.served (all_tasks tours) loop.says place found
     c.edge-load.result.demand load_is after tour absorbed in
-    let says = flags_after p c.vertices.ensures.valid c.args.singles.now c.requires.singles c.args.costs.now c.requires.costs c.loop-place.served (all_tasks tours) loop.says place found
+    let says = flags_after p c.validity.ensures c.args.singles.now c.requires.singles c.args.costs.now c.requires.costs c.loop-place.served (all_tasks tours) loop.says place found
     c.edge-load.result.demand load_is after tour absorbed in
     rw c.in_ok-push.ensures.items record {
       says = subst (FlagsSay p after) (sym (tasks_more tours tour)) says;

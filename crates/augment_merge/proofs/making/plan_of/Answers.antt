@@ -10,4 +10,4 @@ add_tour-requires-clause-few c =
     let tours = c.args.tours.now in
     let i = c.loop-tour.tour-index in
     let tasks_are : c.tasks-then-not-is_empty.result.now ≡ nth_tour tours i = c.tasks-then-not-is_empty.ensures ∙ get_or_read tours i c.tour-item.result c.loop-tour-test.true c.tour-item.is [] in
-    subst (λ ts. length ts ≤ 30000) (sym tasks_are) (few_tasks p c.vertices.ensures.valid (nth_tour tours i) (c.requires.doable i c.loop-tour-test.true))
+    subst (λ ts. length ts ≤ 30000) (sym tasks_are) (few_tasks p c.validity.ensures (nth_tour tours i) (c.requires.doable i c.loop-tour-test.true))

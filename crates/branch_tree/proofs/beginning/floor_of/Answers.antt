@@ -11,18 +11,18 @@ returns-clause-floor c =
     let fine = c.unit.ensures.fine in
     let shell = c.in_ok-set.ensures.shell in
     record {
-      valid = c.vertices.ensures.valid;
+      valid = c.validity.ensures;
       fine = fine;
       fits = c.in_ok-set.ensures.fits;
       floors = record {
         some_unit = fine.some_unit;
-        services = services_reached c.level_sets_are_there.ensures p c.vertices.ensures.valid pool set shell;
+        services = services_reached c.level_sets_are_there.ensures p c.validity.ensures pool set shell;
         shell = shell;
         ratio = c.in_ok-set.ensures.ratio;
         join = c.in_ok-set.ensures.join;
         below = λ plan lawful.
             c.prices_bound.ensures.below p pool [] set plan (c.in_ok-set.ensures.fits [])
-            (record { valid = c.vertices.ensures.valid; no_depot = no_depot p pool c.in_ok-set.ensures.belong; lawful = lawful; meets = tt });
+            (record { valid = c.validity.ensures; no_depot = no_depot p pool c.in_ok-set.ensures.belong; lawful = lawful; meets = tt });
       };
       shores = c.in_ok-set.ensures.shores;
       no_groups = c.in_ok-set.ensures.no_groups;

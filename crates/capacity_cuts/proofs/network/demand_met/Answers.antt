@@ -15,5 +15,5 @@ returns-clause-sums c =
     IfOk-weaker c.demand_by_label.result
     (λ (sums : Vec ℕ Global). (r : ℕ) → get_or sums.items r 0 ≡ touched p (has_label labels r))
     (λ (sums : Vec ℕ Global). (v : ℕ) → IsVertex p v → get_or sums.items v 0 ≡ demand_at p v)
-    (λ sums are v vertex. are v ∙ met_is p labels own v c.vertices.ensures.valid)
+    (λ sums are v vertex. are v ∙ met_is p labels own v c.validity.ensures)
     c.demand_by_label.ensures.sums

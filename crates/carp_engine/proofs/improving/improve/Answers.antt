@@ -30,7 +30,7 @@ note_nodes-requires-clause-shores g c =
     (shores c.spellable_is_fine.ensures c.fixed_values_compare.ensures.unique c.args.inst.now (certificate_in c.args.cert) c.requires.spellable c.requires.good)
 
 pub search_on-requires-clause-allowed : goal.search_on-requires-clause-allowed
-search_on-requires-clause-allowed g c = c.short_plans_are_allowed.ensures c.args.inst.now c.ask_all.new.best c.vertices.ensures.valid c.ask_all.ensures.short
+search_on-requires-clause-allowed g c = c.short_plans_are_allowed.ensures c.args.inst.now c.ask_all.new.best c.validity.ensures c.ask_all.ensures.short
 
 pub keep_named_sets-requires : goal.keep_named_sets-requires
 keep_named_sets-requires g c =
@@ -49,7 +49,7 @@ search_on-requires-clause-may g c =
     let here : c.deref-2.result.now ≡ c.keep_named_sets.new.nodes = c.deref-2.ensures.value ∙ take_at c.keep_named_sets.new.nodes (drop (length c.keep_named_sets.new.nodes) nodes.items) nodes.len long in
     subst (MayResume p old.shores c.in_ok-sets.sets.items old.bound) (sym here)
     (may_go_on c.spellable_is_fine.ensures c.fixed_values_compare.ensures.unique c.named_sets_suffice.ensures p old c.requires.spellable c.requires.good
-    (c.good_is_proof.ensures p old c.vertices.ensures.valid c.requires.good).bounds taken c.in_ok-sets.ensures.no_more)
+    (c.good_is_proof.ensures p old c.validity.ensures c.requires.good).bounds taken c.in_ok-sets.ensures.no_more)
 
 pub returns-clause-improved : goal.returns-clause-improved
 returns-clause-improved g c =
@@ -64,7 +64,7 @@ returns-clause-improved g c =
     let here : c.deref-2.result.now ≡ after = c.deref-2.ensures.value ∙ take_at after (drop (length after) nodes.items) nodes.len long in
     let before =
     had_before c.spellable_is_fine.ensures c.fixed_values_compare.ensures.unique c.named_sets_suffice.ensures p old c.requires.spellable c.requires.good
-    (c.good_is_proof.ensures p old c.vertices.ensures.valid c.requires.good).bounds taken c.resumed_trees_have_turns.ensures in
+    (c.good_is_proof.ensures p old c.validity.ensures c.requires.good).bounds taken c.resumed_trees_have_turns.ensures in
     IfOk-weaker c.search_on.result _ _
     (λ solved searched. improved laws p old after c.args.turns best c.ask_all.ensures.short (omega (arith, c.ask_all.ensures.no_dearer, c.in_ok-plan.ensures.cost, c.requires.good.cost)) before _ _
     (subst (λ (xs : List GrowingNode). IsSearched p old.bound (min (turns_in (plan_cost p best) xs + c.args.turns) 1048576) best (certificate_in solved.cert) solved.turns) here searched))

@@ -7,7 +7,7 @@ use Rattle.carp_engine.proofs.Sound.{ended, no_dearer, sound, whole}
 use Rattle.carp_engine.proofs.solving.solve.Goals as goal
 
 pub search-requires-clause-allowed : goal.search-requires-clause-allowed
-search-requires-clause-allowed g c = c.short_plans_are_allowed.ensures c.args.inst.now c.ask_all.new.best c.vertices.ensures.valid c.ask_all.ensures.short
+search-requires-clause-allowed g c = c.short_plans_are_allowed.ensures c.args.inst.now c.ask_all.new.best c.validity.ensures c.ask_all.ensures.short
 
 pub returns-clause-sound : goal.returns-clause-sound
 returns-clause-sound g c =

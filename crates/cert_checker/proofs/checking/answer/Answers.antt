@@ -44,4 +44,4 @@ returns-in-None c =
     let all = c.args.tree.now.nodes in
     let head = subst (LayerSays HeadIsRight claim) c.in_default.is c.in_ok-reason.ensures all in
     let good = good_from claim.inst.now (claimed claim all) head (spelled_is c.spellable_is_fine.ensures (support_in claim) (claimed claim all) refl refl c.requires).whole (subst (TreeSays (support_in claim) claim.bound all) c.in-None.is c.in_ok-reason-2.ensures) in
-    record { answer = good; proof = c.good_is_proof.ensures claim.inst.now (claimed claim all) c.vertices.ensures.valid good }
+    record { answer = good; proof = c.good_is_proof.ensures claim.inst.now (claimed claim all) c.validity.ensures good }

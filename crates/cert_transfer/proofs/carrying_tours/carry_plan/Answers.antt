@@ -11,7 +11,7 @@ pub add_walk-requires-clause-few : goal.add_walk-requires-clause-few
 add_walk-requires-clause-few c =
     rw c.walk.ensures.value
     (
-    walk_few c.args.inst.now c.served_once_are_as_many.ensures c.vertices.ensures.valid c.args.plan.now c.requires.services c.loop-place.place c.loop-place.carried
+    walk_few c.args.inst.now c.served_once_are_as_many.ensures c.validity.ensures c.args.plan.now c.requires.services c.loop-place.place c.loop-place.carried
     (omega (arith, c.loop-place-test.true, c.len-place-end.ensures.value)) c.loop-place.invariant
     )
 
@@ -20,10 +20,10 @@ past c = omega (arith, c.loop-place-test.false, c.len-place-end.ensures.value)
 
 pub returns-clause-lawful : goal.returns-clause-lawful
 returns-clause-lawful c =
-    whole_lawful c.args.inst.now c.served_once_are_as_many.ensures c.vertices.ensures.valid c.args.plan.now c.requires.services c.loop-place.place c.loop-place.carried (past c) c.loop-place.invariant c.plans_are_tours.ensures.lawful
+    whole_lawful c.args.inst.now c.served_once_are_as_many.ensures c.validity.ensures c.args.plan.now c.requires.services c.loop-place.place c.loop-place.carried (past c) c.loop-place.invariant c.plans_are_tours.ensures.lawful
 
 pub returns-clause-few_tours : goal.returns-clause-few_tours
-returns-clause-few_tours c = whole_few c.args.inst.now c.served_once_are_as_many.ensures c.vertices.ensures.valid c.args.plan.now c.requires.services c.loop-place.place c.loop-place.carried (past c) c.loop-place.invariant
+returns-clause-few_tours c = whole_few c.args.inst.now c.served_once_are_as_many.ensures c.validity.ensures c.args.plan.now c.requires.services c.loop-place.place c.loop-place.carried (past c) c.loop-place.invariant
 
 pub returns-clause-few_steps : goal.returns-clause-few_steps
-returns-clause-few_steps c = whole_short c.args.inst.now c.served_once_are_as_many.ensures c.vertices.ensures.valid c.args.plan.now c.requires.services c.loop-place.place c.loop-place.carried (past c) c.loop-place.invariant
+returns-clause-few_steps c = whole_short c.args.inst.now c.served_once_are_as_many.ensures c.validity.ensures c.args.plan.now c.requires.services c.loop-place.place c.loop-place.carried (past c) c.loop-place.invariant

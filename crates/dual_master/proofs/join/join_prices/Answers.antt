@@ -17,7 +17,7 @@ use Rattle.dual_master.proofs.join.join_prices.Goals as goal
 pub set_of_shores-requires-clause-placeable : goal.set_of_shores-requires-clause-placeable
 set_of_shores-requires-clause-placeable c =
     let bound = c.in_ok-bound.bound in
-    join_placeable c.args.inst.now bound.deadheads.items bound.shores.items bound.value c.vertices.ensures.valid c.in_ok-bound.ensures
+    join_placeable c.args.inst.now bound.deadheads.items bound.shores.items bound.value c.validity.ensures c.in_ok-bound.ensures
 
 pub returns-clause-fits : goal.returns-clause-fits
 returns-clause-fits c =
@@ -27,7 +27,7 @@ returns-clause-fits c =
     let shores = bound.shores.items in
     both_on_ok c.set_of_shores.result (λ set. set ≡ prices_of p 2 shores) (pool ≡ shores_of shores) (FitsAlways p pool)
     (λ set is held.
-    subst (FitsAlways p pool) (sym is) (join_fits p bound.deadheads.items shores bound.value c.vertices.ensures.valid c.in_ok-bound.ensures pool held))
+    subst (FitsAlways p pool) (sym is) (join_fits p bound.deadheads.items shores bound.value c.validity.ensures c.in_ok-bound.ensures pool held))
     c.set_of_shores.ensures.value c.set_of_shores.ensures.ok
 
 pub returns-clause-reaches : goal.returns-clause-reaches
@@ -38,7 +38,7 @@ returns-clause-reaches c =
     let shores = bound.shores.items in
     both_on_ok c.set_of_shores.result (λ set. set ≡ prices_of p 2 shores) (pool ≡ shores_of shores) (ReachesJoin p pool)
     (λ set is held.
-    subst (ReachesJoin p pool) (sym is) (join_reaches p bound.deadheads.items shores bound.value c.vertices.ensures.valid c.in_ok-bound.ensures pool held))
+    subst (ReachesJoin p pool) (sym is) (join_reaches p bound.deadheads.items shores bound.value c.validity.ensures c.in_ok-bound.ensures pool held))
     c.set_of_shores.ensures.value c.set_of_shores.ensures.ok
 
 pub returns-clause-value : goal.returns-clause-value
@@ -49,7 +49,7 @@ returns-clause-value c =
     let shores = bound.shores.items in
     both_on_ok c.set_of_shores.result (λ set. set ≡ prices_of p 2 shores) (pool ≡ shores_of shores) (ShowsJoinShores p pool)
     (λ set is held.
-    subst (ShowsJoinShores p pool) (sym is) (join_shows p bound.deadheads.items shores bound.value c.vertices.ensures.valid c.in_ok-bound.ensures pool held))
+    subst (ShowsJoinShores p pool) (sym is) (join_shows p bound.deadheads.items shores bound.value c.validity.ensures c.in_ok-bound.ensures pool held))
     c.set_of_shores.ensures.value c.set_of_shores.ensures.ok
 
 pub returns-clause-shores : goal.returns-clause-shores
@@ -60,8 +60,8 @@ returns-clause-shores c =
     both_on_ok c.set_of_shores.result (λ set. set ≡ prices_of p 2 shores) (pool ≡ shores_of shores) (λ set. All (λ (w : Weight). IsShoreOf p pool w.shore) set.weights)
     (λ set is held.
     subst (λ (s : Prices). All (λ (w : Weight). IsShoreOf p pool w.shore) s.weights) (sym is)
-    (pool_belongs p pool 2 shores c.vertices.ensures.valid held
-    (join_placeable p c.in_ok-bound.bound.deadheads.items shores c.in_ok-bound.bound.value c.vertices.ensures.valid c.in_ok-bound.ensures)))
+    (pool_belongs p pool 2 shores c.validity.ensures held
+    (join_placeable p c.in_ok-bound.bound.deadheads.items shores c.in_ok-bound.bound.value c.validity.ensures c.in_ok-bound.ensures)))
     c.set_of_shores.ensures.value c.set_of_shores.ensures.ok
 
 pub returns-clause-held : goal.returns-clause-held
@@ -76,7 +76,7 @@ returns-clause-belong c =
     let p = c.args.inst.now in
     let shores = c.in_ok-bound.bound.shores.items in
     first_belong p shores c.set_of_shores.new.pool
-    (join_placeable p c.in_ok-bound.bound.deadheads.items shores c.in_ok-bound.bound.value c.vertices.ensures.valid c.in_ok-bound.ensures) c.set_of_shores.ensures.first
+    (join_placeable p c.in_ok-bound.bound.deadheads.items shores c.in_ok-bound.bound.value c.validity.ensures c.in_ok-bound.ensures) c.set_of_shores.ensures.first
 
 pub returns-clause-weighed : goal.returns-clause-weighed
 returns-clause-weighed c =
@@ -100,6 +100,6 @@ returns-clause-made c =
       shores = shores;
       value = bound.value;
       show = c.in_ok-bound.ensures;
-      weighs = weighs_shores p 2 shores pool c.vertices.ensures.valid held;
+      weighs = weighs_shores p 2 shores pool c.validity.ensures held;
     }))
     c.set_of_shores.ensures.value c.set_of_shores.ensures.ok

@@ -7,12 +7,12 @@ use Rattle.dual_master.proofs.raising.generate.Goals as goal
 
 pub tighten-requires-in-None-clause-fits : goal.tighten-requires-in-None-clause-fits
 tighten-requires-in-None-clause-fits c =
-    still_fits c.growth_keeps_sets.ensures c.args.inst.now c.args.branch.now c.args.pool.now c.by_programs.new.pool c.by_programs.ensures.grown c.args.start.now c.requires.shores c.requires.fits
+    still_fits c.growth_keeps_sets.ensures c.args.leaf.now.inst.now c.args.leaf.now.branch.now c.args.pool.now c.by_programs.new.pool c.by_programs.ensures.grown c.args.start.now c.requires.shores c.requires.fits
 
 pub returns-in-None-clause-no_lower : goal.returns-in-None-clause-no_lower
 returns-in-None-clause-no_lower c =
-    let p = c.args.inst.now in
-    let branch = c.args.branch.now in
+    let p = c.args.leaf.now.inst.now in
+    let branch = c.args.leaf.now.branch.now in
     both_ok c.tighten-in-None.result _ _ _
     (λ set no_lower worth.
     no_lower_then p branch c.args.pool.now c.by_programs.new.pool c.args.start.now c.args.start.now set
@@ -21,8 +21,8 @@ returns-in-None-clause-no_lower c =
 
 pub returns-in-Some-clause-no_lower : goal.returns-in-Some-clause-no_lower
 returns-in-Some-clause-no_lower c =
-    let p = c.args.inst.now in
-    let branch = c.args.branch.now in
+    let p = c.args.leaf.now.inst.now in
+    let branch = c.args.leaf.now.branch.now in
     let raised = subst (λ (found : Option Prices). IfSome found (IsRaised p branch c.args.pool.now c.args.start.now c.by_programs.new.pool)) c.in-Some.is c.in_ok-better.ensures.raised in
     both_ok c.tighten.result _ _ _
     (λ set no_lower worth. no_lower_then p branch c.args.pool.now c.by_programs.new.pool c.args.start.now c.in-Some.set set raised.no_lower no_lower.unit worth)
@@ -33,6 +33,6 @@ returns-in-None-clause-groups c = IfOk-weaker c.tighten-in-None.result _ _ (λ s
 
 pub returns-in-Some-clause-groups : goal.returns-in-Some-clause-groups
 returns-in-Some-clause-groups c =
-    let p = c.args.inst.now in
-    let raised = subst (λ (found : Option Prices). IfSome found (IsRaised p c.args.branch.now c.args.pool.now c.args.start.now c.by_programs.new.pool)) c.in-Some.is c.in_ok-better.ensures.raised in
+    let p = c.args.leaf.now.inst.now in
+    let raised = subst (λ (found : Option Prices). IfSome found (IsRaised p c.args.leaf.now.branch.now c.args.pool.now c.args.start.now c.by_programs.new.pool)) c.in-Some.is c.in_ok-better.ensures.raised in
     IfOk-weaker c.tighten.result _ _ (λ set no_lower. inr (of_instance p c.in-Some.set set (inl (sym no_lower.groups)) raised.groups)) c.tighten.ensures.no_lower

@@ -8,19 +8,19 @@ use Rattle.dual_master.proofs.raising.raise_with.Goals as goal
 
 pub climb-requires-in-None-clause-fits : goal.climb-requires-in-None-clause-fits
 climb-requires-in-None-clause-fits c =
-    still_fits c.growth_keeps_sets.ensures c.args.inst.now c.args.branch.now c.args.pool.now c.by_program.new.pool c.by_program.ensures.grown c.args.start.now c.requires.shores c.requires.fits
+    still_fits c.growth_keeps_sets.ensures c.args.leaf.now.inst.now c.args.leaf.now.branch.now c.args.pool.now c.by_program.new.pool c.by_program.ensures.grown c.args.start.now c.requires.shores c.requires.fits
 
 pub returns-in-None-clause-no_lower : goal.returns-in-None-clause-no_lower
 returns-in-None-clause-no_lower c =
     IfOk-weaker c.climb-in-None.result _ _
     (λ set no_lower.
-    no_lower_since c.growth_keeps_sets.ensures c.args.inst.now c.args.branch.now c.args.pool.now c.by_program.new.pool c.by_program.ensures.grown c.args.start.now c.requires.shores
+    no_lower_since c.growth_keeps_sets.ensures c.args.leaf.now.inst.now c.args.leaf.now.branch.now c.args.pool.now c.by_program.new.pool c.by_program.ensures.grown c.args.start.now c.requires.shores
     c.climb-in-None.new.pool set no_lower) c.climb-in-None.ensures.no_lower
 
 pub returns-in-Some-clause-no_lower : goal.returns-in-Some-clause-no_lower
 returns-in-Some-clause-no_lower c =
-    let p = c.args.inst.now in
-    let branch = c.args.branch.now in
+    let p = c.args.leaf.now.inst.now in
+    let branch = c.args.leaf.now.branch.now in
     let middle = c.by_program.new.pool in
     let raised = subst (λ (found : Option Prices). IfSome found (IsRaised p branch c.args.pool.now c.args.start.now middle)) c.in-Some.is c.in_ok-better.ensures.raised in
     let fine = subst IsPriceSet c.set.view_is c.set.invariant in
@@ -29,5 +29,5 @@ returns-in-Some-clause-no_lower c =
 
 pub returns-in-Some-clause-groups : goal.returns-in-Some-clause-groups
 returns-in-Some-clause-groups c =
-    let raised = subst (λ (found : Option Prices). IfSome found (IsRaised c.args.inst.now c.args.branch.now c.args.pool.now c.args.start.now c.by_program.new.pool)) c.in-Some.is c.in_ok-better.ensures.raised in
-    IfOk-weaker c.climb.result _ _ (λ set kept. inr (of_instance c.args.inst.now c.in-Some.set set kept raised.groups)) c.climb.ensures.groups
+    let raised = subst (λ (found : Option Prices). IfSome found (IsRaised c.args.leaf.now.inst.now c.args.leaf.now.branch.now c.args.pool.now c.args.start.now c.by_program.new.pool)) c.in-Some.is c.in_ok-better.ensures.raised in
+    IfOk-weaker c.climb.result _ _ (λ set kept. inr (of_instance c.args.leaf.now.inst.now c.in-Some.set set kept raised.groups)) c.climb.ensures.groups

@@ -7,10 +7,10 @@ use Rattle.dual_master.proofs.Tabled.{costs_servable, none_charged, ratio_from_f
 use Rattle.dual_master.proofs.ratio.least_ratio.Goals as goal
 
 pub service_prices-requires : goal.service_prices-requires
-service_prices-requires c = costs_small c.args.inst.now 1 c.vertices.ensures.valid (omega arith)
+service_prices-requires c = costs_small c.args.inst.now 1 c.validity.ensures (omega arith)
 
 pub fill-requires-clause-prices : goal.fill-requires-clause-prices
-fill-requires-clause-prices c = subst (All IsServicePrice) (sym (c.deref.ensures.value ∙ c.in_ok-services.ensures)) (costs_servable c.args.inst.now c.vertices.ensures.valid)
+fill-requires-clause-prices c = subst (All IsServicePrice) (sym (c.deref.ensures.value ∙ c.in_ok-services.ensures)) (costs_servable c.args.inst.now c.validity.ensures)
 
 pub fill-requires-clause-surcharges : goal.fill-requires-clause-surcharges
 fill-requires-clause-surcharges c =
@@ -24,5 +24,5 @@ returns-clause-value c =
     ratio_from_filled c.args.inst.now c.in_ok-allowed.allowed c.in_ok-allowed.ensures c.deref-2.result.now
     (subst (λ n. IsSurchargeTable n [] c.deref-2.result.now) c.required.ensures.value
     (subst (IsSurchargeTable c.required.result []) (sym c.deref-2.ensures.value) c.in_ok-surcharges.ensures.table))
-    c.vertices.ensures.valid c.args.dist.now.prices c.deref.result.now c.requires.costs
+    c.validity.ensures c.args.dist.now.prices c.deref.result.now c.requires.costs
     (c.deref.ensures.value ∙ c.in_ok-services.ensures) c.fill.new.self c.fill.ensures.filled c.least_ratio.result c.least_ratio.ensures

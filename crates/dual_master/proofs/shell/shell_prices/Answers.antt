@@ -15,7 +15,7 @@ use Rattle.dual_master.proofs.shell.shell_prices.Goals as goal
 
 pub set_of_shores-requires-clause-placeable : goal.set_of_shores-requires-clause-placeable
 set_of_shores-requires-clause-placeable c =
-    shells_placeable c.least_prices_are_there.ensures.few_steps c.args.inst.now c.vertices.ensures.valid c.in_ok-found.found.items c.in_ok-found.ensures
+    shells_placeable c.least_prices_are_there.ensures.few_steps c.args.inst.now c.validity.ensures c.in_ok-found.found.items c.in_ok-found.ensures
 
 pub returns-clause-fits : goal.returns-clause-fits
 returns-clause-fits c =
@@ -25,7 +25,7 @@ returns-clause-fits c =
     both_on_ok c.set_of_shores.result (λ set. set ≡ prices_of p 1 shells) (pool ≡ shores_of shells) (FitsAlways p pool)
     (λ set is held.
     subst (FitsAlways p pool) (sym is)
-    (shell_fits c.least_prices_are_there.ensures.few_steps p pool shells c.vertices.ensures.valid c.in_ok-found.ensures held c.shells_are_duals.ensures.pack))
+    (shell_fits c.least_prices_are_there.ensures.few_steps p pool shells c.validity.ensures c.in_ok-found.ensures held c.shells_are_duals.ensures.pack))
     c.set_of_shores.ensures.value c.set_of_shores.ensures.ok
 
 pub returns-clause-reaches : goal.returns-clause-reaches
@@ -36,7 +36,7 @@ returns-clause-reaches c =
     both_on_ok c.set_of_shores.result (λ set. set ≡ prices_of p 1 shells) (pool ≡ shores_of shells) (ReachesShell p pool)
     (λ set is held.
     subst (ReachesShell p pool) (sym is)
-    (shell_reaches c.least_prices_are_there.ensures.few_steps p pool shells c.vertices.ensures.valid c.in_ok-found.ensures held c.shells_are_duals.ensures.weigh))
+    (shell_reaches c.least_prices_are_there.ensures.few_steps p pool shells c.validity.ensures c.in_ok-found.ensures held c.shells_are_duals.ensures.weigh))
     c.set_of_shores.ensures.value c.set_of_shores.ensures.ok
 
 pub returns-clause-value : goal.returns-clause-value
@@ -47,7 +47,7 @@ returns-clause-value c =
     both_on_ok c.set_of_shores.result (λ set. set ≡ prices_of p 1 shells) (pool ≡ shores_of shells) (ShowsShell p pool)
     (λ set is held.
     subst (ShowsShell p pool) (sym is)
-    (shell_shows c.least_prices_are_there.ensures.few_steps p pool shells c.vertices.ensures.valid c.in_ok-found.ensures held c.shells_are_duals.ensures.weigh))
+    (shell_shows c.least_prices_are_there.ensures.few_steps p pool shells c.validity.ensures c.in_ok-found.ensures held c.shells_are_duals.ensures.weigh))
     c.set_of_shores.ensures.value c.set_of_shores.ensures.ok
 
 pub returns-clause-shores : goal.returns-clause-shores
@@ -58,15 +58,15 @@ returns-clause-shores c =
     both_on_ok c.set_of_shores.result (λ set. set ≡ prices_of p 1 shells) (pool ≡ shores_of shells) (λ set. All (λ (w : Weight). IsShoreOf p pool w.shore) set.weights)
     (λ set is held.
     subst (λ (s : Prices). All (λ (w : Weight). IsShoreOf p pool w.shore) s.weights) (sym is)
-    (pool_belongs p pool 1 shells c.vertices.ensures.valid held
-    (shells_placeable c.least_prices_are_there.ensures.few_steps p c.vertices.ensures.valid shells c.in_ok-found.ensures)))
+    (pool_belongs p pool 1 shells c.validity.ensures held
+    (shells_placeable c.least_prices_are_there.ensures.few_steps p c.validity.ensures shells c.in_ok-found.ensures)))
     c.set_of_shores.ensures.value c.set_of_shores.ensures.ok
 
 pub returns-clause-belong : goal.returns-clause-belong
 returns-clause-belong c =
     let p = c.args.inst.now in
     first_belong p c.in_ok-found.found.items c.set_of_shores.new.pool
-    (shells_placeable c.least_prices_are_there.ensures.few_steps p c.vertices.ensures.valid c.in_ok-found.found.items c.in_ok-found.ensures) c.set_of_shores.ensures.first
+    (shells_placeable c.least_prices_are_there.ensures.few_steps p c.validity.ensures c.in_ok-found.found.items c.in_ok-found.ensures) c.set_of_shores.ensures.first
 
 pub returns-clause-weighed : goal.returns-clause-weighed
 returns-clause-weighed c =
@@ -82,5 +82,5 @@ returns-clause-made c =
     let pool = c.set_of_shores.new.pool in
     let shells = c.in_ok-found.found.items in
     both_on_ok c.set_of_shores.result (λ set. set ≡ prices_of p 1 shells) (pool ≡ shores_of shells) (IsShellSet p pool)
-    (λ set is held. subst (IsShellSet p pool) (sym is) (record { shells = shells; are = c.in_ok-found.ensures; weighs = weighs_shores p 1 shells pool c.vertices.ensures.valid held }))
+    (λ set is held. subst (IsShellSet p pool) (sym is) (record { shells = shells; are = c.in_ok-found.ensures; weighs = weighs_shores p 1 shells pool c.validity.ensures held }))
     c.set_of_shores.ensures.value c.set_of_shores.ensures.ok

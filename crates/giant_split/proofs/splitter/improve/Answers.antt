@@ -5,7 +5,7 @@ use Rattle.giant_split.proofs.splitter.improve.Goals as goal
 use Rattle.giant_split.proofs.splitter.improve.Goals.{then-cost-least, else-cost-least}
 
 pub new-requires : goal.new-requires
-new-requires c = omega (arith, c.served_once_are_as_many.ensures c.args.inst.now c.args.order.now c.requires.order, c.vertices.ensures.valid.few_required)
+new-requires c = omega (arith, c.served_once_are_as_many.ensures c.args.inst.now c.args.order.now c.requires.order, c.validity.ensures.few_required)
 
 pub cut-cost-requires-clause-order : goal.cut-cost-requires-clause-order
 cut-cost-requires-clause-order c = served_alike c.args.inst.now c.loop.order c.apply.new.order c.apply.ensures c.loop.invariant.order

@@ -8,12 +8,12 @@ add_tour-requires-clause-few c =
     let from = c.loop-from.from in
     rw c.end-end.ensures.value
     (
-    few_in_tour c.args.inst.now c.args.order.now cutter.costs.items cutter.lasts.items c.vertices.ensures.valid c.requires.order.required from (c.requires.cut.each from c.loop-from-test.true)
+    few_in_tour c.args.inst.now c.args.order.now cutter.costs.items cutter.lasts.items c.validity.ensures c.requires.order.required from (c.requires.cut.each from c.loop-from-test.true)
     )
 
 pub add_tour-requires-clause-room : goal.add_tour-requires-clause-room
 add_tour-requires-clause-room c =
-    omega (arith, c.served_once_are_as_many.ensures c.args.inst.now c.args.order.now c.requires.order, c.vertices.ensures.valid.few_required, c.loop-from.invariant.few, c.loop-from-test.true)
+    omega (arith, c.served_once_are_as_many.ensures c.args.inst.now c.args.order.now c.requires.order, c.validity.ensures.few_required, c.loop-from.invariant.few, c.loop-from-test.true)
 
 pub loop-from-preserved : goal.loop-from-preserved
 loop-from-preserved c =
@@ -26,7 +26,7 @@ pub returns : goal.returns
 returns c =
     let cutter = c.args.cutter.now in
     let tours = c.plans_are_tours.ensures in
-    split_whole c.args.inst.now c.args.order.now cutter.costs.items cutter.lasts.items c.vertices.ensures.valid tours.lawful tours.tours tours.cost tours.least c.tours_are_linked.ensures.there c.requires.order c.requires.cut
+    split_whole c.args.inst.now c.args.order.now cutter.costs.items cutter.lasts.items c.validity.ensures tours.lawful tours.tours tours.cost tours.least c.tours_are_linked.ensures.there c.requires.order c.requires.cut
     c.loop-from.from c.loop-from.plan c.loop-from.invariant c.loop-from-test.false
 
 pub end-end-requires-clause-later : goal.end-end-requires-clause-later

@@ -12,7 +12,7 @@ up_to_all c =
 pub returns-clause-lawful : goal.returns-clause-lawful
 returns-clause-lawful c =
     let p = c.args.inst.now in
-    c.plans_are_tours.ensures.lawful p c.vertices.ensures.valid c.loop-done.plan c.loop-done.invariant.paths
+    c.plans_are_tours.ensures.lawful p c.validity.ensures c.loop-done.plan c.loop-done.invariant.paths
     (all_served p c.args.groups.now c.args.count c.requires.packing (plan_tours c.loop-done.plan) (up_to_all c))
 
 pub returns-clause-serves : goal.returns-clause-serves

@@ -25,7 +25,7 @@ returns c =
     let ys = c.in_ok-settled.settled.items in
     let laws = c.plans_are_tours.ensures in
     let known : Known = record { lawful = laws.lawful; tours = laws.tours; cost = laws.cost; least = laws.least } in
-    let valid = c.vertices.ensures.valid in
+    let valid = c.validity.ensures in
     let settled = c.in_ok-settled.ensures in
     let told = c.plan_of_sequence.ensures in
     let made = λ (plan : List (List Step)) (tours : sequence_of (plan_tours plan) ≡ c.deref.result.now) (paths : PlanGoesByLeastPaths p plan) (required : AllByRecursion (λ t. IsRequired p t.edge) (all_tasks (plan_tours plan))).

@@ -6,7 +6,7 @@ pub overflow_cast-result : goal.overflow_cast-result
 overflow_cast-result c =
     omega (
       arith,
-      distance_small c.least_prices_are_there.ensures.few_steps c.args.inst.now c.args.v c.args.x c.in-Some.price c.vertices.ensures.valid
+      distance_small c.least_prices_are_there.ensures.few_steps c.args.inst.now c.args.v c.args.x c.in-Some.price c.validity.ensures
           (distance_of c.args.inst.now c.args.dist.now c.args.v c.args.x c.in-Some.price c.requires.problem c.requires.costs c.in-Some.ensures.value),
     )
 
@@ -16,5 +16,5 @@ returns-in-Some-clause-value c =
 
 pub returns-in-Some-clause-small : goal.returns-in-Some-clause-small
 returns-in-Some-clause-small c =
-    distance_small c.least_prices_are_there.ensures.few_steps c.args.inst.now c.args.v c.args.x c.in-Some.price c.vertices.ensures.valid
+    distance_small c.least_prices_are_there.ensures.few_steps c.args.inst.now c.args.v c.args.x c.in-Some.price c.validity.ensures
     (distance_of c.args.inst.now c.args.dist.now c.args.v c.args.x c.in-Some.price c.requires.problem c.requires.costs c.in-Some.ensures.value)

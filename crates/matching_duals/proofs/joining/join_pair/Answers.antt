@@ -13,7 +13,7 @@ pub follow-requires-clause-from : goal.follow-requires-clause-from
 follow-requires-clause-from c =
     let p = c.args.inst.now in
     let odd = c.args.ground.now.odd.items in
-    let places = odd_places c.vertices_are_listed.ensures p odd c.vertices.ensures.valid c.requires.odd in
+    let places = odd_places c.vertices_are_listed.ensures p odd c.validity.ensures c.requires.odd in
     let at : c.index.result.now ≡ get_or odd c.args.i 0 = c.index.ensures ∙ get_or_default odd c.args.i c.index.result.now 0 c.requires.place in
     subst (λ q. IsVertex q c.index.result.now) (sym c.requires.problem) (subst (IsVertex p) (sym at) (places.vertex c.args.i c.requires.place))
 
@@ -24,7 +24,7 @@ pub follow-requires-clause-to : goal.follow-requires-clause-to
 follow-requires-clause-to c =
     let p = c.args.inst.now in
     let odd = c.args.ground.now.odd.items in
-    let places = odd_places c.vertices_are_listed.ensures p odd c.vertices.ensures.valid c.requires.odd in
+    let places = odd_places c.vertices_are_listed.ensures p odd c.validity.ensures c.requires.odd in
     let m = c.args.matching.now in
     let mate = mate_is (mate_in m) c.args.i c.mate.result c.mate.ensures in
     let below : c.mate.result - 1 < length odd = omega (arith, mate, c.requires.made.mates_in c.args.i (omega (arith, c.requires.place, c.requires.size)), c.requires.size) in
@@ -36,7 +36,7 @@ pub follow-requires-clause-linked : goal.follow-requires-clause-linked
 follow-requires-clause-linked c =
     let p = c.args.inst.now in
     let odd = c.args.ground.now.odd.items in
-    let places = odd_places c.vertices_are_listed.ensures p odd c.vertices.ensures.valid c.requires.odd in
+    let places = odd_places c.vertices_are_listed.ensures p odd c.validity.ensures c.requires.odd in
     let m = c.args.matching.now in
     let mate = mate_is (mate_in m) c.args.i c.mate.result c.mate.ensures in
     let below : c.mate.result - 1 < length odd = omega (arith, mate, c.requires.made.mates_in c.args.i (omega (arith, c.requires.place, c.requires.size)), c.requires.size) in
@@ -44,7 +44,7 @@ follow-requires-clause-linked c =
     let to = c.index-then-i-mate.result.now in
     let from_at : from ≡ get_or odd c.args.i 0 = c.index.ensures ∙ get_or_default odd c.args.i from 0 c.requires.place in
     let to_at : to ≡ get_or odd (c.mate.result - 1) 0 = c.index-then-i-mate.ensures ∙ get_or_default odd (c.mate.result - 1) to 0 below in
-    λ none. odd_are_linked p from to c.vertices.ensures.valid (ap (is_odd p) from_at ∙ places.odd_at c.args.i c.requires.place)
+    λ none. odd_are_linked p from to c.validity.ensures (ap (is_odd p) from_at ∙ places.odd_at c.args.i c.requires.place)
     (ap (is_odd p) to_at ∙ places.odd_at (c.mate.result - 1) below) (subst (λ q. NoneLead q from to) c.requires.problem none)
 
 pub toggle-requires-clause-edges : goal.toggle-requires-clause-edges
@@ -59,7 +59,7 @@ pub returns-in_ok-follow : goal.returns-in_ok-follow
 returns-in_ok-follow c =
     let p = c.args.inst.now in
     let odd = c.args.ground.now.odd.items in
-    let places = odd_places c.vertices_are_listed.ensures p odd c.vertices.ensures.valid c.requires.odd in
+    let places = odd_places c.vertices_are_listed.ensures p odd c.validity.ensures c.requires.odd in
     let m = c.args.matching.now in
     let i = c.args.i in
     let mate : c.mate.result - 1 ≡ mate_in m i = mate_is (mate_in m) i c.mate.result c.mate.ensures in

@@ -11,7 +11,7 @@ depths_of-requires-clause-members c =
     let i = c.args.i in
     let is = c.in_ok-members.ensures ∙ ap (λ (l : List ℕ). members_of l m i (len_in m i)) c.deref.ensures.value in
     set_members_in c.vertices_are_listed.ensures c.args.inst.now c.args.ground.now.odd.items c.args.ground.now.table.items m i c.args.laying.now.enclosing.items
-    c.args.laying.now.shores.items c.vertices.ensures.valid c.requires.sets c.requires.set c.requires.laid c.deref-4.result.now (c.deref-4.ensures.value ∙ is)
+    c.args.laying.now.shores.items c.validity.ensures c.requires.sets c.requires.set c.requires.laid c.deref-4.result.now (c.deref-4.ensures.value ∙ is)
 
 pub add_levels-requires-clause-sides : goal.add_levels-requires-clause-sides
 add_levels-requires-clause-sides c =
@@ -19,14 +19,14 @@ add_levels-requires-clause-sides c =
     let i = c.args.i in
     let is = c.in_ok-members.ensures ∙ ap (λ (l : List ℕ). members_of l m i (len_in m i)) c.deref.ensures.value in
     set_sides c.vertices_are_listed.ensures c.args.inst.now c.args.ground.now.odd.items c.args.ground.now.table.items m i c.args.laying.now.enclosing.items
-    c.args.laying.now.shores.items c.vertices.ensures.valid c.requires.sets c.requires.set c.requires.laid c.deref-2.result.now c.deref-3.result.now c.deref-4.result.now
+    c.args.laying.now.shores.items c.validity.ensures c.requires.sets c.requires.set c.requires.laid c.deref-2.result.now c.deref-3.result.now c.deref-4.result.now
     c.in_ok-depths.depths.items c.deref-5.result.now c.halves-weight.result c.in_ok-depths.ensures c.deref-2.ensures.value c.deref-3.ensures.value
     (c.deref-4.ensures.value ∙ is) c.halves-weight.ensures c.deref-5.ensures.value
 
 pub add_levels-requires-clause-small : goal.add_levels-requires-clause-small
 add_levels-requires-clause-small c =
     set_fits c.vertices_are_listed.ensures c.args.inst.now c.args.ground.now.odd.items c.args.ground.now.table.items c.args.matching.now c.args.i c.args.laying.now.enclosing.items
-    c.args.laying.now.shores.items c.vertices.ensures.valid c.requires.sets c.requires.set c.requires.laid c.halves-weight.result c.halves-weight.ensures
+    c.args.laying.now.shores.items c.validity.ensures c.requires.sets c.requires.set c.requires.laid c.halves-weight.result c.halves-weight.ensures
 
 pub add_enclosing-requires-clause-distinct : goal.add_enclosing-requires-clause-distinct
 add_enclosing-requires-clause-distinct c =
@@ -34,7 +34,7 @@ add_enclosing-requires-clause-distinct c =
     let i = c.args.i in
     let is = c.in_ok-members.ensures ∙ ap (λ (l : List ℕ). members_of l m i (len_in m i)) c.deref.ensures.value in
     set_distinct c.vertices_are_listed.ensures c.args.inst.now c.args.ground.now.odd.items c.args.ground.now.table.items m i c.args.laying.now.enclosing.items
-    c.args.laying.now.shores.items c.vertices.ensures.valid c.requires.sets c.requires.set c.requires.laid c.deref-6.result.now (c.deref-6.ensures.value ∙ is)
+    c.args.laying.now.shores.items c.validity.ensures c.requires.sets c.requires.set c.requires.laid c.deref-6.result.now (c.deref-6.ensures.value ∙ is)
 
 pub add_enclosing-requires-clause-members : goal.add_enclosing-requires-clause-members
 add_enclosing-requires-clause-members c =
@@ -42,7 +42,7 @@ add_enclosing-requires-clause-members c =
     let i = c.args.i in
     let is = c.in_ok-members.ensures ∙ ap (λ (l : List ℕ). members_of l m i (len_in m i)) c.deref.ensures.value in
     set_placed c.vertices_are_listed.ensures c.args.inst.now c.args.ground.now.odd.items c.args.ground.now.table.items m i c.args.laying.now.enclosing.items
-    c.args.laying.now.shores.items c.vertices.ensures.valid c.requires.sets c.requires.set c.requires.laid c.deref-6.result.now c.deref_mut.result.now
+    c.args.laying.now.shores.items c.validity.ensures c.requires.sets c.requires.set c.requires.laid c.deref-6.result.now c.deref_mut.result.now
     (c.deref-6.ensures.value ∙ is) c.deref_mut.ensures.value
 
 pub add_enclosing-requires-clause-small : goal.add_enclosing-requires-clause-small
@@ -51,7 +51,7 @@ add_enclosing-requires-clause-small c =
     let i = c.args.i in
     let is = c.in_ok-members.ensures ∙ ap (λ (l : List ℕ). members_of l m i (len_in m i)) c.deref.ensures.value in
     set_small c.vertices_are_listed.ensures c.args.inst.now c.args.ground.now.odd.items c.args.ground.now.table.items m i c.args.laying.now.enclosing.items
-    c.args.laying.now.shores.items c.vertices.ensures.valid c.requires.sets c.requires.set c.requires.laid c.deref-6.result.now c.deref_mut.result.now c.halves-weight.result
+    c.args.laying.now.shores.items c.validity.ensures c.requires.sets c.requires.set c.requires.laid c.deref-6.result.now c.deref_mut.result.now c.halves-weight.result
     (c.deref-6.ensures.value ∙ is) c.deref_mut.ensures.value c.halves-weight.ensures
 
 pub returns : goal.returns
@@ -67,7 +67,7 @@ returns c =
     let long = c.add_enclosing.auto.enclosing ∙ ap length c.deref_mut.ensures.value in
     subst (λ (l : List ℕ). AreLaid p table (set_of odd m i ∷ sets_to odd m (len_in m i) i) l c.add_levels.new.shores.items)
     (sym (whole enclosing now c.args.laying.now.enclosing.len (c.args.laying.now.enclosing.ok.0 ∙ sym long)))
-    (set_laid c.vertices_are_listed.ensures p odd table m i enclosing c.args.laying.now.shores.items c.vertices.ensures.valid c.requires.sets c.requires.set c.requires.laid
+    (set_laid c.vertices_are_listed.ensures p odd table m i enclosing c.args.laying.now.shores.items c.validity.ensures c.requires.sets c.requires.set c.requires.laid
     c.deref-2.result.now c.deref-3.result.now c.deref-4.result.now c.in_ok-depths.depths.items c.deref-5.result.now c.halves-weight.result c.in_ok-depths.ensures
     c.deref-2.ensures.value c.deref-3.ensures.value (c.deref-4.ensures.value ∙ is) c.halves-weight.ensures c.deref-5.ensures.value c.add_levels.new.shores.items
     c.in_ok-add_levels.ensures now c.deref_mut.result.now c.deref-6.result.now c.deref_mut.ensures.value (c.deref-6.ensures.value ∙ is) long c.add_enclosing.ensures)

@@ -25,7 +25,7 @@ returns c =
     let kept = subst (λ (l : List ℕ). AreKept p x l is_odd_border c.deref-3.result.now) labels
     (subst (λ (m : List Bool). AreKept p x c.deref.result.now is_odd_border m) (sym c.deref-3.ensures.value) (c.in_ok-marks.ensures x)) in
     let are = subst (λ (l : List ℕ). AreLabels p x 1 l) (sym c.deref-2.ensures.value) c.in_ok-labels.ensures in
-    let all = c.kept_labels_are_components.ensures.components p x 1 c.deref-2.result.now is_odd_border c.deref-3.result.now c.vertices.ensures.valid are kept in
+    let all = c.kept_labels_are_components.ensures.components p x 1 c.deref-2.result.now is_odd_border c.deref-3.result.now c.validity.ensures are kept in
     IfOk-weaker c.list_marked.result
     (λ (shores : Vec (List ℕ) Global). shores.items ≡ marked_shores c.deref-2.result.now c.deref-3.result.now p.vertices p.vertices)
     (λ (shores : Vec (List ℕ) Global). AreAll (IsOddComponent p x) shores.items)

@@ -12,12 +12,12 @@ cost_of-sum-requires c = rw c.walk.ensures.value (lawful_on_edges c.args.inst.no
 
 pub overflow_add-sum : goal.overflow_add-sum
 overflow_add-sum c =
-    let small = small_walk_at c.args.inst.now c.args.plan.now c.loop-i.i c.walk.result.now c.vertices.ensures.valid c.requires (omega arith) c.walk.ensures.value c.walk.ensures.short in
+    let small = small_walk_at c.args.inst.now c.args.plan.now c.loop-i.i c.walk.result.now c.validity.ensures c.requires (omega arith) c.walk.ensures.value c.walk.ensures.short in
     omega (arith, small)
 
 pub loop-i-preserved : goal.loop-i-preserved
 loop-i-preserved c =
-    let small = small_walk_at c.args.inst.now c.args.plan.now c.loop-i.i c.walk.result.now c.vertices.ensures.valid c.requires (omega arith) c.walk.ensures.value c.walk.ensures.short in
+    let small = small_walk_at c.args.inst.now c.args.plan.now c.loop-i.i c.walk.result.now c.validity.ensures c.requires (omega arith) c.walk.ensures.value c.walk.ensures.short in
     record {
       value = let more = sum_by_more (walk_cost c.args.inst.now) c.args.plan.now c.loop-i.i [] (omega arith) in
           let cost = ap (walk_cost c.args.inst.now) c.walk.ensures.value in

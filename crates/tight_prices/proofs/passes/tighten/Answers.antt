@@ -21,7 +21,7 @@ returns-clause-tight c =
     three_ok c.tighten_prices.result (IsFitting g) (Rises g.problem g.pool g.branch heavier)
     (λ (set : Prices). (e : ℕ) → IsRequired g.problem e → IsPriceTight g.problem g.pool g.branch set e) (IsTight g.problem g.pool c.args.known g.branch)
     (λ set fitting rises prices.
-    tightened c.least_prices_are_there.ensures.tasks g c.vertices.ensures.valid heavier set c.in_ok-heavier.ensures.fitting rises fitting.fine c.args.known c.in_ok-heavier.ensures.tight fitting prices)
+    tightened c.least_prices_are_there.ensures.tasks g c.validity.ensures heavier set c.in_ok-heavier.ensures.fitting rises fitting.fine c.args.known c.in_ok-heavier.ensures.tight fitting prices)
     c.tighten_prices.ensures.fitting c.tighten_prices.ensures.rises c.tighten_prices.ensures.tight
 
 pub returns-clause-no_lower : goal.returns-clause-no_lower

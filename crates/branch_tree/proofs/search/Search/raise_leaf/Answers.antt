@@ -24,3 +24,9 @@ raise_and_propose-requires-clause-some c =
 
 pub raise_and_propose-requires-clause-few : goal.raise_and_propose-requires-clause-few
 raise_and_propose-requires-clause-few c = subst (λ (sets : List Prices). length sets ≤ 256) (sym c.deref.ensures.value) c.requires.search.held.few_sets
+
+pub raise_and_propose-requires-clause-leaf : goal.raise_and_propose-requires-clause-leaf
+raise_and_propose-requires-clause-leaf c =
+    let begins : MayBegin c.args.inst.now c.args.self.now.pool c.args.branch.now c.args.self.now.sets.items c.args.number =
+    may_begin c.known_laws.ensures c.args.inst.now (state_of c.args.self.now) c.requires.search.held c.args.place c.args.branch.now c.requires.names.at c.args.number c.requires.names in
+    record { valid = c.validity.ensures; net = c.requires.search.net; pairs = begins.pairs }

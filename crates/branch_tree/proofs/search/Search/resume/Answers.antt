@@ -10,9 +10,9 @@ returns-clause-search c =
     let p = c.args.inst.now in
     let tree = c.in_ok-tree.ensures in
     let entries : c.in_ok-tree.tree.nodes ≡ c.args.nodes.now = ap (λ (t : Growth). t.nodes) tree in
-    let few = few_nodes c.short_plans_cost_little.ensures p c.vertices.ensures.valid c.args.best c.requires.allowed c.args.pool c.args.sets.items c.args.least c.args.nodes.now c.requires.may
+    let few = few_nodes c.short_plans_cost_little.ensures p c.validity.ensures c.args.best c.requires.allowed c.args.pool c.args.sets.items c.args.least c.args.nodes.now c.requires.may
     c.in_ok-cost.cost c.in_ok-cost.ensures in
-    let most = in_range c.short_plans_cost_little.ensures p c.vertices.ensures.valid c.args.best c.requires.allowed c.args.pool c.args.sets.items c.args.least c.args.nodes.now c.requires.may in
+    let most = in_range c.short_plans_cost_little.ensures p c.validity.ensures c.args.best c.requires.allowed c.args.pool c.args.sets.items c.args.least c.args.nodes.now c.requires.may in
     record {
       net = c.in_ok-tools.ensures.net;
       problem = c.in_ok-tools.ensures.problem;
@@ -24,7 +24,7 @@ returns-clause-search c =
       held =
           subst (λ (ns : List GrowingNode). IsHeld p (record { pool = c.args.pool; sets = c.args.sets.items; nodes = ns; plan = c.args.best; cost = c.in_ok-cost.cost; done = c.turns_for-done.result; least = c.args.least }))
           (sym entries)
-          (resumed_held c.short_plans_cost_little.ensures p c.vertices.ensures.valid c.args.best c.requires.allowed c.args.pool c.args.sets.items c.args.least c.args.nodes.now c.requires.may
+          (resumed_held c.short_plans_cost_little.ensures p c.validity.ensures c.args.best c.requires.allowed c.args.pool c.args.sets.items c.args.least c.args.nodes.now c.requires.may
           c.in_ok-cost.cost c.turns_for-done.result c.in_ok-cost.ensures c.turns_for-done.ensures);
     }
 

@@ -8,7 +8,7 @@ use Rattle.path_scanning.proofs.scanner.Scan.cheapest.Goals.{then-next-best, els
 pub loop-rule-init : goal.loop-rule-init
 loop-rule-init c = record {
   lawful = c.in_ok-best.ensures.lawful;
-  cheapest = cheapest_one c.least_prices_are_there.ensures.tasks c.walks_are_task_tours.ensures.cost c.args.inst.now c.vertices.ensures.valid Far c.in_ok-best.best.plan refl c.in_ok-best.ensures.scanned;
+  cheapest = cheapest_one c.least_prices_are_there.ensures.tasks c.walks_are_task_tours.ensures.cost c.args.inst.now c.validity.ensures Far c.in_ok-best.best.plan refl c.in_ok-best.ensures.scanned;
   cost = c.in_ok-best.ensures.cost;
 }
 
@@ -25,12 +25,12 @@ loop-rule-preserved c =
     elim c.if-next-best.branch [
       | then-next-best w ↦ rw w.best-is record {
         lawful = next.lawful;
-        cheapest = cheapest_next there costs p c.vertices.ensures.valid (i + 1) rule c.loop-rule.best.plan c.in_ok-next.next.plan place loop.cheapest next.scanned (omega (arith, w.if-next-best.true, next.cost, loop.cost));
+        cheapest = cheapest_next there costs p c.validity.ensures (i + 1) rule c.loop-rule.best.plan c.in_ok-next.next.plan place loop.cheapest next.scanned (omega (arith, w.if-next-best.true, next.cost, loop.cost));
         cost = next.cost;
       }
       | else-next-best w ↦ rw w.best-is record {
         lawful = loop.lawful;
-        cheapest = cheapest_same there costs p c.vertices.ensures.valid (i + 1) rule c.loop-rule.best.plan c.in_ok-next.next.plan place loop.cheapest next.scanned (omega (arith, w.if-next-best.false, next.cost, loop.cost));
+        cheapest = cheapest_same there costs p c.validity.ensures (i + 1) rule c.loop-rule.best.plan c.in_ok-next.next.plan place loop.cheapest next.scanned (omega (arith, w.if-next-best.false, next.cost, loop.cost));
         cost = loop.cost;
       }
     ]

@@ -1,0 +1,99 @@
+// The decisions of a split, and the branches of its children.
+ghost use Rattle.std.specs.Prelude.{◌≡◌, IfOk, IfSome, IsTrue};
+ghost use Rattle.branch_rules.specs.Limits.{AreShoresIn, IsShoreOf};
+ghost use Rattle.decision_chains.specs.Pairs.{ArePairsIn, IsPairWithin};
+ghost use Rattle.leaf_programs.specs.Splits.{IsDecisionIn};
+
+use branch_rules::{Branch, Decision, Node};
+use carp_base::{Instance, Memory};
+use cut_pool::ShorePool;
+use std::alloc::Global;
+
+/// The greatest number of a cut.
+pub(crate) const MOST_K: u64 = 1_000_000;
+
+/// The decisions of both children of a node. A leaf has none.
+pub(crate) fn decisions_of(node: &Node) -> Option<(Decision, Decision)> {
+    match *node {
+        Node::Pair { a, b } => Some((Decision::Yes { a, b }, Decision::No { a, b })),
+        Node::Cut { shore, k } => Some((Decision::Low { shore, k }, Decision::High { shore, k })),
+        _ => None,
+    }
+}
+
+/// The same, but none for a node on a pair that is not of required edges, or on a shore that is not one of the instance
+/// in the pool.
+pub(crate) fn decisions_in(
+    inst: &Instance,
+    pool: &ShorePool,
+    node: &Node,
+) -> Option<(Decision, Decision)>
+    ensures first { IfSome result (λ both. IsDecisionIn inst.now pool.now both.0) }
+    ensures second { IfSome result (λ both. IsDecisionIn inst.now pool.now both.1) }
+{
+    let (first, second) = decisions_of(node)?;
+    if is_decision_in(inst, pool, &first) && is_decision_in(inst, pool, &second) {
+        Some((first, second))
+    } else {
+        None
+    }
+}
+
+// Whether a decision is on a pair of required edges, or on a shore of the instance that is in the pool.
+fn is_decision_in(inst: &Instance, pool: &ShorePool, decision: &Decision) -> bool
+    ensures { IsTrue result → IsDecisionIn inst.now pool.now decision.now }
+{
+    match *decision {
+        Decision::Yes { a, b } => is_pair_in(inst, a, b),
+        Decision::No { a, b } => is_pair_in(inst, a, b),
+        Decision::Low { shore, k } => k <= MOST_K && is_shore_in(inst, pool, shore),
+        Decision::High { shore, k } => k <= MOST_K && is_shore_in(inst, pool, shore),
+    }
+}
+
+// Whether these are two required edges.
+fn is_pair_in(inst: &Instance, a: u32, b: u32) -> bool
+    ensures { IsTrue result → IsPairWithin inst.now.required a b }
+{
+    let last = inst.required();
+    1 <= a && a <= last && 1 <= b && b <= last && a != b
+}
+
+/// Whether a number is that of a shore in a pool that belongs to the instance.
+pub(crate) fn is_shore_in(inst: &Instance, pool: &ShorePool, number: u32) -> bool
+    ensures { IsTrue result → IsShoreOf inst.now pool.now number }
+{
+    if number < 1 || pool.len() < number {
+        return false;
+    }
+    pool.shore(number).belongs(inst)
+}
+
+/// A branch with one more decision.
+pub(crate) fn child_of(
+    alloc: Global,
+    inst: &Instance,
+    pool: &ShorePool,
+    branch: &Branch,
+    decision: Decision,
+) -> Result<Branch, Memory>
+    requires pairs { ArePairsIn inst.now branch.now }
+    requires shores { AreShoresIn inst.now pool.now branch.now }
+    requires decision { IsDecisionIn inst.now pool.now decision }
+    ensures pairs { IfOk result (ArePairsIn inst.now) }
+    ensures shores { IfOk result (AreShoresIn inst.now pool.now) }
+{
+    let mut child = branch.copy(alloc)?;
+    child.push(decision)?;
+    Ok(child)
+}
+
+/// The last decision of a branch.
+pub(crate) fn last_of(branch: &Branch) -> Option<Decision> {
+    let decisions = branch.decisions();
+    if decisions.is_empty() {
+        None
+    } else {
+        Some(decisions[decisions.len() - 1])
+    }
+}

@@ -1,0 +1,357 @@
+// Programs for the leaves of a tree.
+ghost use Rattle.std.specs.Prelude.{◌≡◌, All, IfOk, IfSome, length};
+ghost use Rattle.cut_pool.specs.Shores.{Belongs};
+ghost use Rattle.branch_rules.specs.Limits.{AreShoresIn, IsShoreOf};
+ghost use Rattle.decision_chains.specs.Pairs.{ArePairsIn};
+ghost use Rattle.route_pricing.specs.Tables.{IsRoom};
+ghost use Rattle.price_points.specs.Towns.{IsTown};
+ghost use Rattle.shore_prices.specs.Proposals.{IsGrown};
+ghost use Rattle.column_generation.specs.Points.{IsGeneration};
+ghost use Rattle.column_generation.specs.Proposals.{IsGroupedProposal};
+ghost use Rattle.leaf_programs.specs.Leaves.{IsLeaf};
+
+use crate::decisions::{decisions_of, last_of};
+use crate::leaf::Leaf;
+use crate::poor::Poor;
+use crate::ranking::ranked_splits;
+use crate::rivals::try_rivals;
+use crate::shelf::Shelf;
+use crate::trials::{Scored, Tried};
+use branch_rules::{Branch, Node, PriceSet};
+use carp_base::{Instance, Memory, Task};
+use column_generation::{Generation, Kept, adopted, begin, enough_for, is_small, taken_up};
+use cut_pool::ShorePool;
+use price_points::Town;
+use route_pricing::Table;
+use std::alloc::Global;
+use std::mem;
+
+/// Programs for the leaves of a tree, over one store of rows and columns. Leaves that name a price set go on from the
+/// program that was kept under its number.
+#[derive(Drop)]
+pub struct LeafPrograms {
+    generation: Option<Generation>,
+    shelf: Shelf,
+    poor: Poor,
+}
+
+// Where a leaf begins if there is no program to go on from, and when it ends.
+#[derive(Clone, Copy)]
+struct Start<'a> {
+    // The set that the leaf names, and its number.
+    set: &'a PriceSet,
+    number: u32,
+    // The value that is enough.
+    enough: i128,
+}
+
+impl LeafPrograms {
+    /// No programs.
+    pub fn new(alloc: Global) -> LeafPrograms {
+        LeafPrograms {
+            generation: None,
+            shelf: Shelf::new(alloc),
+            poor: Poor::new(alloc),
+        }
+    }
+
+    /// Proposes a price set for a leaf of a branch that names the set `start` of a number, or `None`. A bound of `cost`
+    /// is enough. It promises nothing of the set's value, nor that it fits. But the set has a price for each required
+    /// edge, in parts of 1/1,000,000, weights on shores of the pool that belong to the instance, and weights on groups
+    /// of required edges. Weights may be below 0 on shores with an upper number and on pairs that are to be served
+    /// together.
+    ///
+    /// It goes on from the program that was kept under the number. If there is none, it goes on from the one that was
+    /// kept last for another leaf. The first time it begins with the set.
+    ///
+    /// It answers `None` if no edge is required, or if it finds no point above the value of the start. It does so at
+    /// once for more than 120 required edges, for more than 400 edges, and for m required edges and a capacity Q if
+    /// `4 * Q * m * m` is above 10^8.
+    ///
+    /// Shores with a weight are placed in the pool behind those that it held. If there is no room for one, since the
+    /// pool holds 2,000, it loses its weight.
+    ///
+    /// It asks for a leaf, a table that was made for the instance, and a start with a price for each required edge and
+    /// weights on shores of the pool that belong to the instance. All shores of the pool have to belong to the instance.
+    /// What it proposed for another instance before is no matter to what it promises. The only error is want of memory.
+    /// A leaf takes some 100 fills of the table at most, and the first one some 1,000. The program touches some
+    /// 1.5 * 10^9 entries at a leaf at most, and 4 * 10^9 at the first one. All leaves and splits together take
+    /// 1.5 * 10^10 entries and steps of fills; then it answers `None` at once. No clock decides.
+    pub fn raise(
+        &mut self,
+        alloc: Global,
+        leaf: &Leaf<'_>,
+        table: &mut Table,
+        pool: &mut ShorePool,
+        start: &PriceSet,
+        number: u32,
+        cost: u64,
+    ) -> Result<Option<PriceSet>, Memory>
+        requires leaf { IsLeaf leaf.now }
+        requires room { IsRoom leaf.now.inst.now table.old }
+        requires belong { All (Belongs leaf.now.inst.now) pool.old }
+        requires shores { All (λ w. IsShoreOf leaf.now.inst.now pool.old w.shore) start.now.weights }
+        requires one_each { length start.now.services ≡ leaf.now.inst.now.required }
+        ensures proposed { IfOk result (λ set. IfSome set (IsGroupedProposal leaf.now.inst.now pool.new)) }
+        ensures grown { IsGrown pool.old pool.new }
+        ensures belong { All (Belongs leaf.now.inst.now) pool.new }
+        ensures room { IsRoom leaf.now.inst.now table.new }
+    {
+        if !is_small(leaf.inst) || self.is_spent() {
+            return Ok(None);
+        }
+        let from = Start {
+            set: start,
+            number,
+            enough: enough_for(leaf.inst, cost),
+        };
+        match self.generation_at(alloc, leaf, table, pool, &from)? {
+            Some(generation) => self.put_back(alloc, leaf, pool, start, generation),
+            None => Ok(None),
+        }
+    }
+
+    // Proposes the best point of a generation, and keeps the generation.
+    fn put_back(
+        &mut self,
+        alloc: Global,
+        leaf: &Leaf<'_>,
+        pool: &mut ShorePool,
+        start: &PriceSet,
+        generation: Generation,
+    ) -> Result<Option<PriceSet>, Memory>
+        requires belong { All (Belongs leaf.now.inst.now) pool.old }
+        requires shores { All (λ w. IsShoreOf leaf.now.inst.now pool.old w.shore) start.now.weights }
+        requires generation { IsGeneration leaf.now.inst.now generation }
+        ensures proposed { IfOk result (λ set. IfSome set (IsGroupedProposal leaf.now.inst.now pool.new)) }
+        ensures grown { IsGrown pool.old pool.new }
+        ensures belong { All (Belongs leaf.now.inst.now) pool.new }
+    {
+        let found = generation.proposal(alloc, leaf.inst, pool, leaf.branch, start)?;
+        self.generation = Some(generation);
+        Ok(found)
+    }
+
+    // The generation for a leaf, gone on.
+    fn generation_at(
+        &mut self,
+        alloc: Global,
+        leaf: &Leaf<'_>,
+        table: &mut Table,
+        pool: &ShorePool,
+        from: &Start<'_>,
+    ) -> Result<Option<Generation>, Memory>
+        requires leaf { IsLeaf leaf.now }
+        requires room { IsRoom leaf.now.inst.now table.old }
+        requires shores { All (λ w. IsShoreOf leaf.now.inst.now pool.now w.shore) from.now.set.now.weights }
+        requires one_each { length from.now.set.now.services ≡ leaf.now.inst.now.required }
+        ensures generation { IfOk result (λ found. IfSome found (IsGeneration leaf.now.inst.now)) }
+        ensures room { IsRoom leaf.now.inst.now table.new }
+    {
+        let allowed = leaf.branch.allowed(alloc, leaf.inst)?;
+        let town = Town {
+            inst: leaf.inst,
+            net: leaf.net,
+            allowed: &allowed,
+        };
+        self.finished_generation(alloc, &town, table, pool, leaf.branch, from)
+    }
+
+    // The same for a town.
+    fn finished_generation(
+        &mut self,
+        alloc: Global,
+        town: &Town<'_>,
+        table: &mut Table,
+        pool: &ShorePool,
+        branch: &Branch,
+        from: &Start<'_>,
+    ) -> Result<Option<Generation>, Memory>
+        requires town { IsTown town.now }
+        requires room { IsRoom town.now.inst.now table.old }
+        requires shores { All (λ w. IsShoreOf town.now.inst.now pool.now w.shore) from.now.set.now.weights }
+        requires one_each { length from.now.set.now.services ≡ town.now.inst.now.required }
+        ensures generation { IfOk result (λ found. IfSome found (IsGeneration town.now.inst.now)) }
+        ensures room { IsRoom town.now.inst.now table.new }
+    {
+        let begun = self.generation_for(alloc, town, table, pool, branch, from)?;
+        let Some(mut generation) = begun else {
+            return Ok(None);
+        };
+        generation.go_on(alloc, town, table)?;
+        Ok(Some(generation))
+    }
+
+    // Whether the leaves took all that they may take.
+    fn is_spent(&self) -> bool {
+        match &self.generation {
+            Some(generation) => generation.is_exhausted(),
+            None => false,
+        }
+    }
+
+    // The generation for a leaf, ready to go on.
+    fn generation_for(
+        &mut self,
+        alloc: Global,
+        town: &Town<'_>,
+        table: &mut Table,
+        pool: &ShorePool,
+        branch: &Branch,
+        from: &Start<'_>,
+    ) -> Result<Option<Generation>, Memory>
+        requires town { IsTown town.now }
+        requires room { IsRoom town.now.inst.now table.old }
+        requires shores { All (λ w. IsShoreOf town.now.inst.now pool.now w.shore) from.now.set.now.weights }
+        requires one_each { length from.now.set.now.services ≡ town.now.inst.now.required }
+        ensures generation { IfOk result (λ found. IfSome found (IsGeneration town.now.inst.now)) }
+        ensures room { IsRoom town.now.inst.now table.new }
+    {
+        let held = mem::replace(&mut self.generation, None);
+        let Some(generation) = held else {
+            self.shelf = Shelf::new(alloc);
+            return begin(alloc, town, table, pool, branch, from.set, from.enough);
+        };
+        self.next_generation(alloc, town, table, pool, branch, from, generation)
+    }
+
+    // The same from the generation of another leaf.
+    fn next_generation(
+        &mut self,
+        alloc: Global,
+        town: &Town<'_>,
+        table: &mut Table,
+        pool: &ShorePool,
+        branch: &Branch,
+        from: &Start<'_>,
+        generation: Generation,
+    ) -> Result<Option<Generation>, Memory>
+        requires town { IsTown town.now }
+        requires room { IsRoom town.now.inst.now table.old }
+        requires shores { All (λ w. IsShoreOf town.now.inst.now pool.now w.shore) from.now.set.now.weights }
+        requires one_each { length from.now.set.now.services ≡ town.now.inst.now.required }
+        ensures generation { IfOk result (λ found. IfSome found (IsGeneration town.now.inst.now)) }
+        ensures room { IsRoom town.now.inst.now table.new }
+    {
+        let enough = from.enough;
+        let last = last_of(branch);
+        if let Some(kept) = self.shelf.find(from.number, last) {
+            let found = taken_up(alloc, town, pool, branch, kept, enough, generation)?;
+            self.shelf.forget(from.number, last);
+            return Ok(found);
+        }
+        if let Some(kept) = self.shelf.last() {
+            return adopted(alloc, town, table, pool, branch, kept, enough, generation);
+        }
+        begin(alloc, town, table, pool, branch, from.set, enough)
+    }
+
+    /// Proposes a split of the leaf for which a set was proposed last, and keeps programs for the leaves that name the
+    /// set of a number. It proposes none if there is no program, or if `raise` answers `None` at once. It promises
+    /// nothing of the split.
+    ///
+    /// Cuts on shores whose deadheads in the solution of the program lie between two numbers that a plan can have, and
+    /// pairs whose share lies near three fifths, are tried on copies of the program by a few steps of the dual method.
+    /// The best one and the best of the other kind are tried with a few fills (strong branching: Applegate, Bixby,
+    /// Chvatal and Cook 1995). The one with the greatest product of the gains is proposed.
+    ///
+    /// It asks for the leaf, a table that was made for the instance, and a pool that has the shores of the branch. All
+    /// shores of the pool have to belong to the instance.
+    /// Shores of cuts that look worth a trial are placed in the pool behind those that it held. The only error is want
+    /// of memory. It takes up to 32 fills of the table, and the time of some 700 steps of the dual method.
+    pub fn split(
+        &mut self,
+        alloc: Global,
+        leaf: &Leaf<'_>,
+        table: &mut Table,
+        pool: &mut ShorePool,
+        number: u32,
+    ) -> Result<Option<Node>, Memory>
+        requires leaf { IsLeaf leaf.now }
+        requires room { IsRoom leaf.now.inst.now table.old }
+        requires shores { AreShoresIn leaf.now.inst.now pool.old leaf.now.branch.now }
+        requires belong { All (Belongs leaf.now.inst.now) pool.old }
+        ensures grown { IsGrown pool.old pool.new }
+        ensures belong { All (Belongs leaf.now.inst.now) pool.new }
+        ensures room { IsRoom leaf.now.inst.now table.new }
+    {
+        if self.is_spent() {
+            return Ok(None);
+        }
+        let taken = mem::replace(&mut self.generation, None);
+        let Some(mut held) = taken else {
+            return Ok(None);
+        };
+        held.trim_for_trials(alloc, leaf.inst)?;
+        let ranked = self.rank(alloc, leaf.inst, pool, leaf.branch, &mut held)?;
+        let kept = held.kept(alloc, leaf.inst)?;
+        let tried = try_rivals(alloc, leaf, table, pool, &kept, &ranked, &mut held)?;
+        self.generation = Some(held);
+        match tried {
+            Some(tried) => self.keep_children(number, tried),
+            None => self.keep_whole(number, kept, &ranked),
+        }
+    }
+
+    /// The tours, as lists of tasks, of the cheapest plan that a solution of a program showed since this was asked
+    /// before, or `None`. A solution shows a plan if its tours of an activity above a half serve each required edge
+    /// once.
+    ///
+    /// Programs are solved by `raise` for the leaf, and by `split` for both children of splits that are tried. So the
+    /// plan need not meet the decisions of a leaf. It promises nothing of the tours. It takes constant time and no
+    /// memory.
+    pub fn whole_tours(&mut self) -> Option<Vec<Vec<Task>>> {
+        self.generation.as_mut()?.take_whole()
+    }
+
+    // Splits by what both children come to after a few steps, the best ones first. If each gained nothing before, all
+    // are tried again.
+    fn rank(
+        &mut self,
+        alloc: Global,
+        inst: &Instance,
+        pool: &mut ShorePool,
+        branch: &Branch,
+        generation: &mut Generation,
+    ) -> Result<Vec<Scored>, Memory>
+        requires pairs { ArePairsIn inst.now branch.now }
+        requires shores { AreShoresIn inst.now pool.old branch.now }
+        requires belong { All (Belongs inst.now) pool.old }
+        ensures grown { IsGrown pool.old pool.new }
+        ensures shores { AreShoresIn inst.now pool.new branch.now }
+        ensures belong { All (Belongs inst.now) pool.new }
+    {
+        let ranked = ranked_splits(alloc, inst, pool, branch, generation, &mut self.poor)?;
+        if !ranked.is_empty() {
+            return Ok(ranked);
+        }
+        self.poor = Poor::new(alloc);
+        ranked_splits(alloc, inst, pool, branch, generation, &mut self.poor)
+    }
+
+    // Keeps the program of the leaf for both children, and answers the first split, if there is one.
+    fn keep_whole(
+        &mut self,
+        number: u32,
+        kept: Kept,
+        ranked: &[Scored],
+    ) -> Result<Option<Node>, Memory> {
+        self.shelf.put(number, None, kept)?;
+        Ok(ranked.first().map(|scored| scored.node))
+    }
+
+    // Keeps the programs of both children.
+    fn keep_children(&mut self, number: u32, tried: Tried) -> Result<Option<Node>, Memory> {
+        let Tried {
+            node,
+            first: one,
+            second: other,
+            ..
+        } = tried;
+        if let Some((first, second)) = decisions_of(&node) {
+            self.shelf.put(number, Some(first), one)?;
+            self.shelf.put(number, Some(second), other)?;
+        }
+        Ok(Some(node))
+    }
+}
