@@ -2,6 +2,7 @@
 
 usage: fleet.py PROGRAM BENCH WORK TURNS
 """
+import csv
 import os
 import subprocess
 import sys
@@ -31,7 +32,8 @@ def made(bench, work, kind, count, capacity, seeds):
 
 def main(program, bench, work, turns):
     folder = os.path.join(bench, "instances")
-    names = sorted(name for name in os.listdir(folder) if name.endswith(".dat"))
+    with open(os.path.join(folder, "best.csv"), encoding="ascii") as file:
+        names = sorted(row["name"] + ".dat" for row in csv.DictReader(file))
     for name, row in zip(names, packed(program, turns, [os.path.join(folder, name) for name in names])):
         print(f"| {name[:-4]} | {row[0]} | {row[1]} | {row[2]} | {row[4] / 1e6:.3f} s |", flush=True)
     for kind, counts, capacities, seeds in MADE:

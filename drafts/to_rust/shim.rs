@@ -45,7 +45,7 @@ impl<K:Eq> IndexSet<K>{pub fn new(_:Global)->Self{IndexSet(vec![])} pub fn len(&
 impl<K> std::ops::Index<usize> for IndexSet<K>{type Output=K;fn index(&self,i:usize)->&K{&self.0[i]}}
 pub struct Lcg64Xsh32{s:u64,i:u64}
 impl Lcg64Xsh32{pub fn new(state:u64,stream:u64)->Self{let i=(stream<<1)|1;let mut r=Lcg64Xsh32{s:0,i};r.s=state.wrapping_add(i);r.s=r.s.wrapping_mul(6364136223846793005).wrapping_add(i);r}
- pub fn next_u32(&mut self)->u32{let o=self.s;self.s=o.wrapping_mul(6364136223846793005).wrapping_add(self.i);let x=(((o>>18)^o)>>27) as u32;x.rotate_right((o>>59) as u32)} pub fn next_u64(&mut self)->u64{let a=self.next_u32() as u64;let b=self.next_u32() as u64;a|(b<<32)} }
+ pub fn next_u32(&mut self)->u32{let o=self.s;self.s=o.wrapping_mul(6364136223846793005).wrapping_add(self.i);let x=(((o>>18)^o)>>27) as u32;x.rotate_right((o>>59) as u32)} pub fn next_word(&mut self)->u32{self.next_u32()} pub fn next_u64(&mut self)->u64{let a=self.next_u32() as u64;let b=self.next_u32() as u64;a|(b<<32)} }
 pub trait CollectIn:Iterator+Sized{fn collect_in(self)->Result<Vec<Self::Item>,AllocError>{Ok(Vec(self.collect()))}}
 impl<I:Iterator> CollectIn for I{}
 
