@@ -1,7 +1,7 @@
 """Reads the blocks of wrong bodies in audit/, and puts their changes into a text. `try_bodies` and `try_programs` share it."""
 import re
 
-FIELD = re.compile(r"(name|call|body|clause|crate|script|file|old|new): ?(.*)$")
+FIELD = re.compile(r"(name|call|body|clause|crate|script|test|file|old|new): ?(.*)$")
 
 
 def bodies_of(path):

@@ -7,8 +7,8 @@ use crate::fixed::Amount;
 use crate::ids::{ColumnId, ROWS};
 use crate::selection::{Selection, Variable};
 
-// A multiplier times a coefficient.
-fn term(value: i64, coefficient: i64) -> i128
+/// A multiplier or an activity times a coefficient.
+pub(crate) fn term(value: i64, coefficient: i64) -> i128
     requires value { unsigned_abs value ≤ 2 ^ 61 }
     requires coefficient { unsigned_abs coefficient ≤ 2 ^ 15 }
     ensures high { result ≤ℤ pos (2 ^ 76) }

@@ -13,12 +13,14 @@
 //! - `corner`, `workspace`: the basis with its inverse, and lists that the steps work in.
 //! - `direction`, `pivoting`: a column through the inverse, and the step from one basis to the next.
 //! - `refreshing`, `rebuilding`: activities and multipliers from the inverse, and the inverse from the basis.
+//! - `checking`: whether a basis still gives what its rows demand.
 //! - `shortlist`, `entering`, `leaving`, `primal`: the primal method.
 //! - `dual_leaving`, `dual_entering`, `dual`: the dual method.
 //! - `rows`, `trimming`: rows that come and go, and columns that go.
 //! - `solving`, `program`: both methods in turn, and the public calls.
 #![tactic(auto)]
 
+mod checking;
 mod columns;
 mod corner;
 mod costs;

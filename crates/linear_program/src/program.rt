@@ -257,9 +257,11 @@ impl Program {
     }
 
     /// Goes from basis to basis: by the dual method if rows are new, which is taken back if it does not end before its
-    /// cap, and then by the primal one. It answers whether that ended before its cap. A step takes time in proportion
-    /// to the square of the rows in use and to the entries of the columns in use, and every so many steps the inverse
-    /// is built anew, in time in proportion to the cube of the rows in use.
+    /// cap, and then by the primal one. If the activities then give some row 2^-10 more or less than its right side, the
+    /// inverse is built anew, and the primal method goes on, with the same cap. It answers whether the primal method
+    /// ended before its cap. A step takes time in proportion to the square of the rows in use and to the entries of the
+    /// columns in use, and every so many steps the inverse is built anew, in time in proportion to the cube of the rows
+    /// in use.
     pub fn solve(
         &mut self,
         alloc: Global,

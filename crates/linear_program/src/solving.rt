@@ -3,6 +3,7 @@ ghost use Rattle.std.specs.Prelude.{◌≡◌, ◌*◌, ◌<◌, ◌≤◌, leng
 ghost use Rattle.linear_program.specs.Corners.{IsCorner};
 ghost use Rattle.linear_program.specs.Selections.{in_use};
 
+use crate::checking::is_off;
 use crate::columns::Columns;
 use crate::corner::Corner;
 use crate::dual::run_dual;
@@ -149,7 +150,12 @@ pub(crate) fn solve(
     } else {
         relax(store, selection, corner, &mut space);
     }
-    Ok(run_primal(store, selection, corner, &mut space, tolerance, caps))
+    let ended = run_primal(store, selection, corner, &mut space, tolerance, caps);
+    if is_off(store, selection, corner, &mut space) {
+        renew(store, selection, corner, &mut space);
+        return Ok(run_primal(store, selection, corner, &mut space, tolerance, caps));
+    }
+    Ok(ended)
 }
 
 // Writes variables over others.
