@@ -1,10 +1,8 @@
 // Price sets that are raised.
-ghost use Rattle.std.specs.Prelude.{◌≡◌, ◌≤◌, ◌*ℤ◌, ◌≤ℤ◌, pos, All, IfOk, IfSome, IsTrue, length};
+ghost use Rattle.std.specs.Prelude.{◌≡◌, ◌≤◌, All, IfOk, IfSome, IsTrue, length};
 ghost use Rattle.cut_pool.specs.Shores.{Belongs};
-ghost use Rattle.branch_rules.specs.Decisions.{rules_of};
 ghost use Rattle.branch_rules.specs.Laws.{FitsBranch};
 ghost use Rattle.branch_rules.specs.Limits.{IsShoreOf};
-ghost use Rattle.branch_rules.specs.Prices.{value_of};
 ghost use Rattle.decision_chains.specs.Pairs.{ArePairsIn};
 ghost use Rattle.route_pricing.specs.Tables.{IsRoom};
 ghost use Rattle.shore_prices.specs.Proposals.{IsGrown};
@@ -16,7 +14,6 @@ use crate::laws::growth_keeps_sets;
 use crate::values::{is_no_more, value_under};
 use branch_rules::{Branch, PriceSet};
 use carp_base::{Instance, Memory};
-use column_generation::is_small;
 use cut_pool::ShorePool;
 use leaf_programs::{Leaf, LeafPrograms};
 use price_ascent::ascend;
@@ -80,17 +77,18 @@ pub fn raise(
 /// Such a price set for a leaf of a tree that names the start by a number, with the programs for its leaves.
 ///
 /// If `rounds` is above 0, it solves the linear program over shores in up to so many rounds of search for shores that
-/// it leaves short (`shore_prices`), and takes that set if it fits and is better. If the instance is small enough, the
-/// linear program over tours, shores and groups goes on from where it stood at the leaf's parent, or begins with the
-/// better one of these (`leaf_programs`). If not, prices and weights ascend from it along relaxed tours in up to
-/// `rounds` steps (`price_ascent`). It takes that set in the same way. A value that shows `cost` is enough for it.
-/// Shores with a weight are placed in the pool behind those that it held, while it holds fewer than 2,000. The weights
-/// on groups are those of the start, or they are on groups of the instance.
+/// it leaves short (`shore_prices`), and takes that set if it fits and is better. From the better one prices and
+/// weights ascend along relaxed tours in up to so many steps (`price_ascent`), and it takes that set in the same way.
+/// Then the linear program over tours, shores and groups goes on from where it stood at the leaf's parent, or begins
+/// with the best one of these (`leaf_programs`), if the instance is small enough for it. It takes that set in the same
+/// way. A value that shows `cost` is enough for it. Shores with a weight are placed in the pool behind those that it
+/// held, while it holds fewer than 2,000. The weights on groups are those of the start, or they are on groups of the
+/// instance.
 ///
 /// It asks for a leaf, for a table that was made for its instance, which it fills, and for a pool whose shores belong to
 /// the instance. The shores that it adds belong to the instance too. Programs that were made for another instance are no
 /// matter to what it promises. The only error is want of memory. It takes the time of the rounds, of
-/// `leaf_programs::LeafPrograms::raise` or of `price_ascent::ascend`, and of `tight_prices::tighten`.
+/// `price_ascent::ascend`, of `leaf_programs::LeafPrograms::raise` and of `tight_prices::tighten`.
 pub fn raise_with(
     alloc: Global,
     leaf: &Leaf<'_>,
@@ -216,8 +214,7 @@ fn by_program(
     if_better(alloc, leaf, table, pool, offered, start)
 }
 
-// The set that the ascent proposes, if it fits and is better than the start. Where the program over tours ends in time,
-// the ascent brings nothing to it.
+// The set that the ascent proposes, if it fits and is better than the start.
 fn by_ascent(
     alloc: Global,
     leaf: &Leaf<'_>,
@@ -237,9 +234,6 @@ fn by_ascent(
     ensures room { IsRoom leaf.now.inst.now table.new }
 {
     growth_keeps_sets();
-    if is_small(leaf.inst) {
-        return Ok(None);
-    }
     match ascend(
         alloc,
         leaf.inst,
