@@ -1,5 +1,5 @@
 // Tours of one service each that are taken, and absorb services on their way.
-ghost use Rattle.std.specs.Prelude.{◌≡◌, ℕ, [], ◌+◌, ◌≤◌, ◌<◌, List, true, false, length, IfOk, IfSome, IsSomeAnd, OnOk, MatchOption, IsTrue, slice_index_or};
+ghost use Rattle.std.specs.Prelude.{◌≡◌, ℕ, [], ◌+◌, ◌≤◌, ◌<◌, List, true, false, length, IfOk, IfSome, IsSomeAnd, MatchOption, IsTrue, slice_index_or};
 ghost use Rattle.std.specs.List.{AllByRecursion};
 ghost use Rattle.carp_base.specs.declared.edge.Task.{Task};
 ghost use Rattle.carp_base.specs.Problem.{IsRequired, edge_at};

@@ -1,5 +1,5 @@
 // Plans by augment-merge.
-ghost use Rattle.std.specs.Prelude.{◌≡◌, ◌≤◌, ◌<◌, length, filter, IfOk};
+ghost use Rattle.std.specs.Prelude.{◌≡◌, ◌≤◌, length, filter, IfOk};
 ghost use Rattle.plan_model.specs.Plans.{IsLawful};
 ghost use Rattle.deadhead_paths.specs.Prices.{costs_of};
 ghost use Rattle.task_tours.specs.Tours.{PlanGoesByLeastPaths, plan_tours};

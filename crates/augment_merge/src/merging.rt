@@ -1,5 +1,5 @@
 // Tours, joined by the joins that save most.
-ghost use Rattle.std.specs.Prelude.{◌≡◌, ◌≤◌, ◌<◌, length, IfOk, OnOk};
+ghost use Rattle.std.specs.Prelude.{◌≡◌, length, IfOk, OnOk};
 ghost use Rattle.deadhead_paths.specs.Prices.{costs_of};
 ghost use Rattle.augment_merge.specs.Merging.{AreJoined, IsSavingJoin, after_join};
 ghost use Rattle.augment_merge.specs.Outlines.{AreBestRows, AreDoable, AreOutlinesOf, AreReoutlined};

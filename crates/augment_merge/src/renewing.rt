@@ -1,5 +1,5 @@
 // The best joins after one was made.
-ghost use Rattle.std.specs.Prelude.{◌≡◌, ◌≤◌, ◌<◌, ◌⊎◌, false, length};
+ghost use Rattle.std.specs.Prelude.{◌≡◌, ◌<◌, false, length};
 ghost use Rattle.deadhead_paths.specs.Prices.{costs_of};
 ghost use Rattle.augment_merge.specs.Outlines.{AreBestRows, AreOutlines, AreRenewable, FindsBest, IsFresh, IsOldJoin, IsRowJoin, nth_outline};
 

@@ -1,5 +1,5 @@
 // The search for the best join.
-ghost use Rattle.std.specs.Prelude.{◌≡◌, ◌+◌, ◌≤◌, ◌<◌, length, MatchOption, IfOk};
+ghost use Rattle.std.specs.Prelude.{◌≡◌, ◌+◌, ◌≤◌, ◌<◌, length, IfOk};
 ghost use Rattle.deadhead_paths.specs.Prices.{costs_of};
 ghost use Rattle.augment_merge.specs.Outlines.{AreBestRows, AreOutlines, FindsBest, IsLinkSaving, IsOutline, IsPairJoin, IsRowJoin, IsWayJoin, StandsInRows, nth_outline};
 

@@ -1,6 +1,5 @@
 // A tour as the list of its tasks.
-ghost use Rattle.std.specs.Prelude.{◌≡◌, ◌++◌, ◌∷◌, [], length, IfOk, OnOk};
-ghost use Rattle.carp_base.specs.Problem.{IsRequired};
+ghost use Rattle.std.specs.Prelude.{◌≡◌, ◌++◌, ◌∷◌, [], IfOk, OnOk};
 ghost use Rattle.augment_merge.specs.Joins.{joined_tour, oriented_tour, reversed_tour};
 
 use carp_base::{Memory, Task};

@@ -1,5 +1,5 @@
 // The state before the first search.
-ghost use Rattle.std.specs.Prelude.{◌≡◌, ◌≢◌, ℕ, ◌*◌, ◌+◌, ◌<◌, ◌≤◌, true, false, length, slice_index, slice_index_or, None, IfOk};
+ghost use Rattle.std.specs.Prelude.{◌≡◌, ◌≢◌, ℕ, ◌*◌, ◌<◌, ◌≤◌, true, false, length, slice_index, slice_index_or, None, IfOk};
 ghost use Rattle.blossom_match.specs.Table.{IsAsked};
 ghost use Rattle.blossom_match.specs.Views.{child_at, holds, mate_at};
 ghost use Rattle.blossom_match.specs.Between.{IsBetween, IsTreeless};

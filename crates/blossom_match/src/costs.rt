@@ -1,5 +1,5 @@
 // A table of costs between members.
-ghost use Rattle.std.specs.Prelude.{◌≡◌, ◌≢◌, ◌⊎◌, ℕ, ◌+◌, ◌-◌, ◌*◌, ◌<◌, ◌≤◌, ◌↔◌, length, slice_index, IfOk, IsTrue};
+ghost use Rattle.std.specs.Prelude.{◌≡◌, ◌≢◌, ℕ, ◌+◌, ◌-◌, ◌<◌, ◌≤◌, ◌↔◌, IfOk, IsTrue};
 ghost use Rattle.blossom_match.specs.Table.{cost, IsMetric, IsTable, IsWritten};
 ghost use Rattle.blossom_match.specs.declared.costs.TheConstants.{MAX_COST, MAX_MEMBERS};
 

@@ -1,5 +1,5 @@
 // Matchings, sets and packings that are some, and that are none.
-ghost use Rattle.std.specs.Prelude.{◌≡◌, ℕ, ◌+◌, ◌-◌, ◌*◌, Bool, true, false, ◌==◌, nat_lt};
+ghost use Rattle.std.specs.Prelude.{◌≡◌, ◌+◌, ◌-◌, ◌*◌, true, false, ◌==◌, nat_lt};
 ghost use Rattle.blossom_match.specs.Matching.{Apart, AreDistinct, AreLaminar, IsOdd, IsPacking, IsPerfect, matching_cost, members, parts, separating, total};
 ghost use Rattle.blossom_match.specs.Answer.{IsListed, is_among};
 

@@ -1,5 +1,5 @@
 // The nodes of a cycle become parts of one node.
-ghost use Rattle.std.specs.Prelude.{◌≡◌, ◌≢◌, ℕ, ◌+◌, ◌*◌, ◌<◌, ◌≤◌, length, slice_index, if◌then◌else◌};
+ghost use Rattle.std.specs.Prelude.{◌≡◌, ◌≢◌, ℕ, ◌*◌, ◌<◌, ◌≤◌, length, slice_index, if◌then◌else◌};
 ghost use Rattle.blossom_match.specs.Views.{holds, label_at};
 ghost use Rattle.blossom_match.specs.Ways.{is_within, on_cycle};
 

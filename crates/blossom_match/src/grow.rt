@@ -1,10 +1,10 @@
 // Takes a matched pair of nodes into the tree.
-ghost use Rattle.std.specs.Prelude.{◌≡◌, ◌≢◌, ℕ, ◌+◌, ◌*◌, ◌<◌, ◌≤◌, ◌↔◌, true, false, length, slice_index, Option, Some, None, IsTrue, IsSome, IsSomeAnd, IfSome};
+ghost use Rattle.std.specs.Prelude.{◌≡◌, ◌<◌, Some};
 ghost use Rattle.blossom_match.specs.Growth.{IsGrowth};
-ghost use Rattle.blossom_match.specs.Table.{cost, IsAsked};
-ghost use Rattle.blossom_match.specs.Views.{mate_at, child_at, to_do};
-ghost use Rattle.blossom_match.specs.Between.{IsBetween, IsSearching, IsTreeless, HasMate, KeepsMates};
-ghost use Rattle.blossom_match.specs.Turns.{Happens, IsLawful, IsMoved, IsMeet, IsReach, IsSpent, moved, top_of, sum_of, label_of};
+ghost use Rattle.blossom_match.specs.Table.{IsAsked};
+ghost use Rattle.blossom_match.specs.Views.{mate_at, to_do};
+ghost use Rattle.blossom_match.specs.Between.{IsSearching, KeepsMates};
+ghost use Rattle.blossom_match.specs.Turns.{IsReach, top_of};
 
 use crate::Costs;
 use crate::state::{Label, Pair, State};

@@ -1,5 +1,5 @@
 // The sets that have a weight, listed for the answer.
-ghost use Rattle.std.specs.Prelude.{◌≡◌, ℕ, zero, suc, ◌+◌, ◌*◌, ◌<◌, ◌≤◌, ◌++◌, false, length, slice_index, slice_index_or, IfOk, OnOk};
+ghost use Rattle.std.specs.Prelude.{◌≡◌, ◌+◌, ◌*◌, ◌<◌, ◌≤◌, ◌++◌, false, length, slice_index, slice_index_or, IfOk, OnOk};
 ghost use Rattle.blossom_match.specs.Unfolded.{ArePicked, IsUnfolded, listed};
 
 use crate::Costs;

@@ -1,5 +1,5 @@
 // How far the weights of a tree can be raised, and what stops them.
-ghost use Rattle.std.specs.Prelude.{◌≡◌, ◌≢◌, ◌⊎◌, ℕ, ◌+◌, ◌*◌, ◌<◌, ◌≤◌, length, slice_index, Option, Some, None, IfSome};
+ghost use Rattle.std.specs.Prelude.{◌≡◌, ◌≢◌, ◌⊎◌, ℕ, ◌+◌, ◌*◌, ◌<◌, ◌≤◌, length, IfSome};
 ghost use Rattle.blossom_match.specs.Table.{cost, IsAsked, IsTable};
 ghost use Rattle.blossom_match.specs.Between.{IsSearching};
 ghost use Rattle.blossom_match.specs.Turns.{Happens, top_of, sum_of, label_of};

@@ -1,7 +1,7 @@
 // The least room, by bounds that are kept from turn to turn: for each member a lower bound of its rooms to the outer members
 // that are known. A raise lowers it as it lowers the rooms; an outer member that is new lowers it to its own room. Where nodes
 // are joined, a bound may be below each room that is left: it is found anew once it is the least.
-ghost use Rattle.std.specs.Prelude.{◌≡◌, ◌≢◌, ℕ, ◌+◌, ◌*◌, ◌-◌, ◌<◌, ◌≤◌, Bool, true, false, length, slice_index, slice_index_or, Option, IsSomeAnd, IfSome};
+ghost use Rattle.std.specs.Prelude.{◌≡◌, ◌≢◌, ℕ, ◌+◌, ◌*◌, ◌<◌, ◌≤◌, true, false, length, slice_index, slice_index_or, IsSomeAnd, IfSome};
 ghost use Rattle.blossom_match.specs.Table.{cost, IsAsked};
 ghost use Rattle.blossom_match.specs.Views.{label_at};
 ghost use Rattle.blossom_match.specs.Between.{IsSearching};

@@ -1,6 +1,6 @@
 // The search from one unmatched member.
-ghost use Rattle.std.specs.Prelude.{◌≡◌, ◌≢◌, ℕ, ◌+◌, ◌*◌, ◌<◌, ◌≤◌, ◌↔◌, true, false, length, slice_index, Option, Some, None, IsTrue, IsSome, IsSomeAnd, IfSome};
-ghost use Rattle.blossom_match.specs.Table.{cost, IsAsked};
+ghost use Rattle.std.specs.Prelude.{◌≡◌, ◌<◌, true, false, length, Some, None};
+ghost use Rattle.blossom_match.specs.Table.{IsAsked};
 ghost use Rattle.blossom_match.specs.Views.{mate_at, child_at, to_do};
 ghost use Rattle.blossom_match.specs.Between.{IsBetween, IsSearching, IsTreeless, HasMate, KeepsMates, KeepsRoot};
 ghost use Rattle.blossom_match.specs.Turns.{Happens, IsSpent, top_of};

@@ -1,8 +1,8 @@
 // Makes one set of an odd cycle of nodes.
-ghost use Rattle.std.specs.Prelude.{◌≡◌, ◌≢◌, ℕ, ◌+◌, ◌*◌, ◌<◌, ◌≤◌, true, length, slice_index, slice_set, Option, Some, None, IfSome};
+ghost use Rattle.std.specs.Prelude.{◌≡◌, ℕ, ◌*◌, ◌<◌, ◌≤◌, length, IfSome};
 ghost use Rattle.blossom_match.specs.Growth.{IsGrowth};
-ghost use Rattle.blossom_match.specs.Table.{cost, IsAsked};
-ghost use Rattle.blossom_match.specs.Views.{label_at, link_at, mate_at, child_at, to_do};
+ghost use Rattle.blossom_match.specs.Table.{IsAsked};
+ghost use Rattle.blossom_match.specs.Views.{label_at, link_at, to_do};
 ghost use Rattle.blossom_match.specs.Between.{IsSearching, KeepsRoot};
 ghost use Rattle.blossom_match.specs.Turns.{IsMeet, top_of, label_of};
 ghost use Rattle.blossom_match.specs.Ways.{AreAimed, IsClosed, IsForked, IsJoin, IsSameTree, IsWay, on_cycle};

@@ -1,7 +1,7 @@
 // Two ways up the tree, to where they join.
-ghost use Rattle.std.specs.Prelude.{◌≡◌, ◌≢◌, ◌⊎◌, ℕ, suc, ◌+◌, ◌*◌, ◌<◌, ◌≤◌, length, slice_index, Option, Some, None, IfSome, IsSomeAnd, if◌then◌else◌};
-ghost use Rattle.blossom_match.specs.Views.{link_at, turned};
-ghost use Rattle.blossom_match.specs.Ways.{IsClosed, IsFork, IsLinkedDown, IsLinkedUp, IsTrail, IsWay, IsWayUp, climb, is_within, on_cycle, way_at};
+ghost use Rattle.std.specs.Prelude.{◌≡◌, ◌⊎◌, ℕ, ◌<◌, ◌≤◌, length, slice_index, Some, None, IfSome, IsSomeAnd};
+ghost use Rattle.blossom_match.specs.Views.{turned};
+ghost use Rattle.blossom_match.specs.Ways.{IsClosed, IsFork, IsLinkedDown, IsLinkedUp, IsTrail, IsWay, IsWayUp, way_at};
 
 use crate::state::{Label, Pair};
 

@@ -1,5 +1,5 @@
 // Small data on which a fact that no call decides holds, and on which it does not.
-ghost use Rattle.std.specs.Prelude.{◌≡◌, ℕ, pos, negsuc, [], ◌∷◌, IsTrue, Some, None, false};
+ghost use Rattle.std.specs.Prelude.{◌≡◌, pos, negsuc, [], ◌∷◌, IsTrue, Some, None, false};
 ghost use Rattle.deadhead_paths.specs.Examples.{town};
 ghost use Rattle.cut_pool.specs.Examples.{in_a_row};
 ghost use Rattle.carp_base.specs.Problem.{edge_at};
@@ -12,7 +12,7 @@ ghost use Rattle.decision_chains.specs.FixedValue.{HasFixedValue};
 ghost use Rattle.branch_rules.specs.Laws.{FitsBranch, IsMet};
 ghost use Rattle.decision_chains.specs.Pairs.{ArePairsIn};
 ghost use Rattle.branch_rules.specs.Limits.{AreShoresIn, IsNodeIn};
-ghost use Rattle.branch_rules.specs.Trees.{HasTurns, IsLean, IsLeanNode, IsSoundSupport, NodesShow, PairsIn, Shows, Tree, cut, fixed, pair, preorder, price, void};
+ghost use Rattle.branch_rules.specs.Trees.{HasTurns, IsLean, IsLeanNode, IsSoundSupport, NodesShow, PairsIn, Shows, cut, fixed, pair, preorder, price, void};
 ghost use Rattle.decision_chains.specs.declared.decision.Decision.TheVariants.{High, Low, No, Yes};
 ghost use Rattle.branch_rules.specs.declared.node.Node.TheVariants.{Cut, Fixed, Pair, Price};
 ghost use Rattle.branch_rules.specs.Examples.{both_weights, heavy_prices, light_prices, one_row_tour, row, row_prices, row_weights, town_plan, town_pool, town_prices, town_support, two_row_tours, yes_prices, yes_weights};

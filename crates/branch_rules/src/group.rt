@@ -1,5 +1,5 @@
 // Weights on the bonds of groups.
-ghost use Rattle.std.specs.Prelude.{◌≡◌, ◌≤◌, pos, neg_ℤ, ◌*ℤ◌, ◌≤ℤ◌, length, All, IfOk};
+ghost use Rattle.std.specs.Prelude.{◌≡◌, ◌≤◌, pos, neg_ℤ, ◌*ℤ◌, ◌≤ℤ◌, length, IfOk};
 ghost use Rattle.carp_base.specs.Problem.{edge_at};
 ghost use Rattle.branch_rules.specs.Bonds.{GroupWeight, bond, group_demand, is_of, room, surcharge};
 ghost use Rattle.branch_rules.specs.Limits.{IsFineGroup, IsPriceNumber, IsSurcharge};

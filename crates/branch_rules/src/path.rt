@@ -1,6 +1,5 @@
 // The way from the root to the node that is read next.
-ghost use Rattle.std.specs.Prelude.{◌≡◌, ◌<◌, ◌++◌, ◌∷◌, [], length, All, IfSome, IsTrue, OnOk, Some, None, false, ◌↔◌};
-ghost use Rattle.decision_chains.specs.declared.decision.Decision.{Decision};
+ghost use Rattle.std.specs.Prelude.{◌≡◌, ◌<◌, ◌++◌, ◌∷◌, [], length, IsTrue, OnOk, false, ◌↔◌};
 ghost use Rattle.branch_rules.specs.Limits.{IsFineDecision, IsNodeIn};
 ghost use Rattle.branch_rules.specs.Trees.{Support};
 ghost use Rattle.branch_rules.specs.Paths.{IsDecisionIn, IsFineSplit, IsOpen, IsPath, IsPathIn, branch_of, seconds_of, waits};

@@ -1,6 +1,5 @@
 // Prices of services, and weights on shores and on the bonds of groups.
-ghost use Rattle.std.specs.Prelude.{◌≡◌, ◌-◌, ◌*◌, ◌+◌, ◌<◌, ◌≤◌, pos, neg_ℤ, ◌-ℤ◌, ◌≤ℤ◌, [], length, sum_by, IfErr, IfOk, OnOk, All};
-ghost use Rattle.carp_base.specs.declared.edge.Edge.{Edge};
+ghost use Rattle.std.specs.Prelude.{◌≡◌, ◌<◌, ◌≤◌, pos, neg_ℤ, ◌≤ℤ◌, [], length, sum_by, IfErr, IfOk, OnOk, All};
 ghost use Rattle.cut_pool.specs.Pools.{IsShoreNumber};
 ghost use Rattle.deadhead_paths.specs.Prices.{ArePrices};
 ghost use Rattle.branch_rules.specs.Bonds.{GroupWeight};

@@ -3,24 +3,23 @@ ghost use Rattle.std.specs.Prelude.{IsTrue};
 ghost use Rattle.decision_chains.specs.Pairs.{ArePairsIn, HasPairWithin};
 ghost use Rattle.branch_rules.specs.Limits.{AreShoresIn, HasShoreOf, IsNodeIn};
 
-use crate::signs::{branch_of, digit, is_shore_of, triangle};
-use branch_rules::{Branch, Decision, Node};
+use crate::signs::{branch_of, digit, triangle};
+use branch_rules::{Branch, Decision, Node, is_shore_of};
 use carp_base::{Instance, Memory};
 use cut_pool::{Shore, ShorePool};
+use decision_chains::is_pair;
 use samples::street;
 use std::alloc::Global;
 use std::process::Abort;
 use std::test::Fail;
 use task_tours::{cost_distances, lawful_cost};
 
-// Whether the pair of a decision is of two different edges among the first so many.
-fn is_pair_within(required: u32, decision: &Decision) -> bool
-    ensures { IsTrue result → HasPairWithin required decision.now }
+// Whether the pair of a decision is of two different required edges.
+fn is_on_pair(inst: &Instance, decision: &Decision) -> bool
+    ensures { IsTrue result → HasPairWithin inst.now.required decision.now }
 {
     match *decision {
-        Decision::Yes { a, b } | Decision::No { a, b } => {
-            1 <= a && a <= required && 1 <= b && b <= required && a != b
-        }
+        Decision::Yes { a, b } | Decision::No { a, b } => is_pair(inst, a, b),
         _ => true,
     }
 }
@@ -30,7 +29,7 @@ fn are_pairs_in(inst: &Instance, decisions: &[Decision]) -> bool
     ensures { IsTrue result → ArePairsIn inst.now decisions.now }
 {
     for decision in decisions {
-        if !is_pair_within(inst.required(), decision) {
+        if !is_on_pair(inst, decision) {
             return false;
         }
     }

@@ -2,8 +2,8 @@ ghost use Rattle.std.specs.Prelude.{◌≢◌, ◌≤◌, All, IsTrue, pos};
 ghost use Rattle.branch_rules.specs.Limits.{IsPriceNumber, IsShoreOf};
 ghost use Rattle.cut_pool.specs.Pools.{IsShoreNumber};
 
-use crate::signs::{branch_of, is_shore_of, one_street, other_vertex, triangle};
-use branch_rules::{Branch, NoUpper, Node, PriceSet, TooHeavy, Tree, Weight};
+use crate::signs::{branch_of, one_street, other_vertex, triangle};
+use branch_rules::{Branch, NoUpper, Node, PriceSet, TooHeavy, Tree, Weight, is_shore_of};
 use carp_base::{Fail as Refusal, Instance, Memory, RawEdge};
 use cut_pool::{Shore, ShorePool};
 use std::alloc::Global;
@@ -369,4 +369,31 @@ fn a_pair_does_not_change_a_value(rt: HostRuntime) -> Result<(), Fail> {
     let alloc = rt.alloc();
     expect_costs(&rt, alloc, "+12", 16)?;
     expect_costs(&rt, alloc, "-12", 16)
+}
+
+#[test]
+fn shores_of_cuts_are_in_the_pool_and_of_the_instance(rt: HostRuntime) -> Result<(), Fail> {
+    let alloc = rt.alloc();
+    let inst = one_street(alloc)?;
+    let mut pool = other_vertex(alloc)?;
+    let Ok(2) = pool.add(Shore::from_list(alloc, &[1, 2])?) else {
+        return Err("the second shore")?;
+    };
+    let Ok(3) = pool.add(Shore::from_list(alloc, &[3])?) else {
+        return Err("the third shore")?;
+    };
+    assert_eq!(&rt; is_shore_of(&inst, &pool, 1), true);
+    assert_eq!(&rt; is_shore_of(&inst, &pool, 2), false, "the depot is in it");
+    assert_eq!(&rt;
+        is_shore_of(&inst, &pool, 3),
+        false,
+        "no vertex of the instance"
+    );
+    assert_eq!(&rt;
+        is_shore_of(&inst, &pool, 0),
+        false,
+        "no shore has the number 0"
+    );
+    assert_eq!(&rt; is_shore_of(&inst, &pool, 4), false, "past the last one");
+    Ok(())
 }

@@ -1,6 +1,6 @@
 //! Small instances and shores, and branches that are written as signs.
-ghost use Rattle.std.specs.Prelude.{◌≤◌, IfSome, IsTrue};
-ghost use Rattle.branch_rules.specs.Limits.{IsFineDecision, IsShoreOf};
+ghost use Rattle.std.specs.Prelude.{◌≤◌, IfSome};
+ghost use Rattle.branch_rules.specs.Limits.{IsFineDecision};
 
 use branch_rules::{Branch, Decision};
 use carp_base::Instance;
@@ -27,13 +27,6 @@ pub fn other_vertex(alloc: Global) -> Result<ShorePool, Fail> {
         return Err("the first shore")?;
     };
     Ok(pool)
-}
-
-/// Whether a shore is in the pool and belongs to the instance.
-pub fn is_shore_of(inst: &Instance, pool: &ShorePool, shore: u32) -> bool
-    ensures { IsTrue result → IsShoreOf inst.now pool.now shore }
-{
-    1 <= shore && shore <= pool.len() && pool.shore(shore).belongs(inst)
 }
 
 /// The number of a digit.

@@ -1,14 +1,12 @@
 // What a price set shows under both decisions of an inner node.
-ghost use Rattle.std.specs.Prelude.{◌≡◌, ◌≤◌, ◌++◌, ◌∷◌, [], ◌-◌, All, IfOk};
-ghost use Rattle.branch_rules.specs.Decisions.{cuts_of, rules_of};
+ghost use Rattle.std.specs.Prelude.{◌≡◌, ◌≤◌, ◌++◌, ◌∷◌, [], All, IfOk};
+ghost use Rattle.branch_rules.specs.Decisions.{rules_of};
 ghost use Rattle.branch_rules.specs.Laws.{FitsBranch};
-ghost use Rattle.branch_rules.specs.Limits.{IsFineDecision, IsNodeIn, IsShoreOf};
+ghost use Rattle.branch_rules.specs.Limits.{IsFineDecision, IsShoreOf};
 ghost use Rattle.branch_rules.specs.Prices.{value_of};
-ghost use Rattle.branch_rules.specs.Trees.{IsLeanNode};
 ghost use Rattle.grown_trees.specs.Laws.{IsOpenDecision};
-ghost use Rattle.grown_trees.specs.Places.{IsFineNode};
 ghost use Rattle.branch_tree.specs.Leaves.{AreShown, IsSplitNode};
-ghost use Rattle.branch_tree.specs.Splits.{IsInner, first_of, second_of};
+ghost use Rattle.branch_tree.specs.Splits.{first_of, second_of};
 ghost use Rattle.grown_trees.specs.Values.{IsMostShown, IsShown};
 
 use crate::laws::known_laws;

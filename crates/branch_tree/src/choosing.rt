@@ -1,8 +1,8 @@
 // How a leaf is split.
-ghost use Rattle.std.specs.Prelude.{◌≡◌, ◌-◌, ◌+◌, ◌≤◌, ◌<◌, All, IfOk, IfSome, IsFalse, IsTrue, MatchOption};
+ghost use Rattle.std.specs.Prelude.{◌-◌, ◌+◌, All, IfOk, IfSome, IsFalse, IsTrue, MatchOption};
 ghost use Rattle.carp_base.specs.Problem.{IsRequired};
 ghost use Rattle.decision_chains.specs.Exclusions.{IsDetermined, PermitsUnexcluded};
-ghost use Rattle.decision_chains.specs.Pairs.{ArePairsIn, IsPairWithin};
+ghost use Rattle.decision_chains.specs.Pairs.{ArePairsIn};
 ghost use Rattle.branch_rules.specs.Decisions.{cuts_of, IsFixed, IsVoid};
 ghost use Rattle.branch_rules.specs.Limits.{AreShoresIn, IsNodeIn, IsShoreOf};
 ghost use Rattle.branch_rules.specs.Trees.{IsLeanNode};
@@ -10,14 +10,11 @@ ghost use Rattle.grown_trees.specs.Growth.{IsSpelledNode};
 ghost use Rattle.grown_trees.specs.Places.{IsFineNode};
 ghost use Rattle.branch_tree.specs.Splits.{AreSettledBelow, IsInner, IsOpenPair, IsSettledBelow, IsWeighed};
 
-use branch_rules::{Branch, Node, PriceSet};
+use branch_rules::{Branch, MOST_K, Node, PriceSet, is_shore_of};
 use carp_base::{Allowed, Instance, Memory};
 use cut_pool::ShorePool;
-use decision_chains::{excluded_is_symmetric, yes_pairs_join};
+use decision_chains::{excluded_is_symmetric, is_pair, yes_pairs_join};
 use std::alloc::Global;
-
-// The greatest k of a cut.
-const MOST_K: u64 = 1_000_000;
 
 // A node that splits a branch that is neither void nor fixed. A bound greater by `gap` would close the leaf. The node
 // is the one that is proposed, if it may stand. Else it is the cut of the shore of the greatest weight at its lower
@@ -106,31 +103,10 @@ fn is_inner_in(inst: &Instance, pool: &ShorePool, node: &Node) -> bool
     ensures spelled { IsTrue result → IsSpelledNode 0 node.now }
 {
     match *node {
-        Node::Pair { a, b } => is_pair_in(inst, a, b),
-        Node::Cut { shore, k } => is_cut_in(inst, pool, shore, k),
+        Node::Pair { a, b } => a < b && is_pair(inst, a, b),
+        Node::Cut { shore, k } => k <= MOST_K && is_shore_of(inst, pool, shore),
         _ => false,
     }
-}
-
-// Whether a pair is of required edges, the first one below the second.
-fn is_pair_in(inst: &Instance, a: u32, b: u32) -> bool
-    ensures within { IsTrue result → IsPairWithin inst.now.required a b }
-    ensures rising { IsTrue result → a < b }
-{
-    let last = inst.required();
-    1 <= a && a < b && b <= last
-}
-
-// Whether a cut is on a shore of the pool that belongs to the instance, with a number within the limit.
-fn is_cut_in(inst: &Instance, pool: &ShorePool, shore: u32, k: u64) -> bool
-    ensures inside { IsTrue result → IsShoreOf inst.now pool.now shore }
-    ensures few { IsTrue result → k ≤ 1000000 }
-{
-    let last = pool.len();
-    if shore < 1 || shore > last || k > MOST_K {
-        return false;
-    }
-    pool.shore(shore).belongs(inst)
 }
 
 // The cut on the shore of the greatest weight, if it may be made and closes the high child.

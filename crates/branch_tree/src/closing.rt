@@ -1,6 +1,5 @@
 // Steps that close a leaf.
-ghost use Rattle.std.specs.Prelude.{◌≡◌, ◌<◌, ◌≤◌, Ok, IfOk, OnErr};
-ghost use Rattle.plan_model.specs.Plans.{IsLawful, plan_cost};
+ghost use Rattle.std.specs.Prelude.{Ok};
 ghost use Rattle.branch_rules.specs.Decisions.{IsFixed, IsVoid};
 ghost use Rattle.branch_tree.specs.Leaves.{IsAtLeaf, IsTurn};
 ghost use Rattle.branch_tree.specs.Searches.{IsSearch, state_of};

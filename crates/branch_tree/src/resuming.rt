@@ -1,5 +1,5 @@
 // How a search goes on from a tree.
-ghost use Rattle.std.specs.Prelude.{◌≡◌, ◌+◌, ◌≤◌, IfOk, length, min};
+ghost use Rattle.std.specs.Prelude.{◌≡◌, ◌+◌, ◌≤◌, IfOk, min};
 ghost use Rattle.task_tours.specs.Shorts.{IsAllowedPlan};
 ghost use Rattle.grown_trees.specs.Growth.{turns_in};
 ghost use Rattle.branch_tree.specs.Resumes.{IsResumed, MayResume, ResumedTreesHaveTurns};

@@ -1,5 +1,5 @@
 // Steps at a leaf that is neither void nor fixed.
-ghost use Rattle.std.specs.Prelude.{◌≡◌, ◌<◌, ◌≤◌, ◌+◌, length, slice_index_or, All, IfOk, OnErr};
+ghost use Rattle.std.specs.Prelude.{◌≡◌, ◌<◌, ◌≤◌, ◌+◌, length, All, IfOk, OnErr};
 ghost use Rattle.branch_rules.specs.Decisions.{rules_of, IsFixed, IsVoid};
 ghost use Rattle.branch_rules.specs.Laws.{FitsBranch};
 ghost use Rattle.branch_rules.specs.Limits.{AreShoresIn, IsShoreOf};

@@ -2,7 +2,7 @@
 ghost use Rattle.std.specs.Prelude.{◌≡◌, ℕ, ◌<◌, ◌≤◌, All, OnErr, IfOk};
 ghost use Rattle.task_tours.specs.Shorts.{IsShortPlan};
 ghost use Rattle.grown_trees.specs.Growth.{IsLeastOpen};
-ghost use Rattle.branch_tree.specs.Leaves.{IsAtLeaf, IsTurn, NamesSet};
+ghost use Rattle.branch_tree.specs.Leaves.{IsAtLeaf, IsTurn};
 ghost use Rattle.branch_tree.specs.Searches.{IsSearch, state_of};
 ghost use Rattle.branch_tree.specs.Steps.{IsAsBefore, IsStep};
 

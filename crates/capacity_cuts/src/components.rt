@@ -1,10 +1,9 @@
 // Components whose need is above the parts over them.
-ghost use Rattle.std.specs.Prelude.{◌≡◌, ◌&&◌, ◌≤◌, ◌+◌, ℕ, List, length, slice_index, IfOk};
+ghost use Rattle.std.specs.Prelude.{◌≡◌, ◌&&◌, ◌≤◌, ◌+◌, ℕ, length, slice_index, IfOk};
 ghost use Rattle.carp_base.specs.Problem.{IsVertex};
-ghost use Rattle.cut_pool.specs.Shores.{required_crossings, touched};
-ghost use Rattle.edge_components.specs.Parts.{AreParts, parts_over};
+ghost use Rattle.edge_components.specs.Parts.{AreParts};
 ghost use Rattle.edge_components.specs.Components.{AreAll};
-ghost use Rattle.edge_components.specs.Labels.{AreInRange, AreKept, has_label, is_free_label};
+ghost use Rattle.edge_components.specs.Labels.{AreInRange, AreKept, is_free_label};
 ghost use Rattle.capacity_cuts.specs.Components.{IsNeedyComponent, is_needy_border};
 
 use carp_base::{Instance, Memory};

@@ -1,5 +1,5 @@
 // A shore of greatest violation.
-ghost use Rattle.std.specs.Prelude.{◌≡◌, ◌+◌, ◌*◌, ◌<◌, ◌≤◌, false, length, IfOk, MatchOption};
+ghost use Rattle.std.specs.Prelude.{◌≡◌, ◌≤◌, length, IfOk, MatchOption};
 ghost use Rattle.flow_cut.specs.Flows.{is_on};
 ghost use Rattle.cut_pool.specs.Shores.{IsShore};
 ghost use Rattle.edge_components.specs.Parts.{AreParts};

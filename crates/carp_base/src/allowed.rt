@@ -1,5 +1,5 @@
 // Which required edges may be neighbours.
-ghost use Rattle.std.specs.Prelude.{◌≡◌, ◌<◌, ◌≤◌, IfOk, length};
+ghost use Rattle.std.specs.Prelude.{◌≡◌, ◌<◌, IfOk, length};
 ghost use Rattle.carp_base.specs.Allowed.{IsOf, IsRelation, AllowsAll, TakesOut, allows};
 ghost use Rattle.carp_base.specs.Drafts.{entry_place};
 

@@ -1,5 +1,5 @@
 // A description of an instance, before it is known to be valid.
-ghost use Rattle.std.specs.Prelude.{◌≡◌, ◌+◌, ◌^◌, ◌<◌, ◌≤◌, ◌++◌, All, length, map, position, IfSome, IfOk, MatchResult, vec_len};
+ghost use Rattle.std.specs.Prelude.{◌≡◌, ◌+◌, ◌^◌, ◌<◌, ◌++◌, All, length, map, position, IfSome, IfOk, MatchResult};
 ghost use Rattle.carp_base.specs.Problem.{required_edge, other_edge};
 ghost use Rattle.carp_base.specs.Faults.{IsFirstFault};
 ghost use Rattle.carp_base.specs.Checks.{IsClear, is_outside, has_end_outside};

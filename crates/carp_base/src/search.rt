@@ -1,5 +1,5 @@
 // The vertices that a path leads to from the depot.
-ghost use Rattle.std.specs.Prelude.{◌≡◌, ℕ, ◌+◌, ◌*◌, ◌^◌, ◌<◌, ◌≤◌, All, length, IfOk, vec_len};
+ghost use Rattle.std.specs.Prelude.{◌≡◌, ◌*◌, ◌^◌, ◌<◌, ◌≤◌, length, IfOk, vec_len};
 ghost use Rattle.carp_base.specs.Problem.{IsReached};
 ghost use Rattle.carp_base.specs.Search.{arc_tail, arc_head, EndsWithin, AreChains, IsMarked, IsSearch, Extends, LeadsToMarks, MarksReached};
 ghost use Rattle.carp_base.specs.Drafts.{drafted};

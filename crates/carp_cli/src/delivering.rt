@@ -1,5 +1,5 @@
 // Keeps and writes what a command has made.
-ghost use Rattle.std.specs.Prelude.{◌≡◌, ◌≢◌, ℕ, ◌++◌, ◌≤◌, List, [], map, IsTrue, OnOk, OnErr, ◌⊎◌};
+ghost use Rattle.std.specs.Prelude.{◌≡◌, ◌≢◌, ℕ, ◌++◌, List, [], map, IsTrue, OnOk, OnErr, ◌⊎◌};
 ghost use Rattle.carp_outside.specs.Causes.{HasCause};
 ghost use Rattle.carp_cli.specs.Outside.{AreKept, AreKeptInPart, IsLeftShort, Outside};
 ghost use Rattle.command_works.specs.Outputs.{kept_in, output_in};

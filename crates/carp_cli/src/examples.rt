@@ -1,5 +1,5 @@
 // Small data at which the facts of a run hold, and small data at which they do not.
-ghost use Rattle.std.specs.Prelude.{ℕ, ◌≡◌, ◌≢◌, [], ◌∷◌, None, Some, false, true, codes};
+ghost use Rattle.std.specs.Prelude.{◌≡◌, [], ◌∷◌, None, Some, false, true, codes};
 ghost use Rattle.carp_engine.specs.Solutions.{IsSound};
 ghost use Rattle.command_jobs.specs.Files.{GivenIn, HeldIn, HasLimit, RoseAtSome};
 ghost use Rattle.command_jobs.specs.Reads.{IsOfBytes, IsOfCertificate, IsOfFile, IsOfInstance, IsOfNone, IsOfRound};

@@ -1,6 +1,6 @@
 // The texts of answers that have no report.
 ghost use Rattle.std.specs.Prelude.{◌≡◌, IfOk};
-ghost use Rattle.carp_cli.specs.Refusals.{apart_line, limit_line, refusal_text, usage_text};
+ghost use Rattle.carp_cli.specs.Refusals.{apart_line, limit_line, refusal_text};
 
 use carp_base::Memory;
 use command_jobs::Status;

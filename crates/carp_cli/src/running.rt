@@ -1,10 +1,10 @@
 // The top call.
-ghost use Rattle.std.specs.Prelude.{◌≡◌, ◌⊎◌, ℕ, ◌≤◌, ◌%◌, ◌^◌, ◌+◌, List, Option, Some, map, slice_index, All, EachIndex, IsTrue, IfOk, OnOk, false};
+ghost use Rattle.std.specs.Prelude.{◌≡◌, ◌≤◌, ◌%◌, ◌^◌, ◌+◌, Some, map, slice_index, All, EachIndex, IsTrue, IfOk, false};
 ghost use Rattle.carp_outside.specs.Told.{SameContents};
 ghost use Rattle.command_words.specs.Commands.{asks_helpers, is_helped, seed_by, seed_of};
 ghost use Rattle.command_words.specs.Words.{command_of, texts_of};
 ghost use Rattle.carp_cli.specs.Outside.{Outside, Finding};
-ghost use Rattle.carp_cli.specs.Answers.{IsDoneStatus, refusal_output};
+ghost use Rattle.carp_cli.specs.Answers.{refusal_output};
 ghost use Rattle.carp_cli.specs.Runs.{Leaves, IsHelped};
 ghost use Rattle.carp_cli.specs.Steps.{IsPrepared};
 ghost use Rattle.command_words.specs.Laws.{HasBudget};

@@ -1,6 +1,5 @@
 // Finds a plan of an instance, and a bound on all its plans.
 ghost use Rattle.std.specs.Prelude.{◌≡◌, ◌⊎◌, ◌+◌, ◌-◌, ◌*◌, ◌/◌, ◌%◌, ◌^◌, ◌≤◌, All, EachIndex, IfOk, OnOk, length, map, slice_index};
-ghost use Rattle.carp_base.specs.Problem.{IsValid, required_edges};
 ghost use Rattle.helper_rounds.specs.Asking.{standings};
 ghost use Rattle.helper_rounds.specs.Helpers.{IsAtMost};
 ghost use Rattle.cert_format.specs.Certs.{certificate_in};

@@ -1,5 +1,5 @@
 // Changes that are as told, and changes that are not.
-ghost use Rattle.std.specs.Prelude.{◌≡◌, ◌≢◌, ℕ, ◌-◌, ◌^◌, [], ◌∷◌, take, Ok, Err};
+ghost use Rattle.std.specs.Prelude.{◌≢◌, ℕ, ◌-◌, ◌^◌, [], ◌∷◌, take, Ok, Err};
 ghost use Rattle.carp_outside.specs.Causes.{RoseBy, Rose, HasCause};
 ghost use Rattle.carp_outside.specs.Calls.{IsListed, AddsCall, empty_log};
 ghost use Rattle.carp_outside.specs.Told.{IsPiece, HoldsExactly, HoldsFront, SameContents, WroteFront};

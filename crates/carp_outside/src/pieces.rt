@@ -1,5 +1,5 @@
 // A file in pieces.
-ghost use Rattle.std.specs.Prelude.{◌≡◌, ◌≢◌, ℕ, ◌+◌, ◌^◌, ◌<◌, ◌≤◌, [], List, length, IsTrue, IfOk, OnOk, IsErrOf, OnErr, take};
+ghost use Rattle.std.specs.Prelude.{◌≡◌, ℕ, ◌+◌, ◌^◌, ◌<◌, ◌≤◌, [], List, length, IsTrue, IfOk, OnOk, IsErrOf, OnErr, take};
 ghost use Rattle.carp_outside.specs.declared.reading.ReadFault.TheVariants.{Fault, TooLong};
 ghost use Rattle.carp_outside.specs.Causes.{Rose, grown};
 ghost use Rattle.carp_outside.specs.Told.{IsNextPiece, SameContents};

@@ -1,6 +1,6 @@
 // The nodes of a tree, one after another.
-ghost use Rattle.std.specs.Prelude.{◌≡◌, ◌↔◌, ◌+◌, ◌-◌, ◌^◌, ◌<◌, ◌≤◌, ◌++◌, ◌∷◌, [], List, IfOk, IsTrue, OnOk, None, false};
-ghost use Rattle.decision_chains.specs.Pairs.{ArePairsIn, IsPairWithin};
+ghost use Rattle.std.specs.Prelude.{◌≡◌, ◌+◌, ◌-◌, ◌^◌, ◌<◌, ◌≤◌, ◌++◌, ◌∷◌, [], List, IfOk, OnOk, None};
+ghost use Rattle.decision_chains.specs.Pairs.{ArePairsIn};
 ghost use Rattle.branch_rules.specs.Limits.{AreShoresIn, IsShoreOf};
 ghost use Rattle.branch_rules.specs.declared.node.Node.{Node};
 ghost use Rattle.branch_rules.specs.declared.node.Node.TheVariants as nodes;
@@ -14,6 +14,7 @@ use crate::leaves::Leaves;
 use crate::{Part, Reason};
 use branch_rules::{Branch, Node, Path};
 use carp_base::{Instance, Memory};
+use decision_chains::is_pair;
 use std::alloc::Global;
 
 /// What is known of the nodes so far: the first reason, or the path to the next node.
@@ -131,14 +132,6 @@ fn pair_reason(
         return Ok(Some(Reason::NotLean { node }));
     }
     Ok(None)
-}
-
-// Whether the numbers are of two different required edges.
-fn is_pair(inst: &Instance, a: u32, b: u32) -> bool
-    ensures { IsTrue result ↔ IsPairWithin inst.now.required a b }
-{
-    let required = inst.required();
-    1 <= a && a <= required && 1 <= b && b <= required && a != b
 }
 
 // Why a node that splits by a cut is not as it should be.

@@ -1,7 +1,6 @@
 // The tests that come before the nodes.
-ghost use Rattle.std.specs.Prelude.{◌≡◌, ◌≤◌, IfOk, IsTrue, MatchOption, List, All};
-ghost use Rattle.plan_model.specs.Plans.{IsLawful, plan_cost};
-ghost use Rattle.cut_pool.specs.Pools.{IsShoreNumber};
+ghost use Rattle.std.specs.Prelude.{◌≡◌, IfOk, MatchOption, List, All};
+ghost use Rattle.plan_model.specs.Plans.{plan_cost};
 ghost use Rattle.branch_rules.specs.Refusals.{IsTooHeavy, NoneTooHeavy};
 ghost use Rattle.branch_rules.specs.declared.node.Node.{Node};
 ghost use Rattle.cert_checker.specs.Claims.{IsSetRead, claimed, support_in};

@@ -1,8 +1,7 @@
 // The text of a certificate, taken in pieces.
-ghost use Rattle.std.specs.Prelude.{◌≡◌, ◌≢◌, ℕ, ◌+◌, ◌-◌, ◌≤◌, List, [], ◌∷◌, ◌++◌, All, IfOk, IsErrOf, MatchOption, OnOk, length, take};
+ghost use Rattle.std.specs.Prelude.{◌≡◌, ◌≢◌, ℕ, ◌+◌, ◌≤◌, List, [], ◌∷◌, ◌++◌, All, IfOk, IsErrOf, OnOk, length, take};
 ghost use Rattle.carp_base.specs.declared.fail.Fail.TheVariants.{Refused};
 ghost use Rattle.branch_rules.specs.declared.node.Node.{Node};
-ghost use Rattle.cert_lines.specs.Certificates.{Certificate};
 ghost use Rattle.cert_lines.specs.declared.fault.CertFault.{CertFault as Fault};
 ghost use Rattle.cert_lines.specs.declared.item.Item.TheVariants.{Head as HeadItem, Node as NodeItem};
 ghost use Rattle.cert_lines.specs.Order.{LatestFirst};

@@ -10,6 +10,7 @@ pub mod Lines
 pub mod Ranges
 pub mod GroupFails
 pub mod GroupSteps
+pub mod EdgeSteps
 pub mod Pools
 pub mod Standing
 pub mod Ready

@@ -1,5 +1,5 @@
 // What the good lines say.
-ghost use Rattle.std.specs.Prelude.{◌≡◌, ℕ, ◌+◌, ◌-◌, ◌<◌, ◌≤◌, List, [], ◌∷◌, length, map, IfOk, MatchOption, OnErr, OnOk, ◌++◌, Some, None, IsTrue, true, false, ◌↔◌};
+ghost use Rattle.std.specs.Prelude.{◌≡◌, ℕ, ◌+◌, ◌-◌, ◌<◌, ◌≤◌, [], ◌∷◌, length, map, IfOk, MatchOption, OnErr, OnOk, ◌++◌, IsTrue, false, ◌↔◌};
 ghost use Rattle.std.specs.List.{All, list_all};
 ghost use Rattle.std.specs.List.Sorted.{IsStrictlyIncreasing};
 ghost use Rattle.cut_pool.specs.Pools.{Holds};

@@ -1,5 +1,5 @@
 // Items of a line, as they come.
-ghost use Rattle.std.specs.Prelude.{◌≡◌, ◌+◌, ◌<◌, ◌&&◌, ◌||◌, ◌++◌, ◌∷◌, [], nat_eq, nat_lt, true, false, OnOk, if◌then◌else◌};
+ghost use Rattle.std.specs.Prelude.{◌≡◌, ◌+◌, ◌&&◌, ◌++◌, ◌∷◌, [], nat_lt, true, false, OnOk, if◌then◌else◌};
 
 use carp_base::Memory;
 use std::alloc::Global;

@@ -1,5 +1,5 @@
 // What is made of a whole line.
-ghost use Rattle.std.specs.Prelude.{◌≡◌, ◌≤◌, ℕ, ◌&&◌, List, length, true, false, IfOk, IsTrue, ◌↔◌, slice_index, [], ◌∷◌};
+ghost use Rattle.std.specs.Prelude.{◌≡◌, ◌≤◌, ℕ, ◌&&◌, List, length, true, IfOk, IsTrue, ◌↔◌, slice_index, [], ◌∷◌};
 ghost use Rattle.cut_pool.specs.Shores.{IsShore};
 ghost use Rattle.cert_lines.specs.Agreement.{IsPairInOrder};
 ghost use Rattle.cert_lines.specs.Order.{LatestFirst, left_of, open_of};
@@ -8,7 +8,7 @@ ghost use Rattle.cert_format.specs.Judging.{AreNodeNumbers, ShoreJudged, Weights
 ghost use Rattle.cert_format.specs.Kinds.{expected, field_count, IsOneOf, next_for};
 ghost use Rattle.cert_format.specs.declared.kind.Kind.TheVariants.{Cut, Fixed, Pair, Price, Void};
 ghost use Rattle.cert_format.specs.Lists.{fields_ok};
-ghost use Rattle.cert_format.specs.LineStates.{HoldsLine, IsShaped};
+ghost use Rattle.cert_format.specs.LineStates.{HoldsLine};
 ghost use Rattle.cert_format.specs.Readiness.{IsReady};
 ghost use Rattle.cert_lines.specs.declared.next.Next.TheVariants as stands;
 

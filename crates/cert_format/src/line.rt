@@ -5,7 +5,7 @@ ghost use Rattle.cert_format.specs.declared.line.Form.TheVariants.{Shaped};
 ghost use Rattle.cert_lines.specs.Words.{HoldsWord};
 ghost use Rattle.cert_format.specs.declared.kind.Kind.TheVariants.{Tour, Shore, Prices, Weights, Bonds};
 ghost use Rattle.cert_format.specs.Kinds.{field_count};
-ghost use Rattle.cert_format.specs.Lists.{fields_ok, price_ok, step_ok, vertex_ok, is_within};
+ghost use Rattle.cert_format.specs.Lists.{fields_ok, price_ok, is_within};
 ghost use Rattle.cert_format.specs.LineStates.{HoldsItems, HoldsLine, IsShaped};
 
 use crate::groups::Groups;

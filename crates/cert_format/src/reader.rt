@@ -1,5 +1,5 @@
 // A text in pieces.
-ghost use Rattle.std.specs.Prelude.{◌≡◌, ◌≢◌, ◌↔◌, ℕ, ◌+◌, ◌<◌, ◌≤◌, List, [], ◌∷◌, ◌++◌, take, length, slice_index, true, false, IsTrue, None, Err, IfOk, IsOk, IsErrOf, MatchOption, OnErr, OnOk};
+ghost use Rattle.std.specs.Prelude.{◌≡◌, ◌≢◌, ◌↔◌, ℕ, ◌+◌, ◌<◌, ◌≤◌, List, [], ◌∷◌, ◌++◌, take, length, slice_index, true, false, IsTrue, None, Err, IfOk, IsErrOf, MatchOption, OnErr, OnOk};
 ghost use Rattle.carp_base.specs.declared.fail.Fail.TheVariants.{Memory as NoMemory, Refused};
 ghost use Rattle.cert_lines.specs.declared.fault.CertFault.{CertFault as Fault};
 ghost use Rattle.cert_lines.specs.declared.next.Next.TheVariants.{Nothing};

@@ -1,5 +1,5 @@
 // A whole text.
-ghost use Rattle.std.specs.Prelude.{◌≡◌, ◌^◌, ◌<◌, length, [], IfOk, OnOk, IsErrOf};
+ghost use Rattle.std.specs.Prelude.{◌≡◌, [], IfOk, OnOk, IsErrOf};
 ghost use Rattle.carp_base.specs.declared.fail.Fail.TheVariants.{Refused};
 ghost use Rattle.cert_lines.specs.declared.fault.CertFault.{CertFault as Fault};
 ghost use Rattle.cert_lines.specs.Texts.{IsTextOf, IsFaultOf};

@@ -1,7 +1,7 @@
 // Words and numbers of a line in a growing text.
-ghost use Rattle.std.specs.Prelude.{◌≡◌, ◌++◌, ◌∷◌, [], codes, OnOk};
+ghost use Rattle.std.specs.Prelude.{◌≡◌, ◌++◌, ◌∷◌, [], OnOk};
 ghost use Rattle.std.specs.List.{flat_map};
-ghost use Rattle.cert_lines.specs.Numerals.{numeral, signed_numeral};
+ghost use Rattle.cert_lines.specs.Numerals.{numeral};
 ghost use Rattle.cert_lines.specs.Lines.{mark_of};
 ghost use Rattle.cert_format.specs.Pieces.{number_piece, step_piece, price_piece, weight_piece, group_piece, keyword_line, pair_line, sizes_piece, loads_piece, counts_line};
 

@@ -1,52 +1,15 @@
 // Small data on which a fact that no call decides holds, and on which it does not.
-ghost use Rattle.std.specs.Prelude.{◌≡◌, ◌+◌, ◌^◌, pos, negsuc, neg_ℤ, [], ◌∷◌, None, replicate, codes};
+ghost use Rattle.std.specs.Prelude.{◌≡◌, ◌+◌, ◌^◌, pos, negsuc, neg_ℤ, [], ◌∷◌, None, codes};
 ghost use Rattle.branch_rules.specs.declared.node.Node.TheVariants.{Pair, Cut, Price, Void, Fixed as FixedLeaf};
 ghost use Rattle.cert_lines.specs.declared.fault.CertFault.TheVariants.{Syntax, Limit, Truncated};
 ghost use Rattle.cert_lines.specs.declared.next.Next.TheVariants as stands;
-ghost use Rattle.cert_lines.specs.Lines.{
-  version,
-  counts,
-  cost,
-  bound,
-  tours,
-  tour,
-  shores,
-  shore,
-  sets,
-  prices,
-  weights,
-  bonds,
-  nodes,
-  node,
-  end,
-  nothing,
-  weight_alone,
-  short_of,
-  line_text,
-};
+ghost use Rattle.cert_lines.specs.Lines.{version, counts, cost, bound, tours, tour, shores, shore, sets, prices, weights, bonds, nodes, node, end, nothing, weight_alone, short_of, line_text};
 ghost use Rattle.cert_lines.specs.Order.{next_of};
 ghost use Rattle.cert_lines.specs.Ranges.{IsInRange};
 ghost use Rattle.cert_lines.specs.Agreement.{Agrees, BecomesWhole};
 ghost use Rattle.cert_lines.specs.Texts.{IsShapeless, IsTextOf, IsFaultOf};
 ghost use Rattle.cert_lines.specs.Spelling.{text_of, IsSpellable, IsFine};
-ghost use Rattle.cert_lines.specs.Examples.{
-  serves,
-  serves_back,
-  drives,
-  drives_back,
-  on_shore,
-  on_group,
-  row_counts,
-  triangle,
-  triangle_text,
-  row,
-  row_text,
-  star,
-  star_text,
-  with_groups,
-  bonded,
-  bonded_text,
-};
+ghost use Rattle.cert_lines.specs.Examples.{serves, serves_back, drives, drives_back, on_shore, on_group, row_counts, triangle, triangle_text, row, row_text, star, star_text, with_groups, bonded, bonded_text};
 
 #[tactic(auto, unfolding(crate::specs::Numerals::numeral))]
 fn lines_of_one_number()

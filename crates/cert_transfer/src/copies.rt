@@ -1,6 +1,5 @@
 // Copies of shores and price sets.
 ghost use Rattle.std.specs.Prelude.{◌≡◌, ◌∷◌, ◌++◌, [], IfOk, OnOk};
-ghost use Rattle.cut_pool.specs.Pools.{IsShoreNumber};
 ghost use Rattle.cert_transfer.specs.Copies.{MayPlace};
 
 use branch_rules::PriceSet;

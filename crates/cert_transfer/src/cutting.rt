@@ -1,7 +1,7 @@
 // Where a tour is cut.
 ghost use Rattle.std.specs.Prelude.{◌≡◌, ◌<◌, ◌≤◌, length};
 ghost use Rattle.std.specs.List.{AllByRecursion};
-ghost use Rattle.carp_base.specs.Problem.{IsRequired, IsValid, edge_at};
+ghost use Rattle.carp_base.specs.Problem.{IsRequired, edge_at};
 ghost use Rattle.cert_transfer.specs.TourParts.{IsPart, task_at};
 
 use carp_base::{Instance, Task};

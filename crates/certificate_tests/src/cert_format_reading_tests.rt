@@ -1,5 +1,5 @@
 // Texts that come in pieces, against the rules of the format.
-ghost use Rattle.std.specs.Prelude.{◌<◌, ◌≤◌};
+ghost use Rattle.std.specs.Prelude.{◌≤◌};
 
 use carp_base::Fail as Refusal;
 use cert_format::{CertFault, CertReader, Item, read_cert};

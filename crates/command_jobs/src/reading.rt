@@ -1,7 +1,5 @@
 // Reads the files of a command.
-ghost use Rattle.std.specs.Prelude.{◌≡◌, ◌≢◌, ℕ, ◌<◌, ◌≤◌, ◌^◌, ◌⊎◌, List, length, IsTrue, IfOk, IsOk, IsErrOf, ⊤};
-ghost use Rattle.carp_base.specs.declared.fail.Fail.TheVariants.{Memory as NoMemory, Refused};
-ghost use Rattle.carp_base.specs.Problem.{IsValid};
+ghost use Rattle.std.specs.Prelude.{◌≡◌, ℕ, ◌<◌, ◌≤◌, ◌^◌, List, length, IsTrue, IfOk};
 ghost use Rattle.carp_outside.specs.Told.{SameContents};
 ghost use Rattle.dat_text.specs.Text.{IsTextOf};
 ghost use Rattle.cert_lines.specs.Texts as certificates;

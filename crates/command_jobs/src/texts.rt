@@ -1,6 +1,5 @@
 // Makes an instance, a certificate and edits of three texts.
-ghost use Rattle.std.specs.Prelude.{◌≡◌, ℕ, ◌≤◌, ◌<◌, ◌^◌, List, [], length};
-ghost use Rattle.std.specs.List.{All};
+ghost use Rattle.std.specs.Prelude.{ℕ, ◌≤◌, ◌<◌, ◌^◌, List, length};
 ghost use Rattle.dat_text.specs.Text.{IsTextOf};
 ghost use Rattle.instance_edits.specs.Texts.{IsEditsText};
 ghost use Rattle.command_jobs.specs.Files.{IsBadCertificate, IsBadInstance, IsGoodText, IsInstance};

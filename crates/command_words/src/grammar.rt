@@ -1,11 +1,11 @@
 // Reads plain words by `clap`.
 ghost use Rattle.std.specs.Prelude.{◌≡◌, ℕ, List, Some, IfOk, IsSomeAnd, true, false, codes};
-ghost use Rattle.clap.specs.Walk.{first_of, one_of, rows_of, rule_of};
+ghost use Rattle.clap.specs.Walk.{rows_of, rule_of};
 ghost use Rattle.clap.specs.Simple.{app_of};
 ghost use Rattle.clap.specs.Matches.{found_of};
 ghost use Rattle.clap.specs.declared.builder.command.Command.TheViews.{out-Command as fields_of};
 ghost use Rattle.command_words.specs.Commands as commands;
-ghost use Rattle.command_words.specs.Words.{texts_of, command_of, is_number, is_plain, number_of};
+ghost use Rattle.command_words.specs.Words.{texts_of, command_of, is_plain};
 ghost use Rattle.command_words.specs.Forms.{command_in};
 ghost use Rattle.command_words.specs.Grammar.{AreMatchesOf, HasName, HasNumber, drill_app, edit_app, fleet_app, grammar_app, improve_app, make_app, middle_app, name_rule, neighbour_app, one_name, option_rule, proving_app, solve_app, two_names, upgrade_app};
 

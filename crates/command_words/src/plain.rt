@@ -1,8 +1,8 @@
 // Tests whether words are in plain form.
-ghost use Rattle.std.specs.Prelude.{◌≡◌, ◌&&◌, not, None, Some, IsSomeAnd, MatchOption, is_some, string_bytes};
+ghost use Rattle.std.specs.Prelude.{◌≡◌, ◌&&◌, not, None, IsSomeAnd, MatchOption};
 ghost use Rattle.std.specs.List.{list_all, list_any};
 ghost use Rattle.std.specs.Str.{bytes_eq};
-ghost use Rattle.command_words.specs.Words.{texts_of, is_plain, are_names, is_name, is_digit, is_number, number_of, are_turns, is_option, is_given, are_options, are_names_and_options, form_of};
+ghost use Rattle.command_words.specs.Words.{texts_of, is_plain, are_names, is_name, is_digit, is_number, are_turns, is_option, is_given, are_options, are_names_and_options, form_of};
 ghost use Rattle.command_words.specs.Forms.{IsForm};
 
 /// The most turns that can be asked for.

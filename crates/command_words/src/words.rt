@@ -1,6 +1,6 @@
 // The public call.
 ghost use Rattle.std.specs.Prelude.{◌≡◌, None, Some, IfOk, MatchOption};
-ghost use Rattle.command_words.specs.Words.{command_of, is_plain, texts_of};
+ghost use Rattle.command_words.specs.Words.{command_of, texts_of};
 ghost use Rattle.command_words.specs.Forms.{command_in};
 
 use crate::command::Command;

@@ -1,9 +1,8 @@
 // Solves a town, and checks what comes of it.
-ghost use Rattle.std.specs.Prelude.{◌≡◌, ◌⊎◌, ◌≤◌, ◌^◌, ◌%◌, ◌+◌, ◌++◌, ◌↔◌, All, EachIndex, map, slice_index, IfOk, OnOk, IsTrue};
+ghost use Rattle.std.specs.Prelude.{◌≡◌, ◌≤◌, ◌^◌, ◌%◌, ◌+◌, ◌++◌, ◌↔◌, All, EachIndex, map, slice_index, IfOk, OnOk, IsTrue};
 ghost use Rattle.cert_lines.specs.Spelling.{IsSpellable};
 ghost use Rattle.cert_format.specs.Certs.{certificate_in};
 ghost use Rattle.cert_format.specs.Good.{IsGood};
-ghost use Rattle.town_maker.specs.Towns.{town_of};
 ghost use Rattle.command_works.specs.Drills.{IsDrilled};
 ghost use Rattle.command_works.specs.Texts.{drill_line, drill_text, result_text, town_line};
 ghost use Rattle.command_works.specs.Outputs.{output_in};

@@ -1,5 +1,5 @@
 // What an edit makes.
-ghost use Rattle.std.specs.Prelude.{◌≡◌, ◌≤◌, ◌-◌, [], ◌∷◌, IfOk, length};
+ghost use Rattle.std.specs.Prelude.{◌≡◌, ◌≤◌, [], ◌∷◌, IfOk};
 ghost use Rattle.command_jobs.specs.Edited.{IsEdited};
 ghost use Rattle.command_works.specs.Carried.{AreBothKept};
 ghost use Rattle.command_works.specs.Texts.{edit_text, edited_line};

@@ -1,5 +1,5 @@
 // Finds few vehicles that carry all demands.
-ghost use Rattle.std.specs.Prelude.{◌≡◌, ◌⊎◌, ◌<◌, ◌≤◌, ◌++◌, IfOk, OnOk};
+ghost use Rattle.std.specs.Prelude.{◌≡◌, ◌⊎◌, ◌≤◌, ◌++◌, IfOk, OnOk};
 ghost use Rattle.std.specs.List.{flat_map};
 ghost use Rattle.carp_base.specs.Packings.{IsPacking};
 ghost use Rattle.plan_model.specs.Plans.{IsLawful};

@@ -1,5 +1,5 @@
 // Spells a round of the postman.
-ghost use Rattle.std.specs.Prelude.{◌≡◌, [], IfOk, count_by, not, take};
+ghost use Rattle.std.specs.Prelude.{◌≡◌, [], IfOk};
 ghost use Rattle.plan_model.specs.Plans.{IsOnEdges};
 ghost use Rattle.postman.specs.Rounds.{IsShownRound, deadheads_in};
 ghost use Rattle.command_works.specs.Rounds.{round_text};

@@ -1,5 +1,5 @@
 // What the required edges at the border of a shore ask for.
-ghost use Rattle.std.specs.Prelude.{◌≡◌, ◌*◌, ◌≤◌, if◌then◌else◌};
+ghost use Rattle.std.specs.Prelude.{◌≡◌, ◌≤◌, if◌then◌else◌};
 ghost use Rattle.plan_model.specs.Plans.{crosses};
 ghost use Rattle.cut_pool.specs.Shores.{Belongs, demand_inside, is_in, need, required_crossings, touched};
 

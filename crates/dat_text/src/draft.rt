@@ -1,8 +1,8 @@
 // What has been read of a text so far.
-ghost use Rattle.std.specs.Prelude.{◌≡◌, ◌<◌, List, [], ◌∷◌, ℕ, true, false, Some, None, is_some, IfSome, IsSomeAnd, ◌≢◌, OnOk, MatchResult};
+ghost use Rattle.std.specs.Prelude.{◌≡◌, List, [], ◌∷◌, ℕ, true, false, Some, None, is_some, IfSome, IsSomeAnd, ◌≢◌, OnOk, MatchResult};
 ghost use Rattle.std.specs.Bool.{MatchBool};
 ghost use Rattle.dat_text.specs.Lines.{HasKey, IsOpened, has_number};
-ghost use Rattle.dat_text.specs.Text.{Statement, stands, LatestFirst};
+ghost use Rattle.dat_text.specs.Text.{stands, LatestFirst};
 ghost use Rattle.dat_text.specs.Text.Statement.{states, lists};
 ghost use Rattle.dat_text.specs.Drafts.{Matches, Takes, number_there, at_key, Ends};
 ghost use Rattle.dat_text.specs.declared.fault.DatFault.TheVariants.{MissingKey, CountDiffers};

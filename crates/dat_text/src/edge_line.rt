@@ -1,5 +1,5 @@
 // The shape of an edge line.
-ghost use Rattle.std.specs.Prelude.{◌≡◌, ◌≤◌, ◌<◌, length, Option, codes, IfSome, IsNone, MatchOption, MatchResult, ◌↔◌, IsTrue, ◌==◌, IsSomeAnd};
+ghost use Rattle.std.specs.Prelude.{◌≡◌, ◌<◌, length, IfSome, IsNone, MatchOption, MatchResult, ◌↔◌, IsTrue, ◌==◌, IsSomeAnd};
 ghost use Rattle.std.specs.Option.{option_map_or};
 ghost use Rattle.std.specs.List.{AllByRecursion};
 ghost use Rattle.std.specs.Str.Parse.{digits_value};

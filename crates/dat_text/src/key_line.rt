@@ -1,5 +1,5 @@
 // What follows the key of a key line.
-ghost use Rattle.std.specs.Prelude.{◌≡◌, Option, MatchResult};
+ghost use Rattle.std.specs.Prelude.{◌≡◌, MatchResult};
 ghost use Rattle.std.specs.Option.{option_map};
 ghost use Rattle.dat_text.specs.Reading.{is_end, after_colon, stated_at};
 ghost use Rattle.dat_text.specs.Kinds.{ReadsKey, FailsKey};

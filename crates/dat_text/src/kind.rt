@@ -1,5 +1,5 @@
 // The kind of a line.
-ghost use Rattle.std.specs.Prelude.{◌≡◌, ◌≤◌, length, IfSome, IsNone, ⊤};
+ghost use Rattle.std.specs.Prelude.{◌≡◌, ◌≤◌, length, IfSome, IsNone};
 ghost use Rattle.std.specs.List.{prefix_len};
 ghost use Rattle.dat_text.specs.Lines.{is_key_byte, SameLetters, key_name};
 ghost use Rattle.dat_text.specs.Reading.{run_at, after_run};

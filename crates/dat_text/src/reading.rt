@@ -1,8 +1,8 @@
 // Reading a whole text.
-ghost use Rattle.std.specs.Prelude.{◌≡◌, ◌<◌, ◌^◌, length, IfOk, IsErrOf};
+ghost use Rattle.std.specs.Prelude.{◌<◌, ◌^◌, length, IfOk, IsErrOf};
 ghost use Rattle.carp_base.specs.declared.fail.Fail.TheVariants.{Refused};
 ghost use Rattle.dat_text.specs.Text.{IsTextOf, IsFaultOf};
-ghost use Rattle.dat_text.specs.Drafts.{ReadsLines, ReadsText, description_of};
+ghost use Rattle.dat_text.specs.Drafts.{ReadsLines, ReadsText};
 ghost use Rattle.dat_text.specs.declared.fault.DatFault.{DatFault as Fault};
 
 use crate::DatFault;

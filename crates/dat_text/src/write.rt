@@ -1,8 +1,8 @@
 // Writing the text.
-ghost use Rattle.std.specs.Prelude.{◌≡◌, ◌++◌, length, IfOk, OnOk, codes};
+ghost use Rattle.std.specs.Prelude.{◌≡◌, ◌++◌, length, IfOk, OnOk};
 ghost use Rattle.std.specs.Int.{div_ceil};
 ghost use Rattle.std.specs.List.{flat_map};
-ghost use Rattle.carp_base.specs.Problem.{required_edges, other_edges, total_demand, required_cost};
+ghost use Rattle.carp_base.specs.Problem.{required_edges, other_edges, total_demand};
 ghost use Rattle.dat_text.specs.DatText.{dat_of, counts_text, totals_text, required_line, other_line};
 ghost use Rattle.dat_text.specs.Text.{IsTextOf};
 

@@ -1,5 +1,5 @@
 // The chains of the yes pairs.
-ghost use Rattle.std.specs.Prelude.{◌≡◌, ℕ, ◌+◌, ◌-◌, ◌<◌, ◌≤◌, ◌↔◌, ◌++◌, ◌∷◌, ◌||◌, [], Bool, List, All, IfOk, IsTrue, length, replicate, slice_index_or, false};
+ghost use Rattle.std.specs.Prelude.{◌≡◌, ℕ, ◌+◌, ◌-◌, ◌<◌, ◌≤◌, ◌++◌, ◌∷◌, ◌||◌, [], Bool, List, All, IfOk, length, replicate, slice_index_or, false};
 ghost use Rattle.decision_chains.specs.ChainTables.{AreChains, AreMerged, IsChainTable, IsUpTo, chain_load, closes_chain, is_barred, is_many, label_at, load_of, near_at, near_has, overloads};
 ghost use Rattle.decision_chains.specs.Exclusions.{LeadsOn};
 ghost use Rattle.decision_chains.specs.Pairs.{ArePairsIn, HasPairWithin, IsPairWithin};

@@ -31,7 +31,7 @@ mod plan_laws;
 mod planning;
 
 pub use chains::Chains;
-pub use decision::Decision;
+pub use decision::{Decision, is_pair};
 pub use directing::direct;
 pub use laws::{distinct_edges_sum_to_no_more, excluded_is_symmetric, yes_pairs_join};
 pub use plan_laws::fixed_values_compare;

@@ -1,5 +1,5 @@
 // The edges of a chain in order.
-ghost use Rattle.std.specs.Prelude.{◌≡◌, IfOk, OnOk, false, length};
+ghost use Rattle.std.specs.Prelude.{◌≡◌, IfOk, false, length};
 ghost use Rattle.decision_chains.specs.ChainWalks.{AreClosed, IsOrdered, IsWalked, is_marked};
 ghost use Rattle.decision_chains.specs.ChainTables.{IsChainTable};
 ghost use Rattle.decision_chains.specs.Exclusions.{AreJoined, IsChainEnd};

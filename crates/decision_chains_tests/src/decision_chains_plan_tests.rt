@@ -1,5 +1,4 @@
 // Plans along chains of a triangle of streets, worked by hand.
-ghost use Rattle.std.specs.Prelude.{◌≡◌};
 ghost use Rattle.decision_chains.specs.Pairs.{ArePairsIn};
 
 use carp_base::{Instance, RawEdge};

@@ -1,6 +1,6 @@
 // Chains of streets side by side, worked by hand.
 use carp_base::{Instance, RawEdge};
-use decision_chains::{Chains, Decision};
+use decision_chains::{Chains, Decision, is_pair};
 use std::alloc::Global;
 use std::test::Fail;
 
@@ -87,5 +87,19 @@ fn three_yes_pairs_tangle_or_weigh_too_much(rt: HostRuntime) -> Result<(), Fail>
     assert_eq!(&rt; open.is_overloaded(), true);
     let closed = Chains::of(alloc, &inst, &decisions)?;
     assert_eq!(&rt; closed.tangled, true, "a cycle");
+    Ok(())
+}
+
+#[test]
+fn pairs_are_of_two_required_edges(rt: HostRuntime) -> Result<(), Fail> {
+    let alloc = rt.alloc();
+    let inst = side_by_side(alloc, 4)?;
+    assert_eq!(&rt; is_pair(&inst, 1, 5), true);
+    assert_eq!(&rt; is_pair(&inst, 5, 1), true, "the other way round");
+    assert_eq!(&rt; is_pair(&inst, 3, 3), false, "one edge");
+    assert_eq!(&rt; is_pair(&inst, 0, 1), false, "no edge has the number 0");
+    assert_eq!(&rt; is_pair(&inst, 1, 0), false, "nor as the second one");
+    assert_eq!(&rt; is_pair(&inst, 6, 1), false, "past the last one");
+    assert_eq!(&rt; is_pair(&inst, 1, 6), false, "as the second one");
     Ok(())
 }

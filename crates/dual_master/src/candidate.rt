@@ -1,8 +1,8 @@
 // Price sets with pools of their own, of which the best is taken.
-ghost use Rattle.std.specs.Prelude.{◌≡◌, ◌⊎◌, ◌≤◌, IfOk};
+ghost use Rattle.std.specs.Prelude.{◌≡◌, ◌⊎◌, IfOk};
 ghost use Rattle.deadhead_paths.specs.Prices.{costs_of};
 ghost use Rattle.route_pricing.specs.Tables.{IsRoom};
-ghost use Rattle.dual_master.specs.Floors.{ReachesJoin, ReachesRatio, ReachesShell, plain_value};
+ghost use Rattle.dual_master.specs.Floors.{ReachesJoin, ReachesRatio, ReachesShell};
 ghost use Rattle.dual_master.specs.Candidates.{IsCandidate, IsFloorSet, IsNoMore, IsValueWithin};
 
 use crate::values::{is_no_more, value_under};

@@ -1,5 +1,5 @@
 // The shores of one vertex.
-ghost use Rattle.std.specs.Prelude.{◌≡◌, ◌++◌, ◌∷◌, [], All, OnErr, OnOk};
+ghost use Rattle.std.specs.Prelude.{◌≡◌, All, OnErr, OnOk};
 ghost use Rattle.carp_base.specs.Problem.{IsVertex};
 ghost use Rattle.cut_pool.specs.Shores.{Belongs};
 ghost use Rattle.dual_master.specs.Singles.{HasSingles, IsTried};

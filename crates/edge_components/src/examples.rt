@@ -1,9 +1,9 @@
 // Small data on which a fact that no call decides holds, and on which it does not.
-ghost use Rattle.std.specs.Prelude.{◌≡◌, ◌==◌, [], ◌∷◌, true, false};
+ghost use Rattle.std.specs.Prelude.{◌≡◌, [], ◌∷◌, true, false};
 ghost use Rattle.cut_pool.specs.Shores.{is_in};
-ghost use Rattle.edge_components.specs.Parts.{AreParts, parts_of, parts_over};
+ghost use Rattle.edge_components.specs.Parts.{parts_of, parts_over};
 ghost use Rattle.edge_components.specs.Components.{least_vertex};
-ghost use Rattle.edge_components.specs.Labels.{has_label, is_free_label, marked_shores};
+ghost use Rattle.edge_components.specs.Labels.{is_free_label, marked_shores};
 ghost use Rattle.edge_components.specs.Listing.{vertices_where};
 ghost use Rattle.edge_components.specs.Examples.{row};
 

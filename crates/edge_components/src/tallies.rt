@@ -1,6 +1,5 @@
 // What the edges at the border of each component add up to.
-ghost use Rattle.std.specs.Prelude.{◌≡◌, ℕ, ◌+◌, ◌*◌, ◌^◌, ◌<◌, ◌≤◌, ◌==◌, ◌||◌, not, ◌↔◌, length, slice_index, All, IfOk, IsTrue, if◌then◌else◌};
-ghost use Rattle.carp_base.specs.Problem.{IsVertex};
+ghost use Rattle.std.specs.Prelude.{◌≡◌, ℕ, ◌+◌, ◌^◌, ◌<◌, ◌≤◌, ◌==◌, ◌||◌, not, ◌↔◌, length, slice_index, All, IfOk, IsTrue, if◌then◌else◌};
 ghost use Rattle.cut_pool.specs.Shores.{required_crossings, touched};
 ghost use Rattle.edge_components.specs.Parts.{AreParts, parts_over};
 ghost use Rattle.edge_components.specs.Labels.{AreInRange, has_label};

@@ -1,5 +1,5 @@
 // Small data on which a definition holds, and on which it does not.
-ghost use Rattle.std.specs.Prelude.{◌≡◌, ◌≢◌, [], ◌∷◌};
+ghost use Rattle.std.specs.Prelude.{◌≡◌, [], ◌∷◌};
 ghost use Rattle.packing_trees.specs.declared.packing.Packing.{Packing};
 ghost use Rattle.packing_trees.specs.declared.node.PackNode.TheVariants.{Share};
 ghost use Rattle.fleet_pack.specs.Examples.{idle_town, lanes_town};

@@ -1,6 +1,6 @@
 // Fewer groups by filling one group after another as far as it goes. No more is owed of this search than that what it finds is a packing of
 // fewer groups: that is tested.
-ghost use Rattle.std.specs.Prelude.{◌<◌, ◌≤◌, IfOk, length};
+ghost use Rattle.std.specs.Prelude.{◌≤◌, IfOk, length};
 ghost use Rattle.fleet_pack.specs.Groups.{IsGrouping};
 
 use crate::grouping::Grouping;

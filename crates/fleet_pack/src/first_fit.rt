@@ -1,7 +1,7 @@
 // First fit by falling demand.
-ghost use Rattle.std.specs.Prelude.{◌≡◌, ◌+◌, ◌<◌, ◌≤◌, ℕ, [], length, slice_index, IfOk, OnOk};
+ghost use Rattle.std.specs.Prelude.{◌≡◌, ◌<◌, ◌≤◌, ℕ, [], length, slice_index, IfOk};
 ghost use Rattle.fleet_pack.specs.FirstFit.{first_fit_count, loads_after};
-ghost use Rattle.fleet_pack.specs.Groups.{AreFalling, IsFirstRoom, IsGrouping, IsPlaced, IsPut, demands_of};
+ghost use Rattle.fleet_pack.specs.Groups.{IsFirstRoom, IsGrouping, IsPlaced, IsPut, demands_of};
 
 use crate::grouping::Grouping;
 use crate::item::{Item, falling_items};

@@ -1,5 +1,5 @@
 // Whether groups are a packing.
-ghost use Rattle.std.specs.Prelude.{◌≡◌, ℕ, ◌+◌, ◌<◌, ◌≤◌, All, IfOk, IsTrue, length, slice_index};
+ghost use Rattle.std.specs.Prelude.{◌≡◌, ℕ, ◌+◌, ◌<◌, All, IfOk, IsTrue, length, slice_index};
 ghost use Rattle.carp_base.specs.Packings.{IsGroup, IsPacking, group_load};
 ghost use Rattle.fleet_pack.specs.Groups.{AreFineLoads};
 

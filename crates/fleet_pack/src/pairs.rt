@@ -1,5 +1,5 @@
 // The heaviest open pair.
-ghost use Rattle.std.specs.Prelude.{◌≡◌, ◌+◌, ◌<◌, ◌≤◌, All, None, length, slice_index, true};
+ghost use Rattle.std.specs.Prelude.{◌≡◌, ◌+◌, ◌<◌, All, None, length, slice_index, true};
 ghost use Rattle.packing_trees.specs.Bundles.{AreBundles, IsChoice, IsPair};
 ghost use Rattle.carp_base.specs.Problem.{IsRequired};
 ghost use Rattle.fleet_pack.specs.States.{FindsBefore, FindsOneMore, FindsOpen};

@@ -1,10 +1,10 @@
 // The search for a tree, depth first.
-ghost use Rattle.std.specs.Prelude.{◌≡◌, ℕ, ◌+◌, ◌*◌, ◌<◌, ◌≤◌, ◌++◌, ◌∷◌, [], All, IfOk, OnOk, false, true, length, reverse};
+ghost use Rattle.std.specs.Prelude.{◌≡◌, ◌+◌, ◌<◌, ◌≤◌, ◌++◌, ◌∷◌, [], All, IfOk, OnOk, false, true, length};
 ghost use Rattle.carp_base.specs.Problem.{Problem};
 ghost use Rattle.packing_trees.specs.Bundles.{AreAllClosed, AreBundles, HasBundles, IsClosedPair, IsPair, bundle_count};
 ghost use Rattle.packing_trees.specs.declared.node.PackChoice.TheVariants.{Together};
 ghost use Rattle.fleet_pack.specs.Groups.{IsGrouping};
-ghost use Rattle.fleet_pack.specs.States.{HasEnded, HasLeaf, IsAtHand, IsBack, IsDone, IsLeastValue, IsOuter, IsSearch, closed_count, share_nodes, turns_now};
+ghost use Rattle.fleet_pack.specs.States.{HasEnded, HasLeaf, IsAtHand, IsBack, IsDone, IsOuter, IsSearch, closed_count};
 
 use crate::grouping::Grouping;
 use crate::numbering::grouping_of;

@@ -1,6 +1,6 @@
 // The best share of a branch.
 ghost use Rattle.std.specs.Prelude.{◌≡◌, ◌+◌, ◌*◌, ◌<◌, ◌≤◌, All, IfOk, length};
-ghost use Rattle.packing_trees.specs.Bundles.{AreBundles, HasBundles, IsChoice};
+ghost use Rattle.packing_trees.specs.Bundles.{IsChoice};
 ghost use Rattle.fleet_pack.specs.States.{IsShare};
 
 use carp_base::{Instance, Memory};

@@ -1,5 +1,5 @@
 // Greatest flows (Dinic 1970).
-ghost use Rattle.std.specs.Prelude.{◌≡◌, ◌≢◌, ◌==◌, ◌+◌, ◌≤◌, not, map, length, drop, slice_index, IfOk};
+ghost use Rattle.std.specs.Prelude.{◌≡◌, ◌≢◌, ◌==◌, ◌+◌, not, map, length, IfOk};
 ghost use Rattle.flow_cut.specs.Flows.{IsFlow, IsNetwork, IsNode, IsSide, cut_room};
 ghost use Rattle.flow_cut.specs.Residual.{Brings};
 ghost use Rattle.flow_cut.specs.Adjacency.{IsAdjacency};

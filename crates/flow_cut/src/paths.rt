@@ -1,9 +1,8 @@
 // Ways from the source to the target through the layers, and what is sent over them (Dinic 1970).
-ghost use Rattle.std.specs.Prelude.{◌≡◌, ◌≢◌, ℕ, ◌+◌, ◌<◌, ◌≤◌, ◌↔◌, length, slice_index, slice_index_or, sum, IsTrue, IfSome};
-ghost use Rattle.flow_cut.specs.Flows.{IsNetwork, IsNode, IsWithinRooms};
-ghost use Rattle.flow_cut.specs.Residual.{Brings, residual_tail, residual_head};
-ghost use Rattle.flow_cut.specs.Adjacency.{IsAdjacency, residual_at};
-ghost use Rattle.flow_cut.specs.Layers.{FitsTo, IsLayered, IsOpen, IsUntried, LeadsOn, to_try};
+ghost use Rattle.std.specs.Prelude.{◌≢◌, ℕ, ◌+◌, ◌<◌, ◌≤◌, slice_index};
+ghost use Rattle.flow_cut.specs.Flows.{IsNetwork, IsWithinRooms};
+ghost use Rattle.flow_cut.specs.Residual.{Brings};
+ghost use Rattle.flow_cut.specs.Layers.{FitsTo, IsLayered, IsOpen};
 
 use crate::Arc;
 use crate::adjacency::Adjacency;

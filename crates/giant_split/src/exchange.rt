@@ -1,5 +1,5 @@
 // Small changes of an order.
-ghost use Rattle.std.specs.Prelude.{◌≡◌, ◌<◌, ◌≤◌, length};
+ghost use Rattle.std.specs.Prelude.{◌≡◌, ◌<◌, length};
 ghost use Rattle.giant_split.specs.Exchanges.{ServeAlike, task_edges};
 
 use carp_base::Task;

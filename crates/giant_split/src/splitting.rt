@@ -1,5 +1,5 @@
 // The cheapest plan that serves in an order.
-ghost use Rattle.std.specs.Prelude.{◌≡◌, IfOk, length};
+ghost use Rattle.std.specs.Prelude.{◌≡◌, IfOk};
 ghost use Rattle.deadhead_paths.specs.Prices.{costs_of};
 ghost use Rattle.task_tours.specs.Tours.{AreServedOnce};
 ghost use Rattle.giant_split.specs.Cuts.{IsCutOrder};

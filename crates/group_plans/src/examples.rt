@@ -1,7 +1,7 @@
 // Small data on which a fact that no call decides holds, and on which it does not.
 ghost use Rattle.std.specs.Prelude.{◌≡◌, [], ◌∷◌};
 ghost use Rattle.carp_base.specs.Packings.{IsPacking};
-ghost use Rattle.group_plans.specs.Examples.{against_street, crossing, far_triangle, lone_depot, on_street, outer_walk, second_walk, service, triangle};
+ghost use Rattle.group_plans.specs.Examples.{against_street, crossing, far_triangle, lone_depot, on_street, outer_walk, second_walk, triangle};
 ghost use Rattle.group_plans.specs.Gathering.{ServesGroup, ServesUpTo};
 ghost use Rattle.group_plans.specs.Groups.{ServesGroups, gathered, own_task, serving_walks};
 

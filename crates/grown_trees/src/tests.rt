@@ -1,5 +1,5 @@
 // Small trees, their ways and how they grow, worked by hand.
-ghost use Rattle.std.specs.Prelude.{◌≡◌, ◌≤◌, length, All, IfOk};
+ghost use Rattle.std.specs.Prelude.{◌≤◌, All, IfOk};
 ghost use Rattle.grown_trees.specs.Examples.{IsSmall};
 ghost use Rattle.grown_trees.specs.Places.{IsFineNode};
 

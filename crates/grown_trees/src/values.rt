@@ -1,5 +1,5 @@
 // What price sets show under a branch.
-ghost use Rattle.std.specs.Prelude.{◌≡◌, ◌≤◌, pos, All};
+ghost use Rattle.std.specs.Prelude.{◌≤◌, All};
 ghost use Rattle.decision_chains.specs.Exclusions.{Excluded};
 ghost use Rattle.branch_rules.specs.Decisions.{rules_of};
 ghost use Rattle.branch_rules.specs.Limits.{IsShoreOf};

@@ -69,7 +69,6 @@ impl<F: Finder> Helper<F> {
 }
 
 impl<F: Finder> Proposer for Helper<F> {
-    ghost use Rattle.plan_model.specs.Offers.{Tally};
     ghost use Rattle.helper_frame.specs.Standings.{tally_of};
 
     ghost id = { λ h. h.standing.id };

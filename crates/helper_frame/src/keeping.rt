@@ -1,7 +1,6 @@
 // A finder that keeps the plan that it found.
-ghost use Rattle.std.specs.Prelude.{◌≡◌, IfOk, IfSome};
+ghost use Rattle.std.specs.Prelude.{IfSome};
 ghost use Rattle.plan_model.specs.Plans.{IsLawful};
-ghost use Rattle.deadhead_paths.specs.Prices.{costs_of};
 ghost use Rattle.helper_frame.specs.Keeping.{IsFoundBesideSome};
 
 use crate::helper::Finder;

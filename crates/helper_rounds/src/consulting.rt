@@ -1,5 +1,5 @@
 // Asks a helper, and takes what is better.
-ghost use Rattle.std.specs.Prelude.{◌≡◌, ◌+◌, ◌<◌, ◌≤◌, ◌↔◌, Ok, IfOk, IsOk, IsSomeAnd, MatchOption, OnOk, Some};
+ghost use Rattle.std.specs.Prelude.{◌≡◌, ◌+◌, ◌<◌, ◌↔◌, Ok, IfOk, IsOk, IsSomeAnd, MatchOption, OnOk, Some};
 ghost use Rattle.deadhead_paths.specs.Prices.{costs_of};
 ghost use Rattle.deadhead_paths.specs.Tidy.{IsTidied};
 ghost use Rattle.plan_model.specs.Offers.{smaller};

@@ -1,7 +1,7 @@
 // Asks a list of helpers, round after round.
 ghost use Rattle.std.specs.Prelude.{◌≡◌, ◌+◌, ◌%◌, ◌^◌, ◌<◌, ◌≤◌, All, EachIndex, IfOk, None, OnOk, length, map, replicate, slice_index};
 ghost use Rattle.deadhead_paths.specs.Prices.{costs_of};
-ghost use Rattle.plan_model.specs.Plans.{IsLawful, plan_cost};
+ghost use Rattle.plan_model.specs.Plans.{plan_cost};
 ghost use Rattle.task_tours.specs.Shorts.{IsShortPlan};
 ghost use Rattle.helper_rounds.specs.Asking.{AreRounds, IsRound, IsTurn, TellsOfBetter, fresh, standings};
 ghost use Rattle.helper_rounds.specs.Helpers.{IsAtMost, IsFit};

@@ -1,5 +1,5 @@
 // What helpers do to a list, to each other and to the best plan.
-ghost use Rattle.std.specs.Prelude.{◌≡◌, ◌<◌, ◌≤◌, List, Ok, Some};
+ghost use Rattle.std.specs.Prelude.{◌≡◌, ◌<◌, List, Ok, Some};
 ghost use Rattle.carp_base.specs.Problem.{Problem};
 ghost use Rattle.plan_model.specs.declared.step.Step.{Step};
 ghost use Rattle.plan_model.specs.Offers.{AfterOffer};
@@ -65,7 +65,6 @@ impl Actor {
 }
 
 impl Proposer for Actor {
-    ghost use Rattle.plan_model.specs.Offers.{Tally};
     ghost use Rattle.helper_frame.specs.Standings.{tally_of};
 
     ghost id = { λ h. h.standing.id };

@@ -1,5 +1,5 @@
 // The text of edits, line by line.
-ghost use Rattle.std.specs.Prelude.{IsTrue, ◌≡◌, ◌+◌, ◌<◌, ◌^◌, List, [], ◌∷◌, ◌++◌, true, false, length, MatchResult, IfOk, IfErr};
+ghost use Rattle.std.specs.Prelude.{IsTrue, ◌≡◌, ◌+◌, ◌<◌, ◌^◌, List, [], ◌∷◌, ◌++◌, length, MatchResult, IfOk, IfErr};
 ghost use Rattle.instance_edits.specs.declared.edit.Edit.{Edit as AnyEdit};
 ghost use Rattle.instance_edits.specs.Texts.{IsEditsText, RefusesFirstBad};
 ghost use Rattle.instance_edits.specs.Reading.{IsBad, MarksClosedEdges, IsWithin, IsNext, edit_of, is_known, is_open, is_required};

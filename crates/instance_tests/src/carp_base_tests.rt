@@ -1,5 +1,5 @@
 // Descriptions that are accepted or refused, and the relation of required edges.
-ghost use Rattle.std.specs.Prelude.{◌≡◌, ◌^◌, ◌<◌, length};
+ghost use Rattle.std.specs.Prelude.{◌≡◌};
 
 use carp_base::{Allowed, Edge, Fail, Instance, RawEdge};
 use std::alloc::{AllocError, Global};

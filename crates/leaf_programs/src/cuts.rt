@@ -4,9 +4,8 @@ ghost use Rattle.cut_pool.specs.Shores.{Belongs};
 ghost use Rattle.branch_rules.specs.Limits.{IsShoreOf};
 ghost use Rattle.shore_prices.specs.Proposals.{IsGrown};
 
-use crate::decisions::{MOST_K, is_shore_in};
 use crate::poor::{Cut, PART, Poor};
-use branch_rules::{Branch, Decision, Node};
+use branch_rules::{Branch, Decision, MOST_K, Node, is_shore_of};
 use carp_base::{Instance, Memory};
 use column_generation::Generation;
 use cut_pool::{Shore, ShorePool, need, required_crossings};
@@ -154,7 +153,7 @@ impl Judge<'_> {
     {
         for decision in self.branch.decisions() {
             if let Some(number) = number_on(decision) {
-                if is_shore_in(self.inst, self.pool, number) && *self.pool.shore(number) == *shore {
+                if is_shore_of(self.inst, self.pool, number) && *self.pool.shore(number) == *shore {
                     return Some(number);
                 }
             }

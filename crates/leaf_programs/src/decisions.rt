@@ -1,16 +1,14 @@
 // The decisions of a split, and the branches of its children.
-ghost use Rattle.std.specs.Prelude.{◌≡◌, IfOk, IfSome, IsTrue};
-ghost use Rattle.branch_rules.specs.Limits.{AreShoresIn, IsShoreOf};
-ghost use Rattle.decision_chains.specs.Pairs.{ArePairsIn, IsPairWithin};
+ghost use Rattle.std.specs.Prelude.{IfOk, IfSome, IsTrue};
+ghost use Rattle.branch_rules.specs.Limits.{AreShoresIn};
+ghost use Rattle.decision_chains.specs.Pairs.{ArePairsIn};
 ghost use Rattle.leaf_programs.specs.Splits.{IsDecisionIn};
 
-use branch_rules::{Branch, Decision, Node};
+use branch_rules::{Branch, Decision, MOST_K, Node, is_shore_of};
 use carp_base::{Instance, Memory};
 use cut_pool::ShorePool;
+use decision_chains::is_pair;
 use std::alloc::Global;
-
-/// The greatest number of a cut.
-pub(crate) const MOST_K: u64 = 1_000_000;
 
 /// The decisions of both children of a node. A leaf has none.
 pub(crate) fn decisions_of(node: &Node) -> Option<(Decision, Decision)> {
@@ -44,29 +42,11 @@ fn is_decision_in(inst: &Instance, pool: &ShorePool, decision: &Decision) -> boo
     ensures { IsTrue result → IsDecisionIn inst.now pool.now decision.now }
 {
     match *decision {
-        Decision::Yes { a, b } => is_pair_in(inst, a, b),
-        Decision::No { a, b } => is_pair_in(inst, a, b),
-        Decision::Low { shore, k } => k <= MOST_K && is_shore_in(inst, pool, shore),
-        Decision::High { shore, k } => k <= MOST_K && is_shore_in(inst, pool, shore),
+        Decision::Yes { a, b } => is_pair(inst, a, b),
+        Decision::No { a, b } => is_pair(inst, a, b),
+        Decision::Low { shore, k } => k <= MOST_K && is_shore_of(inst, pool, shore),
+        Decision::High { shore, k } => k <= MOST_K && is_shore_of(inst, pool, shore),
     }
-}
-
-// Whether these are two required edges.
-fn is_pair_in(inst: &Instance, a: u32, b: u32) -> bool
-    ensures { IsTrue result → IsPairWithin inst.now.required a b }
-{
-    let last = inst.required();
-    1 <= a && a <= last && 1 <= b && b <= last && a != b
-}
-
-/// Whether a number is that of a shore in a pool that belongs to the instance.
-pub(crate) fn is_shore_in(inst: &Instance, pool: &ShorePool, number: u32) -> bool
-    ensures { IsTrue result → IsShoreOf inst.now pool.now number }
-{
-    if number < 1 || pool.len() < number {
-        return false;
-    }
-    pool.shore(number).belongs(inst)
 }
 
 /// A branch with one more decision.

@@ -1,7 +1,6 @@
 // Splits that gained nothing when they were tried.
 
-use crate::decisions::is_shore_in;
-use branch_rules::Node;
+use branch_rules::{Node, is_shore_of};
 use carp_base::{Instance, Memory};
 use cut_pool::{Shore, ShorePool};
 use std::alloc::Global;
@@ -59,7 +58,7 @@ impl Poor {
         }
         match *node {
             Node::Cut { shore, k } => {
-                if is_shore_in(inst, pool, shore) {
+                if is_shore_of(inst, pool, shore) {
                     let shore = pool.shore(shore).copy(alloc)?;
                     self.cuts.push(Cut { shore, k, off: 0 })?;
                 }

@@ -1,5 +1,4 @@
 // Trials of splits on copies of a program.
-ghost use Rattle.std.specs.Prelude.{◌≡◌};
 ghost use Rattle.branch_rules.specs.Limits.{AreShoresIn};
 ghost use Rattle.decision_chains.specs.Pairs.{ArePairsIn};
 ghost use Rattle.route_pricing.specs.Tables.{IsRoom};

@@ -5,7 +5,7 @@ ghost use Rattle.decision_chains.specs.Pairs.{ArePairsIn};
 ghost use Rattle.route_pricing.specs.Tables.{IsRoom};
 ghost use Rattle.column_generation.specs.Proposals.{IsGroupedProposal};
 
-use branch_rules::{Branch, PriceSet, Weight};
+use branch_rules::{Branch, PriceSet, Weight, is_shore_of};
 use carp_base::{Instance, Memory};
 use cut_pool::ShorePool;
 use dat_text::read_dat;
@@ -49,15 +49,6 @@ pub(crate) fn are_on_shores(inst: &Instance, pool: &ShorePool, weights: &[Weight
         }
     }
     true
-}
-
-fn is_shore_of(inst: &Instance, pool: &ShorePool, shore: u32) -> bool
-    ensures { IsTrue result → IsShoreOf inst.now pool.now shore }
-{
-    if shore == 0 || shore > pool.len() {
-        return false;
-    }
-    pool.shore(shore).belongs(inst)
 }
 
 /// The instance of a text.

@@ -9,9 +9,10 @@ ghost use Rattle.leaf_programs.specs.Leaves.{IsLeaf};
 
 use crate::files::RANDOM;
 use crate::judging::{are_on_shores, judged, read, star};
-use branch_rules::{Branch, Decision, Node, PriceSet};
+use branch_rules::{Branch, Decision, MOST_K, Node, PriceSet};
 use carp_base::{Instance, Memory};
 use cut_pool::ShorePool;
+use decision_chains::is_pair;
 use leaf_programs::{Leaf, LeafPrograms};
 use road_network::Network;
 use route_pricing::Table;
@@ -89,8 +90,7 @@ fn first_of_pair(inst: &Instance, a: u32, b: u32) -> Option<Decision>
     ensures fine { IfSome result IsFineDecision }
     ensures pair { IfSome result (HasPairWithin inst.now.required) }
 {
-    let last = inst.required();
-    if 1 <= a && a <= last && 1 <= b && b <= last && a != b {
+    if is_pair(inst, a, b) {
         Some(Decision::Yes { a, b })
     } else {
         None
@@ -101,7 +101,7 @@ fn first_of_cut(inst: &Instance, shore: u32, k: u64) -> Option<Decision>
     ensures fine { IfSome result IsFineDecision }
     ensures pair { IfSome result (HasPairWithin inst.now.required) }
 {
-    if k <= 1_000_000 {
+    if k <= MOST_K {
         Some(Decision::Low { shore, k })
     } else {
         None

@@ -1,5 +1,5 @@
 // Plans that come of ruin and recreate, which promises nothing of its answer: it is tested.
-ghost use Rattle.std.specs.Prelude.{◌≡◌, ◌≢◌, ℕ, ◌+◌, ◌-◌, ◌*◌, ◌<◌, IfOk, IfSome, IsTrue, length, slice_index};
+ghost use Rattle.std.specs.Prelude.{◌≡◌, ◌≢◌, ℕ, ◌+◌, ◌*◌, ◌<◌, IfOk, IfSome, IsTrue, length, slice_index};
 ghost use Rattle.plan_model.specs.Plans.{IsLawful};
 ghost use Rattle.deadhead_paths.specs.Prices.{costs_of};
 ghost use Rattle.ruin_recreate.specs.Boards.{IsBoard, IsBoardOf};

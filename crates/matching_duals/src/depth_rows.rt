@@ -1,5 +1,5 @@
 // How deep each vertex lies in a set.
-ghost use Rattle.std.specs.Prelude.{◌≡◌, ℕ, ◌+◌, ◌*◌, ◌<◌, ◌≤◌, length, slice_index, IfOk};
+ghost use Rattle.std.specs.Prelude.{◌≡◌, ℕ, ◌+◌, ◌<◌, ◌≤◌, length, slice_index, IfOk};
 ghost use Rattle.std.specs.List.{All};
 ghost use Rattle.carp_base.specs.Problem.{IsVertex};
 ghost use Rattle.matching_duals.specs.Paths.{far, AreReaches};

@@ -1,5 +1,5 @@
 // The odd vertices of an instance, and the distances between all vertices.
-ghost use Rattle.std.specs.Prelude.{◌≡◌, ◌≤◌, ◌<◌, ◌++◌, ◌∷◌, [], ◌+◌, ◌*◌, ℕ, length, slice_index, IfOk, OnOk, if◌then◌else◌};
+ghost use Rattle.std.specs.Prelude.{◌≡◌, ◌≤◌, ◌++◌, ◌∷◌, [], ◌+◌, ℕ, slice_index, IfOk, OnOk, if◌then◌else◌};
 ghost use Rattle.carp_base.specs.Problem.{IsValid, IsVertex};
 ghost use Rattle.deadhead_paths.specs.Prices.{costs_of};
 ghost use Rattle.edge_components.specs.Listing.{vertices_where};

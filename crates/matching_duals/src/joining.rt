@@ -1,6 +1,5 @@
 // Deadheads on the least paths between matched vertices, joined by parity.
 ghost use Rattle.std.specs.Prelude.{◌≡◌, ℕ, ◌+◌, ◌%◌, ◌<◌, ◌≤◌, ◌==◌, length, count_by, slice_index, IfOk, OnOk};
-ghost use Rattle.std.specs.List.{All};
 ghost use Rattle.carp_base.specs.Problem.{IsEdgeNumber};
 ghost use Rattle.plan_model.specs.Plans.{IsOnEdges};
 ghost use Rattle.deadhead_paths.specs.Prices.{costs_of};

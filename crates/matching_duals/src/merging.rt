@@ -1,8 +1,7 @@
 // Shores with weights, of which equal ones are taken together.
-ghost use Rattle.std.specs.Prelude.{◌≡◌, ◌+◌, ◌<◌, ◌≤◌, length, pos, slice_index_or, slice_set, MatchOption, OnOk};
-ghost use Rattle.cut_pool.specs.Shores.{IsShore};
-ghost use Rattle.matching_duals.specs.Joins.{all_halves, halves};
-ghost use Rattle.matching_duals.specs.Levels.{AreJoined, IsAdded, IsRaised, IsStanding, IsPositive, Stands};
+ghost use Rattle.std.specs.Prelude.{◌+◌, ◌<◌, ◌≤◌, length, MatchOption, OnOk};
+ghost use Rattle.matching_duals.specs.Joins.{all_halves};
+ghost use Rattle.matching_duals.specs.Levels.{AreJoined, IsAdded, IsRaised, IsStanding, Stands};
 
 use carp_base::Memory;
 use cut_pool::{Shore, Weighted};

@@ -1,7 +1,6 @@
 // The costs of the pairs of odd vertices.
-ghost use Rattle.std.specs.Prelude.{◌≡◌, ℕ, ◌<◌, ◌≤◌, length, slice_index, IfOk};
+ghost use Rattle.std.specs.Prelude.{◌≡◌, ◌<◌, length, IfOk};
 ghost use Rattle.edge_components.specs.Listing.{vertices_where};
-ghost use Rattle.blossom_match.specs.Table.{IsTable};
 ghost use Rattle.matching_duals.specs.OddSets.{is_odd};
 ghost use Rattle.matching_duals.specs.Paths.{AreReaches};
 ghost use Rattle.matching_duals.specs.Sets.{AreCosts, HasRows, HasCells};

@@ -1,6 +1,5 @@
 // The sides of the levels of one set, from the depths of all vertices.
 ghost use Rattle.std.specs.Prelude.{◌≡◌, ◌≢◌, ℕ, ◌+◌, ◌-◌, ◌<◌, ◌≤◌, ◌++◌, ◌∷◌, [], length, max, slice_index, IfOk, OnOk, if◌then◌else◌};
-ghost use Rattle.edge_components.specs.Listing.{vertices_where};
 ghost use Rattle.matching_duals.specs.Joins.{all_halves};
 ghost use Rattle.matching_duals.specs.Levels.{Adds, AreEnds, AreJoined, AreSides, IsGap, on_side, side_list};
 

@@ -1,5 +1,5 @@
 // The levels of all sets of a matching, the smaller sets first.
-ghost use Rattle.std.specs.Prelude.{◌≡◌, ℕ, ◌+◌, ◌-◌, ◌<◌, ◌≤◌, ◌==◌, ◌∷◌, [], length, slice_index, IfOk, OnOk, if◌then◌else◌};
+ghost use Rattle.std.specs.Prelude.{◌≡◌, ℕ, ◌+◌, ◌<◌, ◌≤◌, ◌==◌, ◌∷◌, length, slice_index, IfOk, OnOk, if◌then◌else◌};
 ghost use Rattle.std.specs.List.{All, list_any};
 ghost use Rattle.blossom_match.specs.Answer.{IsListed, IsMatching, len_in, member_in, sets_in};
 ghost use Rattle.matching_duals.specs.OddSets.{AreDistinct};

@@ -1,5 +1,5 @@
 // Matchings of small tables against all matchings.
-ghost use Rattle.std.specs.Prelude.{◌≡◌, ◌*◌, ◌<◌, ◌≤◌, IfOk};
+ghost use Rattle.std.specs.Prelude.{◌≡◌, ◌≤◌, IfOk};
 ghost use Rattle.blossom_match.specs.Table.{IsTable};
 ghost use Rattle.blossom_match.specs.Answer.{IsMatching};
 

@@ -1,5 +1,4 @@
 // Networks of small instances.
-ghost use Rattle.std.specs.Prelude.{◌≤◌};
 ghost use Rattle.carp_base.specs.Problem.{IsVertex};
 
 use carp_base::{Instance, Memory, RawEdge};

@@ -1,5 +1,5 @@
 // Bundles of small branches, worked by hand.
-ghost use Rattle.std.specs.Prelude.{◌≤◌, All, IsTrue};
+ghost use Rattle.std.specs.Prelude.{All, IsTrue};
 ghost use Rattle.packing_trees.specs.Bundles.{IsChoice, IsPair};
 
 use crate::packing_trees_tests::{digit, town};

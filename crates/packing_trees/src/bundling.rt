@@ -1,6 +1,5 @@
 // The bundles that the choices of a branch make.
-ghost use Rattle.std.specs.Prelude.{◌≡◌, ℕ, ◌+◌, ◌<◌, ◌≤◌, ◌++◌, ◌∷◌, [], List, All, IfOk, length, min, max, slice_index};
-ghost use Rattle.carp_base.specs.Problem.{Problem};
+ghost use Rattle.std.specs.Prelude.{◌≡◌, ℕ, ◌+◌, ◌<◌, ◌++◌, ◌∷◌, [], List, All, IfOk, length, min, max, slice_index};
 ghost use Rattle.packing_trees.specs.Bundles.{AreBundles, HasBundles, IsChoice, bundle_count, share_value};
 ghost use Rattle.packing_trees.specs.Tables.{AreLabels, AreMerged, IsBelow, weight_to};
 ghost use Rattle.packing_trees.specs.declared.node.PackChoice.{PackChoice};

@@ -1,5 +1,5 @@
 // The check of a packing with its tree.
-ghost use Rattle.std.specs.Prelude.{◌≡◌, ◌^◌, ◌<◌, IfOk, length};
+ghost use Rattle.std.specs.Prelude.{◌^◌, ◌<◌, IfOk, length};
 ghost use Rattle.packing_trees.specs.Claims.{claim_of};
 ghost use Rattle.packing_trees.specs.Layers.{PackSays, claimed};
 ghost use Rattle.packing_trees.specs.Reasons.{IsPackAnswer, ProvesBound};

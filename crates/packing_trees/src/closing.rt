@@ -1,5 +1,5 @@
 // Whether two bundles can lie in one group.
-ghost use Rattle.std.specs.Prelude.{◌≡◌, ◌≢◌, ℕ, ◌+◌, ◌<◌, ◌≤◌, ◌↔◌, ◌⊎◌, All, IfOk, IsTrue, length, slice_index};
+ghost use Rattle.std.specs.Prelude.{◌≡◌, ℕ, ◌<◌, ◌≤◌, ◌↔◌, ◌⊎◌, All, IfOk, IsTrue, length, slice_index};
 ghost use Rattle.packing_trees.specs.Bundles.{AreAllClosed, AreBundles, IsChoice, IsClosedPair, IsPair};
 ghost use Rattle.packing_trees.specs.Tables.{AreRefused, IsBelow, IsSmallTable, Marks, PartsLabels, RowIsClosed, RowIsHeavy, RowIsMarked, RowsAreClosed, SomePartsLabels};
 

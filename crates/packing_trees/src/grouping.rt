@@ -1,5 +1,5 @@
 // Whether groups are a packing.
-ghost use Rattle.std.specs.Prelude.{◌≡◌, ℕ, ◌+◌, ◌*◌, ◌^◌, ◌<◌, ◌≤◌, IfOk, length, slice_index};
+ghost use Rattle.std.specs.Prelude.{◌≡◌, ℕ, ◌+◌, ◌^◌, ◌<◌, ◌≤◌, IfOk, length, slice_index};
 ghost use Rattle.carp_base.specs.Packings.{group_load};
 ghost use Rattle.packing_trees.specs.Layers.{AboveSays, EmptySays, GroupsSay, LoadsSay, PlacesSay};
 

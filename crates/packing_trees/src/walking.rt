@@ -1,5 +1,5 @@
 // The nodes of a tree, one after another.
-ghost use Rattle.std.specs.Prelude.{◌≡◌, ℕ, ◌^◌, ◌<◌, ◌≤◌, ◌++◌, ◌∷◌, [], List, All, IfOk, length};
+ghost use Rattle.std.specs.Prelude.{◌≡◌, ℕ, ◌^◌, ◌<◌, ◌++◌, List, All, IfOk, length};
 ghost use Rattle.carp_base.specs.Problem.{Problem};
 ghost use Rattle.packing_trees.specs.Bundles.{AreBundles, HasBundles, IsChoice, IsPair};
 ghost use Rattle.packing_trees.specs.Layers.{NodeSays, NodesSay, seconds_of, waits};

@@ -1,5 +1,5 @@
 // A task that a tour can take next, with the numbers by which it is compared.
-ghost use Rattle.std.specs.Prelude.{◌≡◌, ◌<◌, ◌≤◌, true, false};
+ghost use Rattle.std.specs.Prelude.{◌≡◌, true, false};
 ghost use Rattle.path_scanning.specs.Ties.{TaskNoLater, tie_weight};
 ghost use Rattle.path_scanning.specs.Choosing.{IsFirstOf};
 

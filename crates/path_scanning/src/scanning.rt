@@ -1,5 +1,5 @@
 // Plans that grow tour by tour.
-ghost use Rattle.std.specs.Prelude.{◌≡◌, length, IfOk, OnOk};
+ghost use Rattle.std.specs.Prelude.{◌≡◌, length, IfOk};
 ghost use Rattle.plan_model.specs.Plans.{IsLawful};
 ghost use Rattle.deadhead_paths.specs.Prices.{costs_of};
 ghost use Rattle.path_scanning.specs.Choosing.{IsGrown};

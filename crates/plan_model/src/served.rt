@@ -1,5 +1,5 @@
 // Passes over what a plan serves: which other edges, and each required edge how often.
-ghost use Rattle.std.specs.Prelude.{◌≡◌, ℕ, ◌+◌, ◌<◌, ◌≤◌, ◌↔◌, length, slice_index, replicate, IsTrue, count_by, min, if◌then◌else◌, EachIndex};
+ghost use Rattle.std.specs.Prelude.{◌≡◌, ◌+◌, ◌≤◌, ◌↔◌, length, slice_index, IsTrue, count_by, min, if◌then◌else◌, EachIndex};
 ghost use Rattle.carp_base.specs.Problem.{IsRequired, IsValid};
 ghost use Rattle.plan_model.specs.Plans.{serves, services_of, steps_of};
 ghost use Rattle.plan_model.specs.Offers.{smaller};

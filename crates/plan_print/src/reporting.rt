@@ -1,10 +1,9 @@
 // The report, and the parts of it that other answers have.
-ghost use Rattle.std.specs.Prelude.{◌≡◌, ◌+◌, ◌<◌, ◌≤◌, ◌^◌, ◌++◌, length, IfOk, OnOk, decimal, All};
+ghost use Rattle.std.specs.Prelude.{◌≡◌, ◌+◌, ◌≤◌, ◌++◌, IfOk, OnOk};
 ghost use Rattle.std.specs.List.{flat_map};
 ghost use Rattle.carp_base.specs.Problem.{IsEdgeNumber};
 ghost use Rattle.plan_model.specs.Plans.{IsLawful, IsOnEdges};
 ghost use Rattle.cert_format.specs.Certs.{certificate_in};
-ghost use Rattle.plan_print.specs.NumberLines.{number_line};
 ghost use Rattle.plan_print.specs.Report.{report_text, instance_line, result_lines, gap_line, tour_lines, tours_text, tour_line, route_text, crossing_text};
 
 use crate::{push_line, push_number, push_words};

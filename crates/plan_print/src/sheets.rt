@@ -1,8 +1,7 @@
 // The street sheet.
-ghost use Rattle.std.specs.Prelude.{◌≡◌, ◌+◌, ◌<◌, ◌≤◌, ◌^◌, ◌++◌, length, IfOk, OnOk};
+ghost use Rattle.std.specs.Prelude.{◌≡◌, ◌+◌, ◌++◌, IfOk, OnOk};
 ghost use Rattle.carp_base.specs.Problem.{IsEdgeNumber};
 ghost use Rattle.plan_model.specs.Plans.{IsLawful, IsOnEdges, step_load, plan_cost};
-ghost use Rattle.plan_print.specs.NumberLines.{number_line};
 ghost use Rattle.plan_print.specs.Sheet.{crossing_words, step_end, step_line, step_lines, head_line, tour_steps, tours_steps, total_line, sheet_text};
 
 use crate::{push_line, push_number, push_words};

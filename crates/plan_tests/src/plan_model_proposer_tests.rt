@@ -1,4 +1,4 @@
-ghost use Rattle.std.specs.Prelude.{◌≡◌, ℕ, ◌<◌, List, Some, Ok};
+ghost use Rattle.std.specs.Prelude.{◌≡◌, ◌<◌, List, Some, Ok};
 ghost use Rattle.carp_base.specs.Problem.{Problem};
 ghost use Rattle.plan_model.specs.declared.step.Step.{Step};
 ghost use Rattle.plan_model.specs.Offers.{AfterOffer};
@@ -58,8 +58,6 @@ impl TurnHelper {
 }
 
 impl Proposer for TurnHelper {
-    ghost use Rattle.plan_model.specs.Offers.{Tally};
-
     ghost id = { λ h. h.id };
 
     ghost seed = { λ h. h.seed };

@@ -1,5 +1,5 @@
 // A circuit over required edges and deadheads (Hierholzer 1873).
-ghost use Rattle.std.specs.Prelude.{◌≡◌, ℕ, [], IfOk, OnOk, ◌≤◌, ◌+◌};
+ghost use Rattle.std.specs.Prelude.{◌≡◌, ℕ, [], IfOk, OnOk, ◌≤◌};
 ghost use Rattle.edge_components.specs.Parts.{parts_of};
 ghost use Rattle.matching_duals.specs.Joins.{MakesEven};
 ghost use Rattle.postman.specs.Rounds.{AreJoined};

@@ -1,5 +1,5 @@
 // Whether the required edges hang together with the depot.
-ghost use Rattle.std.specs.Prelude.{◌≡◌, ℕ, ◌+◌, ◌≤◌, ◌<◌, length, slice_index, IfOk, MatchOption};
+ghost use Rattle.std.specs.Prelude.{◌≡◌, ℕ, ◌+◌, ◌≤◌, length, slice_index, IfOk, MatchOption};
 ghost use Rattle.carp_base.specs.Problem.{IsEdgeNumber};
 ghost use Rattle.edge_components.specs.Labels.{AreInRange};
 ghost use Rattle.edge_components.specs.Parts.{parts_of};

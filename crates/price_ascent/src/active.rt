@@ -1,5 +1,5 @@
 // Shores whose weights move.
-ghost use Rattle.std.specs.Prelude.{◌+◌, ◌≤◌, ◌++◌, All, IfOk, OnOk, length};
+ghost use Rattle.std.specs.Prelude.{◌≤◌, All, IfOk};
 ghost use Rattle.cut_pool.specs.Shores.{Belongs};
 ghost use Rattle.branch_rules.specs.Limits.{IsShoreOf};
 ghost use Rattle.price_ascent.specs.Points.{IsActive};

@@ -1,12 +1,11 @@
 // The public call.
-ghost use Rattle.std.specs.Prelude.{◌≡◌, ◌≤◌, All, IfOk, IfSome, length};
+ghost use Rattle.std.specs.Prelude.{◌≡◌, All, IfOk, IfSome, length};
 ghost use Rattle.cut_pool.specs.Shores.{Belongs};
 ghost use Rattle.branch_rules.specs.Limits.{IsShoreOf};
 ghost use Rattle.decision_chains.specs.Pairs.{ArePairsIn};
 ghost use Rattle.route_pricing.specs.Tables.{IsRoom};
 ghost use Rattle.shore_prices.specs.Proposals.{IsGrown, IsProposal};
 ghost use Rattle.price_ascent.specs.Ascents.{IsAscent};
-ghost use Rattle.price_ascent.specs.Points.{IsActive};
 
 use crate::active::active_shores;
 use crate::climbing::Ascent;

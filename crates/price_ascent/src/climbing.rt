@@ -1,11 +1,9 @@
 // The ascent.
-ghost use Rattle.std.specs.Prelude.{◌≡◌, ◌++◌, All, IfOk, IfSome, OnOk, length};
+ghost use Rattle.std.specs.Prelude.{◌≡◌, All, IfOk, IfSome};
 ghost use Rattle.cut_pool.specs.Shores.{Belongs};
-ghost use Rattle.route_pricing.specs.Pricing.{IsServicePrice};
 ghost use Rattle.route_pricing.specs.Tables.{IsRoom};
 ghost use Rattle.price_ascent.specs.Ascents.{IsAscent};
 ghost use Rattle.price_ascent.specs.Points.{IsActive, IsPoint};
-ghost use Rattle.price_points.specs.Services.{AreServicePrices};
 ghost use Rattle.price_points.specs.Towns.{IsTown};
 
 use crate::active::{Active, is_among};

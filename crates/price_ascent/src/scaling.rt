@@ -1,5 +1,5 @@
 // Weights that no street is overloaded by, and the deadhead prices that they leave.
-ghost use Rattle.std.specs.Prelude.{◌≡◌, ◌≤◌, All, IfOk, length};
+ghost use Rattle.std.specs.Prelude.{◌≤◌, All, IfOk};
 ghost use Rattle.deadhead_paths.specs.Prices.{ArePrices};
 ghost use Rattle.route_pricing.specs.Pricing.{IsServicePrice};
 

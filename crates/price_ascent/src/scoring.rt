@@ -1,5 +1,5 @@
 // What a point is worth, and how the tours that it leaves least serve and cross.
-ghost use Rattle.std.specs.Prelude.{◌≡◌, ◌≤◌, All, IfOk, IfSome};
+ghost use Rattle.std.specs.Prelude.{◌≡◌, ◌≤◌, IfOk, IfSome};
 ghost use Rattle.carp_base.specs.Problem.{IsRequired};
 ghost use Rattle.route_pricing.specs.Tables.{IsRoom};
 ghost use Rattle.route_pricing.specs.Values.{IsRate};

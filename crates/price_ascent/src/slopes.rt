@@ -1,5 +1,5 @@
 // In which direction the numbers of a point move, and how far.
-ghost use Rattle.std.specs.Prelude.{◌≡◌, ◌≤ℤ◌, pos, All, IfOk, length};
+ghost use Rattle.std.specs.Prelude.{All, IfOk};
 ghost use Rattle.route_pricing.specs.Pricing.{IsServicePrice};
 ghost use Rattle.price_ascent.specs.Points.{IsActive, IsPoint};
 ghost use Rattle.price_points.specs.Services.{AreServicePrices};

@@ -1,5 +1,5 @@
 // Numbers of a price set, and sums that stay within them.
-ghost use Rattle.std.specs.Prelude.{◌≤◌, ◌<◌, ◌≤ℤ◌, pos, All};
+ghost use Rattle.std.specs.Prelude.{◌≤◌, ◌≤ℤ◌, pos, All};
 ghost use Rattle.route_pricing.specs.Pricing.{IsServicePrice};
 
 /// The denominator of the sets that are proposed.

@@ -1,5 +1,5 @@
 // The values of proposed sets on small towns, worked out by hand.
-ghost use Rattle.std.specs.Prelude.{◌≡◌, ◌≤◌, All, length};
+ghost use Rattle.std.specs.Prelude.{◌≡◌, All, length};
 ghost use Rattle.cut_pool.specs.Shores.{Belongs};
 ghost use Rattle.branch_rules.specs.Limits.{IsPriceNumber};
 

@@ -1,5 +1,5 @@
 // Labels carried over the streets.
-ghost use Rattle.std.specs.Prelude.{◌≡◌, ◌+◌, ◌<◌, ◌≤◌, ◌≢◌, ◌-◌, ℕ, true, false, length, slice_index, IsTrue};
+ghost use Rattle.std.specs.Prelude.{◌≡◌, ◌+◌, ◌<◌, ◌≤◌, ◌≢◌, ℕ, true, false, length, slice_index, IsTrue};
 ghost use Rattle.carp_base.specs.Problem.{IsVertex, IsEdgeNumber, IsReached, edge_at};
 ghost use Rattle.road_network.specs.Incidence.{incident, has_end};
 ghost use Rattle.route_pricing.specs.Partial.{IsGrid, between};

@@ -1,5 +1,5 @@
 // Surcharges, copied into a grid.
-ghost use Rattle.std.specs.Prelude.{◌≡◌, ℕ, ◌+◌, ◌*◌, ◌<◌, ◌≤◌, ◌⊎◌, length, slice_index, slice_index_or, ℤ, pos, ◌+ℤ◌, All};
+ghost use Rattle.std.specs.Prelude.{◌≡◌, ℕ, ◌+◌, ◌*◌, ◌<◌, ◌≤◌, length, slice_index, slice_index_or, ℤ, pos, ◌+ℤ◌, All};
 ghost use Rattle.route_pricing.specs.declared.charging.Charge.TheVariants.{Free};
 ghost use Rattle.route_pricing.specs.Partial.{base, least_raised};
 ghost use Rattle.route_pricing.specs.Pricing.{AreSurcharges, IsSurcharge};

@@ -1,5 +1,5 @@
 // Small data on which a fact that no call decides holds, and on which it does not.
-ghost use Rattle.std.specs.Prelude.{◌≡◌, ◌≢◌, [], ◌∷◌, pos, neg_ℤ};
+ghost use Rattle.std.specs.Prelude.{◌≡◌, [], ◌∷◌, pos, neg_ℤ};
 ghost use Rattle.route_pricing.specs.Pricing.{AreSurcharges, IsServicePrice, IsSurcharge, service_price, surcharge_in};
 
 fn a_price_of_a_service()

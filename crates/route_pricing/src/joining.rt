@@ -1,5 +1,5 @@
 // The least of the partial tours that a task may follow, found among all tasks.
-ghost use Rattle.std.specs.Prelude.{◌≡◌, ◌+◌, ◌*◌, ◌^◌, ◌<◌, ◌≤◌};
+ghost use Rattle.std.specs.Prelude.{◌≡◌, ◌+◌, ◌^◌, ◌<◌, ◌≤◌};
 ghost use Rattle.route_pricing.specs.Partial.{least_raised, IsGrid, IsSuccessor, IsLeastJoin, IsLeastUpTo, AreFilled, leg, may_follow, surcharge_at, width, column_task};
 
 use crate::charging::Charge;

@@ -1,7 +1,7 @@
 // The legs to tasks on edges with surcharges, in 64 bits.
-ghost use Rattle.std.specs.Prelude.{◌≡◌, ℕ, ◌+◌, ◌*◌, ◌<◌, ◌≤◌, length, slice_index};
+ghost use Rattle.std.specs.Prelude.{◌≡◌, ◌*◌, ◌<◌, length};
 ghost use Rattle.route_pricing.specs.Partial.{IsGrid, IsSuccessor, column_task, width};
-ghost use Rattle.route_pricing.specs.Legs.{AreLegs, IsCapped, IsLegRow, IsShortLeg, KeepsRows, far, legs_written};
+ghost use Rattle.route_pricing.specs.Legs.{AreLegs, IsCapped, IsLegRow, IsShortLeg, KeepsRows, legs_written};
 
 use crate::charging::Charge;
 use crate::grid::Grid;

@@ -1,5 +1,5 @@
 // The rows of small grids.
-ghost use Rattle.std.specs.Prelude.{◌≡◌, ◌+◌, ◌<◌, All, IfOk, IsTrue};
+ghost use Rattle.std.specs.Prelude.{◌≡◌, ◌+◌, All, IfOk, IsTrue};
 ghost use Rattle.route_pricing.specs.Partial.{AreFilled, IsGrid};
 ghost use Rattle.route_pricing.specs.Pricing.{IsGridRoom, IsServicePrice};
 

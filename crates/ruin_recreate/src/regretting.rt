@@ -1,7 +1,6 @@
 // Putting services back by regret (Potvin and Rousseau 1993; Ropke and Pisinger 2006): the service goes first that costs the
 // most more in its second best tour than in its best one, since others could take the room that only it needs.
 ghost use Rattle.std.specs.Prelude.{◌≡◌, ◌<◌, OnOk, length};
-ghost use Rattle.std.specs.List.{All};
 ghost use Rattle.ruin_recreate.specs.Boards.{IsBoard};
 ghost use Rattle.ruin_recreate.specs.Annealing.{AreOn, AreOut, IsSequenceOn};
 

@@ -1,5 +1,5 @@
 // Takes strings of services out of the tours near one another.
-ghost use Rattle.std.specs.Prelude.{◌≡◌, ℕ, ◌+◌, ◌/◌, ◌<◌, ◌≤◌, IfOk, OnOk, length};
+ghost use Rattle.std.specs.Prelude.{◌≡◌, ◌+◌, ◌/◌, ◌<◌, ◌≤◌, IfOk, OnOk, length};
 ghost use Rattle.ruin_recreate.specs.Boards.{IsBoard};
 ghost use Rattle.ruin_recreate.specs.Annealing.{IsSequenceOn, IsRuinOn};
 

@@ -1,6 +1,6 @@
 // Shores with weights that are placed in a pool, and the list of their weights.
-ghost use Rattle.std.specs.Prelude.{◌≡◌, ◌+◌, ◌≤◌, All, IfOk, IfSome, length};
-ghost use Rattle.cut_pool.specs.Pools.{IsHeldAs};
+ghost use Rattle.std.specs.Prelude.{◌≡◌, ◌+◌, ◌≤◌, All, IfNone, IfOk, IfSome, length};
+ghost use Rattle.cut_pool.specs.Pools.{Holds, IsHeldAs};
 ghost use Rattle.cut_pool.specs.Shores.{Belongs};
 ghost use Rattle.branch_rules.specs.Limits.{IsPriceNumber};
 ghost use Rattle.shore_prices.specs.Offers.{IsOffer};
@@ -61,8 +61,8 @@ pub fn place_weight(
     Ok(())
 }
 
-/// The number of a shore of the instance in a pool, where it is placed behind the others if it is new, or `None` if
-/// the pool is full.
+/// The number of a shore of the instance in a pool, where it is placed behind the others if it is new. It is `None` if
+/// the pool holds 2,000 shores, and this is none of them.
 ///
 /// It asks for a pool of shores that belong to the instance, which stay where they are. The only error is want of
 /// memory. It takes expected time in proportion to the number of the shore's vertices.
@@ -70,6 +70,7 @@ pub fn number_in(inst: &Instance, pool: &mut ShorePool, shore: Shore) -> Result<
     requires shore { Belongs inst.now shore }
     requires belong { All (Belongs inst.now) pool.old }
     ensures held { IfOk result (λ found. IfSome found (IsHeldAs pool.new shore)) }
+    ensures full { IfOk result (λ found. IfNone found ((¬ (Holds pool.old shore)) × (length pool.old ≡ 2000))) }
     ensures grown { IsGrown pool.old pool.new }
     ensures belong { All (Belongs inst.now) pool.new }
 {

@@ -1,5 +1,5 @@
 // The shores of a program.
-ghost use Rattle.std.specs.Prelude.{◌≡◌, ◌<◌, ◌↔◌, All, IfOk, IsTrue, length};
+ghost use Rattle.std.specs.Prelude.{◌↔◌, IsTrue};
 ghost use Rattle.std.specs.List.{Contains};
 ghost use Rattle.shore_program.specs.Tableaus.{shores_of};
 

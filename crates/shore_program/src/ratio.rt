@@ -1,5 +1,5 @@
 // Which row leaves the tableau.
-ghost use Rattle.std.specs.Prelude.{◌≡◌, ◌*◌, ◌<◌, ◌⊎◌, ◌+◌, length, pos, IfSome, ◌≤ℤ◌};
+ghost use Rattle.std.specs.Prelude.{◌≡◌, ◌*◌, ◌<◌, ◌⊎◌, ◌+◌, length, IfSome};
 ghost use Rattle.shore_program.specs.Tableaus.{IsRatio};
 
 use crate::fixed::product;

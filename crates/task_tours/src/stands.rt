@@ -1,6 +1,6 @@
 // Where a task starts and ends.
 ghost use Rattle.std.specs.Prelude.{◌≡◌};
-ghost use Rattle.carp_base.specs.Problem.{IsRequired, IsVertex, edge_at, head_of, tail_of};
+ghost use Rattle.carp_base.specs.Problem.{IsRequired, edge_at, head_of, tail_of};
 ghost use Rattle.task_tours.specs.Tours.{IsStand};
 
 use carp_base::{Instance, Task};

@@ -1,8 +1,6 @@
 // The least deadhead price over a shore.
 ghost use Rattle.std.specs.Prelude.{◌≡◌, ◌⊎◌, ◌≤◌, length, true};
-ghost use Rattle.carp_base.specs.Problem.{Problem};
 ghost use Rattle.plan_model.specs.Plans.{crosses};
-ghost use Rattle.cut_pool.specs.Pools.{IsShoreNumber, shore_at};
 ghost use Rattle.cut_pool.specs.Shores.{is_in};
 ghost use Rattle.tight_prices.specs.Searches.{IsOver};
 

@@ -1,5 +1,5 @@
 // The weights of a set with one of them greater.
-ghost use Rattle.std.specs.Prelude.{◌≡◌, ℕ, ◌<◌, ◌≤◌, ◌++◌, ◌+ℤ◌, [], pos, All, IfOk, OnOk, length, map};
+ghost use Rattle.std.specs.Prelude.{◌≡◌, ℕ, ◌≤◌, ◌++◌, ◌+ℤ◌, [], pos, All, IfOk, OnOk, length, map};
 ghost use Rattle.std.specs.List.Sorted.{IsStrictlyIncreasing};
 ghost use Rattle.branch_rules.specs.Limits.{IsFineWeight, IsPriceNumber};
 ghost use Rattle.tight_prices.specs.Places.{IsPlaceOf, IsRestOf};

@@ -4,7 +4,7 @@ ghost use Rattle.cut_pool.specs.Pools.{IsShoreNumber};
 ghost use Rattle.branch_rules.specs.Refusals.{NoneTooHeavy};
 ghost use Rattle.route_pricing.specs.Tables.{IsRoom};
 ghost use Rattle.tight_prices.specs.Fillings.{IsFilledFor};
-ghost use Rattle.tight_prices.specs.Probes.{IsOutcome, IsPaying, IsSetting, ProbeSays, ground_of};
+ghost use Rattle.tight_prices.specs.Probes.{IsOutcome, IsSetting, ProbeSays, ground_of};
 
 use branch_rules::{Branch, PriceSet, surcharge_table, surcharges_are_bond_weights};
 use carp_base::{Allowed, Fail, Instance, Memory};

@@ -7,7 +7,7 @@ ghost use Rattle.cut_pool.specs.Shores.{Belongs};
 ghost use Rattle.decision_chains.specs.Pairs.{ArePairsIn};
 ghost use Rattle.decision_chains.specs.declared.decision.Decision.TheVariants.{No};
 
-use branch_rules::{Branch, Decision, PriceSet, Weight};
+use branch_rules::{Branch, Decision, PriceSet, Weight, is_shore_of};
 use carp_base::Instance;
 use cut_pool::{Shore, ShorePool};
 use road_network::Network;
@@ -56,15 +56,6 @@ fn are_weights_on(inst: &Instance, pool: &ShorePool, set: &PriceSet) -> bool
         }
     }
     true
-}
-
-fn is_shore_of(inst: &Instance, pool: &ShorePool, shore: u32) -> bool
-    ensures { IsTrue result → IsShoreOf inst.now pool.now shore }
-{
-    if shore == 0 || shore > pool.len() {
-        return false;
-    }
-    pool.shore(shore).belongs(inst)
 }
 
 // The set of these prices, without weights.

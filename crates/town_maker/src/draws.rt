@@ -1,6 +1,6 @@
 // What is drawn for the streets.
-ghost use Rattle.std.specs.Prelude.{◌≡◌, ◌+◌, ◌<◌, ◌≤◌, ◌++◌, [], ◌∷◌, filter, OnOk};
-ghost use Rattle.town_maker.specs.Draws.{drawn, drawn_demand, drawn_edge, drawn_edges, drawn_from};
+ghost use Rattle.std.specs.Prelude.{◌≡◌, ◌+◌, ◌<◌, ◌++◌, [], ◌∷◌, filter, OnOk};
+ghost use Rattle.town_maker.specs.Draws.{drawn_demand, drawn_edge, drawn_edges, drawn_from};
 ghost use Rattle.town_maker.specs.Towns.{has_demand, has_none};
 
 use crate::grid::Street;

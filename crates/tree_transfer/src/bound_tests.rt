@@ -1,5 +1,5 @@
 // What small trees show, worked by hand.
-ghost use Rattle.std.specs.Prelude.{◌≡◌, ◌≤◌, ◌^◌, ◌<◌, All, IfOk, IsTrue, [], ◌∷◌, length, pos};
+ghost use Rattle.std.specs.Prelude.{◌≡◌, ◌≤◌, ◌^◌, ◌<◌, IfOk, IsTrue, [], ◌∷◌, length};
 ghost use Rattle.decision_chains.specs.Pairs.{ArePairsIn};
 ghost use Rattle.branch_rules.specs.Limits.{AreShoresIn, IsPriceNumber};
 ghost use Rattle.tree_transfer.specs.Bounding.{NodeWouldShow, NodesWouldShow};

@@ -1,5 +1,5 @@
 // Price sets that small trees name, worked by hand.
-ghost use Rattle.std.specs.Prelude.{◌≡◌, ◌≤◌, All, IfOk, IsTrue, length};
+ghost use Rattle.std.specs.Prelude.{◌≡◌, All, IfOk, IsTrue, length};
 ghost use Rattle.grown_trees.specs.Growth.{IsSpelledNode};
 
 use crate::keep_named_sets;

@@ -1,12 +1,12 @@
 // Small instances and trees for the tests.
 ghost use Rattle.std.specs.Prelude.{◌≡◌, ◌+◌, ◌^◌, ◌<◌, ◌≤◌, All, IfOk, IfSome, IsTrue};
-ghost use Rattle.carp_base.specs.Problem.{IsRequired};
 ghost use Rattle.tree_transfer.specs.Samples.{Gathers, IsNodeOf, IsPreorder};
 ghost use Rattle.tree_transfer.specs.Shown.{AreTreeNodes};
 
-use branch_rules::{Node, Tree};
+use branch_rules::{MOST_K, Node, Tree, is_shore_of};
 use carp_base::{Instance, Memory, RawEdge};
 use cut_pool::{Shore, ShorePool};
+use decision_chains::is_pair;
 use std::alloc::{AllocError, Global};
 use std::process::Abort;
 use std::test::Fail;
@@ -93,22 +93,13 @@ pub(crate) fn text_of(alloc: Global, tree: &Tree) -> Result<Vec<u8>, AllocError>
     Ok(text)
 }
 
-// Whether a number is that of a required edge.
-fn is_required(inst: &Instance, e: u32) -> bool
-    ensures { IsTrue result → IsRequired inst.now e }
-{
-    1 <= e && e <= inst.required()
-}
-
 // Whether the pair of a node is of required edges, and its shore one of the pool that belongs to the instance.
 fn is_node_of(inst: &Instance, pool: &ShorePool, node: &Node) -> bool
     ensures { IsTrue result → IsNodeOf inst.now pool.now node.now }
 {
     match *node {
-        Node::Pair { a, b } => a != b && is_required(inst, a) && is_required(inst, b),
-        Node::Cut { shore, k } => {
-            k <= 1_000_000 && 1 <= shore && shore <= pool.len() && pool.shore(shore).belongs(inst)
-        }
+        Node::Pair { a, b } => is_pair(inst, a, b),
+        Node::Cut { shore, k } => k <= MOST_K && is_shore_of(inst, pool, shore),
         _ => true,
     }
 }

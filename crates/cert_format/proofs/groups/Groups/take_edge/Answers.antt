@@ -4,7 +4,8 @@ use Rattle.cert_lines.specs.Lines.{Remainder}
 use Rattle.cert_format.specs.Numbers.{is_within}
 use Rattle.cert_format.specs.Groups.{HoldsGroups, Awaits, LeftIs, IsNoWordAfter}
 use Rattle.cert_format.specs.declared.groups.Awaited.{Awaited}
-use Rattle.cert_format.proofs.GroupSteps.{more_at, at_edge, edge_more, edge_last, left_less, none_left}
+use Rattle.cert_format.proofs.GroupSteps.{more_at, at_edge}
+use Rattle.cert_format.proofs.EdgeSteps.{edge_more, edge_last, left_less, none_left}
 use Rattle.cert_format.proofs.groups.Groups.take_edge.Goals as goal
 
 pub returns-in_default : goal.returns-in_default
