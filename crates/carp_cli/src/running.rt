@@ -65,10 +65,10 @@ use std::alloc::Global;
 /// Over [`crate::DirShelf`] and [`crate::StdSink`] it says that each answer is founded (`specs/Founded.antt`):
 ///
 /// - A refusal is one of those that the command has. `make` and `drill` are never refused.
-/// - What a command says when it is done is so of bytes that the shelf gave in this call: its count of given bytes rose
-///   by at least the length of each text.
-/// - A certificate is accepted only if such bytes spell an instance, and such bytes a certificate that is good for it,
-///   with the cost and the bound that are to be printed.
+/// - What a command says when it is done is so of some texts: the shelf's count of given bytes rose in this call by at
+///   least the length of each.
+/// - A certificate is accepted only if such a text spells an instance, and such a text a certificate that is good for
+///   it, with the cost and the bound that are to be printed.
 /// - A sheet, an upgrade, an edit and an improvement rest on such a certificate. A solution, a round and a fleet rest
 ///   on such an instance.
 ///

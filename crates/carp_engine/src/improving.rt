@@ -33,8 +33,8 @@ use tree_transfer::{keep_named_sets, named_sets_suffice, note_nodes};
 /// if the bound is below the cost, the tree has at least as many turns as the old one had for the old cost and so many
 /// more, or 1,048,576.
 ///
-/// Price sets that no leaf of the old tree names are left out before. If its leaves name 256, no set is added, and they
-/// keep those that they have. If the old certificate has 2,000 shores, none is added. The only error is want of memory.
+/// Price sets that no leaf of the old tree names are left out before. If its leaves name 256, or the old certificate has
+/// 2,000 shores, the limits of a certificate leave room for no more. The only error is want of memory.
 ///
 /// Beside what `solve` takes for helpers and turns, it takes the time of a check of the old tree.
 pub fn improve<P: Proposer, W: Watch>(

@@ -48,7 +48,7 @@ pub struct Solved {
 /// let scanner: Box<dyn Proposer> = Box::new(alloc, Scanner::new(1))?;
 /// let mut helpers: Vec<Box<dyn Proposer>> = Vec::new(alloc);
 /// helpers.push(scanner)?;
-/// let solved = solve(alloc, &inst, 64, 1, &mut helpers)?;
+/// let solved = solve(alloc, &inst, 64, 1, &mut helpers, &mut Silent)?;
 /// assert_eq!(rt; (solved.cert.cost, solved.cert.bound), (10, 10));
 /// ```
 pub fn solve<P: Proposer, W: Watch>(

@@ -47,8 +47,8 @@ pub struct Checked {
 const PIECE: usize = 65_536;
 
 /// Whether the certificate that a name holds is good for an instance, or the first reason why it is not. The answer is
-/// that of [`check`](crate::check) for the certificate of these bytes. Whether or not the shelf tells its contents, it
-/// gave the bytes of this certificate in this call.
+/// that of [`check`](crate::check) for the certificate of these bytes. Whether or not the shelf tells its contents, the
+/// answer is that for a certificate whose text is no longer than the bytes that the shelf gave in this call.
 ///
 /// `limit` is in bytes, below 2^40. The call looks for pieces of at most 64 KiB until a look finds the end, as
 /// [`read_whole`](carp_outside::read_whole) does. Its memory does not grow with the number of nodes: it keeps one

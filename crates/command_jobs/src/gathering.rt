@@ -19,16 +19,18 @@ use dat_text::readings_are_unique;
 use std::alloc::Global;
 
 /// Reads the files of a command, each of them whole before the next, and makes its job of them. The first file that
-/// cannot be read, is too long or is bad ends it with its status. A command without files has its job at once, and is
-/// never refused.
+/// cannot be read, is too long or is bad ends it with its status; of `edit`, whose three files are all read before what
+/// they hold is looked at, a file that cannot be read or is too long comes before a bad one. A command without files
+/// has its job at once, and is never refused.
 ///
 /// A refusal is [`Status::ReadFault`] or [`Status::TooLong`], or one for the bytes of the files that the command reads:
 /// [`Status::BadInstance`] of an instance, [`Status::BadCertificate`] or [`Status::Rejected`] of a certificate,
 /// [`Status::BadEdit`] of edits, and [`Status::NotJoined`] only of `postman`.
 ///
-/// Whether or not the shelf tells its contents, the job rests on bytes that it gave in this call: the certificate of a
-/// check, a sheet, an upgrade, an edit and an improvement is good for the instance. If it tells them, these are the
-/// bytes that the names hold, and what they hold decides, if no look failed at a file that had to be looked at.
+/// Whether or not the shelf tells its contents, the job rests on texts that are no longer than what it gave in this
+/// call: the certificate of a check, a sheet, an upgrade, an edit and an improvement is good for the instance. If it
+/// tells them, these are the bytes that the names hold, and what they hold decides, if no look failed at a file that had
+/// to be looked at.
 ///
 /// `Fail::Memory` says only that there was not enough memory. It takes the time of reading the files and checking the
 /// certificate, for `postman` also of the round, and for `edit` of the edited instance.

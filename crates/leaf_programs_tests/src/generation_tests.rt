@@ -118,3 +118,30 @@ fn nothing_is_proposed_if_no_edge_is_required(rt: HostRuntime) -> Result<(), Fai
     assert_eq!(rt; offered_freely(alloc, &idle, 40)?, Some(0));
     Ok(())
 }
+
+// So many streets of cost 10 from the depot to one other vertex, no two of which one vehicle can serve.
+fn parallel_streets(alloc: Global, count: usize) -> Result<Instance, Fail> {
+    let mut required = Vec::new(alloc);
+    for _ in 0..count {
+        required.push(street(1, 2, 10, 2))?;
+    }
+    Ok(Instance::build(alloc, 2, 1, 3, &required, &[])?)
+}
+
+// Each of six tours drives back once.
+#[test]
+fn small_instances_are_raised(rt: HostRuntime) -> Result<(), Fail> {
+    let alloc = rt.alloc();
+    let few = parallel_streets(alloc, 6)?;
+    let value = offered_freely(alloc, &few, 0)?.unwrap_or(0);
+    assert!(rt; value >= 119_000 && value <= 120_000);
+    Ok(())
+}
+
+#[test]
+fn nothing_is_proposed_for_more_than_120_required_edges(rt: HostRuntime) -> Result<(), Fail> {
+    let alloc = rt.alloc();
+    let many = parallel_streets(alloc, 121)?;
+    assert_eq!(rt; offered_freely(alloc, &many, 0)?, Some(0));
+    Ok(())
+}

@@ -180,3 +180,17 @@ fn columns_that_go(rt: HostRuntime) -> Result<(), Fail> {
     expect_value(&rt, alloc, &store, &mut program, false, 18_000)?;
     Ok(())
 }
+
+// The columns of the first numbers stay, whatever they cost.
+#[test]
+fn columns_that_stay(rt: HostRuntime) -> Result<(), Fail> {
+    let alloc = rt.alloc();
+    let store = line(alloc, 3)?;
+    let mut program = program_of(alloc, &store)?;
+    expect_value(&rt, alloc, &store, &mut program, false, 18_000)?;
+    program.forget_columns(alloc, &store, 0, 6)?;
+    assert!(rt; program.columns().len() == 6);
+    program.forget_columns(alloc, &store, 0, 0)?;
+    assert!(rt; program.columns().len() < 6);
+    Ok(())
+}
