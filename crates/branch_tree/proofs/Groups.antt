@@ -11,8 +11,8 @@ use Rattle.branch_rules.specs.Trees.{no_prices}
 use Rattle.decision_chains.specs.declared.decision.Decision.{Decision}
 use Rattle.tight_prices.specs.Tight.{IsTight}
 use Rattle.dual_master.specs.Raising.{HasGroupsFrom, IsNoLower}
-use Rattle.branch_tree.specs.Leaves.{IsRaisedFrom, set_in}
-use Rattle.branch_tree.specs.Searches.{HasGroupsInRange, IsGroupInRange}
+use Rattle.branch_tree.specs.Leaves.{IsRaisedFrom}
+use Rattle.branch_tree.specs.Searches.{HasGroupsInRange, IsGroupInRange, set_in}
 
 pub none_in_range : (set : Prices) → set.groups ≡ [] → HasGroupsInRange set
 none_in_range set none = subst (All IsGroupInRange) (sym none) (All-nil IsGroupInRange)

@@ -22,9 +22,9 @@ use Rattle.grown_trees.specs.Stands.{HoldsShores}
 use Rattle.dual_master.specs.Growth.{GrowthKeepsSets}
 use Rattle.dual_master.specs.Raising.{IsNoLower}
 use Rattle.branch_tree.specs.Known.{Known}
-use Rattle.branch_tree.specs.Leaves.{IsRaisedFrom, MayStand, NamesSet, set_in, with_pool}
+use Rattle.branch_tree.specs.Leaves.{IsRaisedFrom, MayStand, NamesSet, with_pool}
+use Rattle.branch_tree.specs.Searches.{HasGroupsInRange, IsHeld, IsHeldSet, State, set_in, support_in}
 use Rattle.branch_tree.proofs.Groups.{kept_in_range}
-use Rattle.branch_tree.specs.Searches.{HasGroupsInRange, IsHeld, IsHeldSet, State, support_in}
 use Rattle.branch_tree.specs.Values.{just_above}
 
 pub grown_at : (pool more : List (List ℕ)) (i : ℕ) → IsShoreNumber pool i → shore_at (pool ++ more) i ≡ shore_at pool i

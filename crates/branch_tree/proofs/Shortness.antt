@@ -16,7 +16,7 @@ step_keeps : (p : Problem) (before after : State) (turn : Turn) → IsStep p bef
 step_keeps p before after Done step short = subst (IsShortPlan p) (sym step.does.1.plan) short
 step_keeps p before after Split step short = subst (IsShortPlan p) (sym step.does.plan) short
 step_keeps p before after Closed step short = by step.does.leaf.node step.does.by where
-  by : (node : Node) → IsClosedBy p before after step.does.branch step.does.leaf node → IsShortPlan p after.plan
+  by : (node : Node) → IsClosedBy p before after step.does.branch step.does.old step.does.leaf node → IsShortPlan p after.plan
   by (nodes.Pair a b) closed = absurd closed
   by (nodes.Cut shore k) closed = absurd closed
   by (nodes.Price set) closed = subst (IsShortPlan p) (sym closed.4) short

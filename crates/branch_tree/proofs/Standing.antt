@@ -22,8 +22,8 @@ use Rattle.grown_trees.specs.Growth.{AreSound, Fraction, IsSoundNode, NodeReache
 use Rattle.grown_trees.specs.Laws.{IsKept, IsOpenDecision}
 use Rattle.grown_trees.specs.Stands.{NodeFits, stands, with_sets}
 use Rattle.branch_tree.specs.Known.{Known}
-use Rattle.branch_tree.specs.Leaves.{IsAtLeaf, IsSplitBy, IsSplitNode, MayBegin, MayStand, NamesSet, set_in, split_nodes}
-use Rattle.branch_tree.specs.Searches.{HasGroupsInRange, IsHeld, IsHeldSet, State, support_in}
+use Rattle.branch_tree.specs.Leaves.{IsAtLeaf, IsSplitBy, IsSplitNode, MayBegin, MayStand, NamesSet, split_nodes}
+use Rattle.branch_tree.specs.Searches.{HasGroupsInRange, IsHeld, IsHeldSet, State, set_in, support_in}
 use Rattle.branch_tree.specs.Splits.{split_tree}
 use Rattle.grown_trees.specs.Values.{IsMostShown, IsShown}
 use Rattle.branch_tree.specs.declared.children.Children.{Children}

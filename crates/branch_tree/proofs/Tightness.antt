@@ -13,7 +13,8 @@ use Rattle.branch_rules.specs.declared.weight.Weight.{Weight}
 use Rattle.shore_prices.specs.Proposals.{IsGrown}
 use Rattle.tight_prices.specs.Tight.{IsNeededSingle, IsPriceTight, IsTight, IsWeightTight, add_weight, put_weight, with_price, with_weight}
 use Rattle.dual_master.specs.Growth.{GrowthKeepsSets}
-use Rattle.branch_tree.specs.Leaves.{IsRaisedFrom, set_in}
+use Rattle.branch_tree.specs.Leaves.{IsRaisedFrom}
+use Rattle.branch_tree.specs.Searches.{set_in}
 use Rattle.branch_tree.proofs.Pools.{grown_at, numbers_of, shore_of_grown}
 
 -- what holds both ways holds whatever a test says

@@ -15,14 +15,15 @@ use Rattle.branch_rules.specs.declared.node.Node.TheVariants as nodes
 use Rattle.decision_chains.specs.FixedValue.{HasFixedValue}
 use Rattle.shore_prices.specs.Proposals.{IsGrown}
 use Rattle.tight_prices.specs.Tight.{IsTight}
+use Rattle.dual_master.specs.Raising.{IsNoLower}
 use Rattle.grown_trees.specs.Growth.{AreSound, turns_in}
 use Rattle.grown_trees.specs.Places.{IsLeaf}
 use Rattle.grown_trees.specs.Stands.{stands, with_sets}
 use Rattle.grown_trees.specs.declared.growing.GrowingNode.{GrowingNode}
 use Rattle.branch_tree.specs.Known.{Known}
-use Rattle.branch_tree.specs.Leaves.{IsAtLeaf, IsSplitBy, MayStand, NamesSet, set_in, split_nodes, with_news, with_pool, with_set}
+use Rattle.branch_tree.specs.Leaves.{IsAtLeaf, IsSplitBy, MayStand, NamesSet, split_nodes, with_news, with_pool, with_set}
+use Rattle.branch_tree.specs.Searches.{IsHeld, IsHeldSet, State, set_in, support_in}
 use Rattle.task_tours.specs.Shorts.{IsAllowedPlan, IsShortPlan}
-use Rattle.branch_tree.specs.Searches.{IsHeld, IsHeldSet, State, support_in}
 use Rattle.branch_tree.specs.Splits.{split_tree}
 use Rattle.branch_tree.specs.Steps.{HasNewSet, IsClosedBy, IsStep}
 use Rattle.branch_tree.specs.Values.{just_above}
@@ -57,7 +58,7 @@ module _ (known : Known) (p : Problem) (s : State) (held : IsHeld p s) (place : 
 
   module _ (sub : Tree) (leaf : GrowingNode) (plan : List (List Step)) (cost : ℕ) (sound : AreSound (support_in p s) (just_above s.least) (stands branch sub) (leaf ∷ [])) (is_leaf : IsLeaf leaf.node)
       (no_dearer : cost ≤ s.cost) (allowed : IsAllowedPlan p plan) (cost_is : cost ≡ plan_cost p plan) (closed : cost ≤ leaf.shows)
-      (by : IsClosedBy p s (with_news (record s { plan = plan; cost = cost }) place (leaf ∷ [])) branch leaf leaf.node) where
+      (by : IsClosedBy p s (with_news (record s { plan = plan; cost = cost }) place (leaf ∷ [])) branch (old known p s held place branch at) leaf leaf.node) where
     abbrev closed_state : List Prices → State
     closed_state sets =
         let entries = take place s.nodes ++ ((leaf ∷ []) ++ drop (place + 1) s.nodes) in
@@ -118,11 +119,14 @@ module _ (known : Known) (p : Problem) (s : State) (held : IsHeld p s) (place : 
     few_then : length (s.sets ++ set ∷ []) ≤ 256
     few_then = omega (arith, length-append s.sets (set ∷ []), few)
 
-    new_set : (after : State) → after.sets ≡ s.sets ++ set ∷ [] → after.pool ≡ pool → HasNewSet p s after branch
+    new_set : (after : State) → after.sets ≡ s.sets ++ set ∷ [] → after.pool ≡ pool → HasNewSet p s after branch (old known p s held place branch names.at)
     new_set after added pool_is = record {
       set = set;
       added = added;
       tight = subst (λ (xs : List (List ℕ)). IsTight p xs (length s.pool) branch set) (sym pool_is) tight;
+      number = number;
+      named = names.named no_entry;
+      no_lower = subst (λ (xs : List (List ℕ)). IsNoLower p branch xs (set_in s.sets number) xs set) (sym pool_is) may.no_lower;
     }
 
     module _ (most : ℕ) (shown : IsMostShown set.unit (value_of (rules_of p pool branch) set) most) where

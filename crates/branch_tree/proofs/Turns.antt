@@ -23,9 +23,9 @@ use Rattle.grown_trees.specs.Places.{IsLeaf}
 use Rattle.grown_trees.specs.Stands.{NodeShows}
 use Rattle.grown_trees.specs.declared.growing.GrowingNode.{GrowingNode}
 use Rattle.branch_tree.specs.Known.{Known}
-use Rattle.branch_tree.specs.Leaves.{HasClosed, HasSplit, IsAtLeaf, IsFramed, IsRaisedFrom, IsRepriced, IsTurn, MayStand, NamesSet, set_in, split_nodes, with_cheaper, with_news, with_pool, with_set}
+use Rattle.branch_tree.specs.Leaves.{HasClosed, HasSplit, IsAtLeaf, IsFramed, IsRaisedFrom, IsRepriced, IsTurn, MayStand, NamesSet, split_nodes, with_cheaper, with_news, with_pool, with_set}
+use Rattle.branch_tree.specs.Searches.{IsHeld, IsSearch, State, set_in, state_of, support_in}
 use Rattle.task_tours.specs.Shorts.{IsAllowedPlan, IsShortPlan}
-use Rattle.branch_tree.specs.Searches.{IsHeld, IsSearch, State, state_of, support_in}
 use Rattle.branch_tree.specs.Steps.{IsAsBefore, IsStep}
 use Rattle.branch_tree.specs.declared.search.Search.{Search}
 use Rattle.branch_tree.specs.declared.search.Turn.{Turn}

@@ -1,5 +1,5 @@
 -- The leaf that a step takes, and what is put in its place. No public contract speaks of this.
-use Rattle.std.specs.Prelude.{◌≡◌, ℕ, zero, suc, ◌+◌, ◌-◌, ◌*◌, ◌≤◌, List, [], ◌∷◌, ◌++◌, take, drop, map, length, slice_index_or, if◌then◌else◌, nat_lt, Bool, Result, IfOk, OnErr}
+use Rattle.std.specs.Prelude.{◌≡◌, ℕ, ◌+◌, ◌-◌, ◌*◌, ◌≤◌, List, [], ◌∷◌, ◌++◌, take, drop, map, length, slice_index_or, if◌then◌else◌, nat_lt, Bool, Result, IfOk, OnErr}
 use Rattle.std.specs.List.{All}
 use Rattle.carp_base.specs.declared.fail.Memory.{Memory}
 use Rattle.carp_base.specs.Problem.{Problem}
@@ -10,7 +10,7 @@ use Rattle.branch_rules.specs.Decisions.{cuts_of, rules_of, IsFixed, IsVoid}
 use Rattle.branch_rules.specs.Laws.{FitsBranch}
 use Rattle.branch_rules.specs.Limits.{IsNodeIn, IsShoreOf}
 use Rattle.branch_rules.specs.Prices.{Prices, value_of}
-use Rattle.branch_rules.specs.Trees.{IsLeanNode, preorder, Tree, no_prices}
+use Rattle.branch_rules.specs.Trees.{IsLeanNode, preorder, Tree}
 use Rattle.branch_rules.specs.declared.node.Node.{Node}
 use Rattle.branch_rules.specs.declared.node.Node.TheVariants as nodes
 use Rattle.route_pricing.specs.Tables.{IsRoom}
@@ -23,7 +23,7 @@ use Rattle.branch_tree.specs.declared.children.Children.{Children}
 use Rattle.branch_tree.specs.declared.kinds.Kind.{Kind}
 use Rattle.branch_tree.specs.declared.kinds.Kind.TheVariants.{Void, Fixed, Open}
 use Rattle.branch_tree.specs.declared.search.Search.{Search}
-use Rattle.branch_tree.specs.Searches.{HasGroupsInRange, IsSearch, State, state_of}
+use Rattle.branch_tree.specs.Searches.{HasGroupsInRange, IsSearch, State, set_in, state_of}
 use Rattle.branch_tree.specs.declared.search.Turn.{Turn}
 use Rattle.branch_tree.specs.declared.search.Turn.TheVariants.{Closed, Split}
 use Rattle.branch_tree.specs.Steps.{IsAsBefore, IsOffered, IsStep}
@@ -48,11 +48,6 @@ pub record NamesSet (p : Problem) (s : State) (place : ℕ) (branch : List Decis
   pub not_void : ¬ (IsVoid p s.pool branch)
   pub not_fixed : ¬ (IsFixed p s.pool branch)
   pub named : (other : GrowingNode) → (slice_index_or s.nodes place other).node ≡ nodes.Price set
-
--- the price set of a number from 1
-abbrev pub set_in : List Prices → ℕ → Prices
-set_in sets zero = no_prices
-set_in sets (suc k) = slice_index_or sets k no_prices
 
 -- A price set that may stand at such a leaf: it fits there, its shores are in the pool and belong to the instance, the edges of its groups
 -- are in range, and its value, divided by its denominator, is no less than that of the leaf's set.

@@ -1,5 +1,5 @@
 -- What a search holds.
-use Rattle.std.specs.Prelude.{◌≡◌, ℕ, ◌+◌, ◌*◌, ◌≤◌, List, [], ◌∷◌, length, map}
+use Rattle.std.specs.Prelude.{◌≡◌, ℕ, zero, suc, ◌+◌, ◌*◌, ◌≤◌, List, [], ◌∷◌, length, map, slice_index_or}
 use Rattle.std.specs.List.{All}
 use Rattle.carp_base.specs.Problem.{Problem, IsValid}
 use Rattle.plan_model.specs.declared.step.Step.{Step}
@@ -12,14 +12,15 @@ use Rattle.branch_rules.specs.Bonds.{GroupWeight}
 use Rattle.branch_rules.specs.Limits.{IsShoreOf}
 use Rattle.branch_rules.specs.Prices.{Prices}
 use Rattle.branch_rules.specs.Refusals.{NoneTooHeavy}
-use Rattle.branch_rules.specs.Trees.{Tree, Support}
+use Rattle.branch_rules.specs.Trees.{Tree, Support, no_prices}
 use Rattle.branch_rules.specs.declared.node.Node.TheVariants as nodes
+use Rattle.dual_master.specs.Floors.{plain_value}
 use Rattle.dual_master.specs.Singles.{IsFloorPool}
 use Rattle.grown_trees.specs.Growth.{AreSound, turns_in}
 use Rattle.grown_trees.specs.Stands.{stands}
 use Rattle.grown_trees.specs.declared.growing.GrowingNode.{GrowingNode}
 use Rattle.branch_tree.specs.declared.search.Search.{Search}
-use Rattle.branch_tree.specs.Values.{IsFloored, just_above}
+use Rattle.branch_tree.specs.Values.{IsFloored, ReachesFloors, just_above}
 
 -- what a search holds, as plain data: its shores, its price sets, the nodes of its tree, each with the greatest bound that it shows, and
 -- the best plan with its cost and the tree's turns for this cost; and a bound that the tree showed when the search began
@@ -34,6 +35,11 @@ pub record State : Type 0 where
 
 abbrev pub state_of : Search → State
 state_of s = record { pool = s.pool; sets = s.sets.items; nodes = s.tree.nodes; plan = s.best; cost = s.cost; done = s.done; least = s.least }
+
+-- the price set of a number from 1
+abbrev pub set_in : List Prices → ℕ → Prices
+set_in sets zero = no_prices
+set_in sets (suc k) = slice_index_or sets k no_prices
 
 -- what a price leaf rests on
 abbrev pub support_in : Problem → State → Support
@@ -82,11 +88,12 @@ pub record IsSearch (p : Problem) (s : Search) : Type 0 where
   pub held : IsHeld p (state_of s)
 
 -- a search that has just begun: the tree is one price leaf, which names the best set of the floors, and the pool is as the floors leave it;
--- the bound that it shows is at least each floor
+-- the value of the set, divided by its denominator, is at least each floor, and so is the bound that it shows
 pub record IsBegun (p : Problem) (plan : List (List Step)) (s : State) : Type 0 where
   pub best : s.plan ≡ plan
   pub set : Prices
   pub one_set : s.sets ≡ set ∷ []
   pub pool : IsFloorPool p s.pool set
   pub leaf : map (λ entry. entry.node) s.nodes ≡ nodes.Price 1 ∷ []
+  pub reached : ReachesFloors p (record { unit = set.unit; value = plain_value p s.pool set })
   pub floored : IsFloored p s.least

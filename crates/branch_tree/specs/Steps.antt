@@ -11,12 +11,13 @@ use Rattle.branch_rules.specs.declared.node.Node.TheVariants as nodes
 use Rattle.task_tours.specs.Shorts.{IsShortPlan}
 use Rattle.shore_prices.specs.Proposals.{IsGrown}
 use Rattle.tight_prices.specs.Tight.{IsTight}
+use Rattle.dual_master.specs.Raising.{IsNoLower}
 use Rattle.grown_trees.specs.Growth.{IsLeastOpen, turns_in}
 use Rattle.grown_trees.specs.Places.{IsLeaf, branch_to}
 use Rattle.grown_trees.specs.declared.growing.GrowingNode.{GrowingNode}
 use Rattle.branch_tree.specs.declared.search.Turn.{Turn}
 use Rattle.branch_tree.specs.declared.search.Turn.TheVariants.{Done, Closed, Split}
-use Rattle.branch_tree.specs.Searches.{State, support_in}
+use Rattle.branch_tree.specs.Searches.{State, set_in, support_in}
 
 -- each leaf is closed: it shows the best plan's cost by itself
 abbrev pub AreClosed : State → Type 0
@@ -42,21 +43,25 @@ pub record IsTaken (before after : State) (branch : List Decision) (old : Growin
   pub way : branch ≡ branch_to [] tree place
   pub nodes : after.nodes ≡ take place before.nodes ++ (news ++ drop (place + 1) before.nodes)
 
--- one price set was added. It is tight under the decisions on the way to the leaf and the shores of the step's beginning
-pub record HasNewSet (p : Problem) (before after : State) (branch : List Decision) : Type 0 where
+-- One price set was added. It is tight under the decisions on the way to the leaf and the shores of the step's beginning, and its value,
+-- divided by its denominator, is no less there than that of the set that the leaf named.
+pub record HasNewSet (p : Problem) (before after : State) (branch : List Decision) (old : GrowingNode) : Type 0 where
   pub set : Prices
   pub added : after.sets ≡ before.sets ++ set ∷ []
   pub tight : IsTight p after.pool (length before.pool) branch set
+  pub number : ℕ
+  pub named : old.node ≡ nodes.Price number
+  pub no_lower : IsNoLower p branch after.pool (set_in before.sets number) after.pool set
 
 -- What closes a leaf, by its new node: a void or a fixed branch, with the price sets as they were; or one that is neither, and a new set,
 -- which the leaf names. The best plan is another one only if a fixed leaf shows its cost, which is less than before; it is short then.
-abbrev pub IsClosedBy : Problem → (before after : State) → List Decision → GrowingNode → Node → Type 0
-IsClosedBy p before after branch leaf (nodes.Pair a b) = ⊥
-IsClosedBy p before after branch leaf (nodes.Cut shore k) = ⊥
-IsClosedBy p before after branch leaf (nodes.Price set) =
-    ¬ (IsVoid p after.pool branch) × ¬ (IsFixed p after.pool branch) × (set ≡ length after.sets) × HasNewSet p before after branch × (after.plan ≡ before.plan)
-IsClosedBy p before after branch leaf nodes.Void = IsVoid p after.pool branch × (after.sets ≡ before.sets) × (after.plan ≡ before.plan)
-IsClosedBy p before after branch leaf nodes.Fixed =
+abbrev pub IsClosedBy : Problem → (before after : State) → List Decision → (old leaf : GrowingNode) → Node → Type 0
+IsClosedBy p before after branch old leaf (nodes.Pair a b) = ⊥
+IsClosedBy p before after branch old leaf (nodes.Cut shore k) = ⊥
+IsClosedBy p before after branch old leaf (nodes.Price set) =
+    ¬ (IsVoid p after.pool branch) × ¬ (IsFixed p after.pool branch) × (set ≡ length after.sets) × HasNewSet p before after branch old × (after.plan ≡ before.plan)
+IsClosedBy p before after branch old leaf nodes.Void = IsVoid p after.pool branch × (after.sets ≡ before.sets) × (after.plan ≡ before.plan)
+IsClosedBy p before after branch old leaf nodes.Fixed =
     IsFixed p after.pool branch × (after.sets ≡ before.sets) × ((after.plan ≡ before.plan) ⊎ (IsShortPlan p after.plan × (after.cost ≡ leaf.shows) × (after.cost < before.cost)))
 
 -- a leaf was closed: another leaf in its place shows the best plan's cost
@@ -67,11 +72,11 @@ pub record IsClosing (p : Problem) (before after : State) : Type 0 where
   pub taken : IsTaken before after branch old (leaf ∷ [])
   pub is_leaf : IsLeaf leaf.node
   pub closed : after.cost ≤ leaf.shows
-  pub by : IsClosedBy p before after branch leaf leaf.node
+  pub by : IsClosedBy p before after branch old leaf leaf.node
   pub no_dearer : after.cost ≤ before.cost
 
 -- A leaf was split, which was neither void nor fixed; both children carry one price set. While fewer than 256 are held it is a new one,
--- tight where the leaf was, and it does not close the leaf; else it is the set of the leaf.
+-- tight where the leaf was and worth no less, and it does not close the leaf; else it is the set of the leaf.
 pub record IsSplitting (p : Problem) (before after : State) : Type 0 where
   pub branch : List Decision
   pub old : GrowingNode
@@ -84,7 +89,7 @@ pub record IsSplitting (p : Problem) (before after : State) : Type 0 where
   pub set : ℕ
   pub first_set : first.node ≡ nodes.Price set
   pub second_set : second.node ≡ nodes.Price set
-  pub new_set : length before.sets < 256 → (set ≡ length after.sets) × HasNewSet p before after branch × ¬ (PriceShows (support_in p after) branch after.cost set)
+  pub new_set : length before.sets < 256 → (set ≡ length after.sets) × HasNewSet p before after branch old × ¬ (PriceShows (support_in p after) branch after.cost set)
   pub old_set : length before.sets ≡ 256 → (after.sets ≡ before.sets) × (old.node ≡ nodes.Price set)
   pub plan : after.plan ≡ before.plan
   pub cost : after.cost ≡ before.cost

@@ -9,8 +9,8 @@ ghost use Rattle.grown_trees.specs.Values.{IsShown};
 ghost use Rattle.route_pricing.specs.Tables.{IsRoom};
 ghost use Rattle.shore_prices.specs.Proposals.{IsGrown};
 ghost use Rattle.leaf_programs.specs.Leaves.{IsLeaf};
-ghost use Rattle.branch_tree.specs.Leaves.{IsRaisedFrom, IsRepriced, MayBegin, NamesSet, set_in, with_pool};
-ghost use Rattle.branch_tree.specs.Searches.{IsSearch, state_of};
+ghost use Rattle.branch_tree.specs.Leaves.{IsRaisedFrom, IsRepriced, MayBegin, NamesSet, with_pool};
+ghost use Rattle.branch_tree.specs.Searches.{IsSearch, set_in, state_of};
 
 use crate::laws::known_laws;
 use crate::search::Search;

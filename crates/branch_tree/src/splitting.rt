@@ -6,8 +6,8 @@ ghost use Rattle.branch_rules.specs.Limits.{AreShoresIn, IsShoreOf};
 ghost use Rattle.branch_rules.specs.Prices.{value_of};
 ghost use Rattle.decision_chains.specs.Pairs.{ArePairsIn};
 ghost use Rattle.grown_trees.specs.Values.{IsShown};
-ghost use Rattle.branch_tree.specs.Leaves.{HasClosed, HasSplit, IsAtLeaf, IsFramed, IsSplitBy, IsTurn, MayBegin, MayStand, NamesSet, set_in, with_set};
-ghost use Rattle.branch_tree.specs.Searches.{IsSearch, state_of};
+ghost use Rattle.branch_tree.specs.Leaves.{HasClosed, HasSplit, IsAtLeaf, IsFramed, IsSplitBy, IsTurn, MayBegin, MayStand, NamesSet, with_set};
+ghost use Rattle.branch_tree.specs.Searches.{IsSearch, set_in, state_of};
 
 use crate::changing::price_leaf;
 use crate::children::{Children, children_show};

@@ -43,6 +43,13 @@ written_text read short file contents p valid there =
 is_instance : (file : List ℕ) (contents : List ℕ → Option (List ℕ)) (p : Problem) → HoldsText file contents p → Holds (instance_at file) contents IsInstance
 is_instance file contents p held = held_too (contents file) held (λ bytes is. (is.0, record { instance = p; text = is.1 }))
 
+-- A certificate that is held.
+
+written_certificate : TextIsShort → (cert : List ℕ) (contents : List ℕ → Option (List ℕ)) (c : Certificate) (text : List ℕ) → contents cert ≡ Some text → certificates.IsTextOf text c →
+    Holds (certificate_at cert) contents (λ bytes. certificates.IsTextOf bytes c)
+written_certificate short cert contents c text there is =
+    subst (λ (o : Option (List ℕ)). IsSomeAnd o (λ bytes. (length bytes ≤ 268435456) × certificates.IsTextOf bytes c)) (sym there) (short text c is, is)
+
 -- What `check` makes of a good pair.
 
 -- what can be done is done, if no look failed that had to be made
@@ -86,7 +93,9 @@ solved_accepted unique short file cert turns seed before now after later status 
     let held = one_kept cert by.kept_text before.contents now.contents (subst (λ (ks : List Kept). AreKept ks before.contents now.contents) by.keeps all.kept) in
     record {
       instance = p;
+      read = all.done.read;
       certificate = by.certificate;
+      kept = written_certificate short cert now.contents by.certificate by.kept_text held.there by.kept_is;
       turns = by.turns;
       reported = all.wrote ∙ ap (λ (t : List ℕ). before.written ++ t) by.writes;
       accepted = accepted unique short file cert p by.certificate by.kept_text now after later answer
@@ -138,9 +147,11 @@ improved_accepted unique short file cert improved turns seed before now after la
     let held = one_kept improved by.kept_text before.contents now.contents (subst (λ (ks : List Kept). AreKept ks before.contents now.contents) by.keeps all.kept) in
     record {
       instance = p;
+      read = all.done.certified.read;
       old = all.done.old;
       old_text = all.done.certified.certified;
       new = by.certificate;
+      kept = written_certificate short improved now.contents by.certificate by.kept_text held.there by.kept_is;
       turns = by.turns;
       reported = all.wrote ∙ ap (λ (t : List ℕ). before.written ++ t) by.writes;
       no_dearer = by.better.no_dearer;

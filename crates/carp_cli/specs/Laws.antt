@@ -31,10 +31,12 @@ pub record IsAccepted (cost bound : ℕ) (after later : Outside) (answer : Statu
   pub answered : (answer ≡ Accepted) ⊎ IsNoAnswer answer
   pub wrote : answer ≡ Accepted → later.written ≡ after.written ++ answer_text (codes "accepted\n") cost bound
 
--- `solve` reported a certificate, which is accepted
-pub record IsSolvedThenAccepted (before now after later : Outside) (answer : Status) : Type 0 where
+-- `solve` read an instance and reported a certificate, which it kept, and which is accepted
+pub record IsSolvedThenAccepted (file cert : List ℕ) (before now after later : Outside) (answer : Status) : Type 0 where
   pub instance : Problem
+  pub read : Holds (instance_at file) before.contents (λ bytes. IsTextOf bytes instance)
   pub certificate : Certificate
+  pub kept : Holds (certificate_at cert) now.contents (λ bytes. certificates.IsTextOf bytes certificate)
   pub turns : ℕ
   pub reported : now.written ≡ before.written ++ report_text instance certificate turns
   pub accepted : IsAccepted certificate.cost certificate.bound after later answer
@@ -55,12 +57,15 @@ pub record IsEditedThenAccepted (before now after later : Outside) (answer : Sta
   pub reported : now.written ≡ before.written ++ edit_text edges closed cost bound
   pub accepted : IsAccepted cost bound after later answer
 
--- `improve` read a certificate and reported another one, which is accepted, costs no more, and has no lower bound
-pub record IsImprovedThenAccepted (cert : List ℕ) (before now after later : Outside) (answer : Status) : Type 0 where
+-- `improve` read an instance and a certificate, and reported another one, which it kept, and which is accepted, costs no more, and has no
+-- lower bound
+pub record IsImprovedThenAccepted (file cert improved : List ℕ) (before now after later : Outside) (answer : Status) : Type 0 where
   pub instance : Problem
+  pub read : Holds (instance_at file) before.contents (λ bytes. IsTextOf bytes instance)
   pub old : Certificate
   pub old_text : Holds (certificate_at cert) before.contents (λ bytes. certificates.IsTextOf bytes old)
   pub new : Certificate
+  pub kept : Holds (certificate_at improved) now.contents (λ bytes. certificates.IsTextOf bytes new)
   pub turns : ℕ
   pub reported : now.written ≡ before.written ++ report_text instance new turns
   pub no_dearer : new.cost ≤ old.cost
@@ -72,7 +77,7 @@ abbrev pub SolvedIsAccepted : Type 0
 SolvedIsAccepted =
     (file cert : List ℕ) (turns seed : ℕ) (before now after later : Outside) (status answer : Status) →
     file ≢ cert → RunLeaves (Solve file cert turns seed) before now status → (status ≡ Proven) ⊎ (status ≡ Gap) →
-    IsCheckedLater file cert now after later answer → IsSolvedThenAccepted before now after later answer
+    IsCheckedLater file cert now after later answer → IsSolvedThenAccepted file cert before now after later answer
 
 -- What `upgrade` keeps, `check` accepts beside the same instance.
 abbrev pub UpgradedIsAccepted : Type 0
@@ -93,7 +98,7 @@ abbrev pub ImprovedIsAccepted : Type 0
 ImprovedIsAccepted =
     (file cert improved : List ℕ) (turns seed : ℕ) (before now after later : Outside) (status answer : Status) →
     file ≢ improved → RunLeaves (Improve file cert improved turns seed) before now status → (status ≡ Proven) ⊎ (status ≡ Gap) →
-    IsCheckedLater file improved now after later answer → IsImprovedThenAccepted cert before now after later answer
+    IsCheckedLater file improved now after later answer → IsImprovedThenAccepted file cert improved before now after later answer
 
 -- What `make` keeps is the text of the town, and not too long for an instance file.
 abbrev pub MadeIsHeld : Type 0

@@ -1,6 +1,6 @@
 use Rattle.branch_rules.specs.Decisions.{rules_of}
 use Rattle.branch_rules.specs.Prices.{value_of}
-use Rattle.branch_tree.specs.Leaves.{set_in}
+use Rattle.branch_tree.specs.Searches.{set_in}
 use Rattle.branch_tree.proofs.Numbers.{shown_through}
 use Rattle.branch_tree.proofs.Tightness.{raised_grows}
 use Rattle.branch_tree.proofs.raising.raise_and_propose.Goals as goal

@@ -40,5 +40,6 @@ returns-clause-begun c =
       one_set = c.in_ok-sets.ensures;
       pool = c.in_ok-floor.ensures.floor.held;
       leaf = ap (λ (t : Growth). map (λ (entry : GrowingNode). entry.node) t.nodes) root.leaf;
+      reached = c.in_ok-floor.ensures.floor.floors;
       floored = begun_floored c.short_plans_cost_little.ensures p floor c.in_ok-floor.ensures.floor c.args.best c.requires.allowed tree root c.node-least.result.shows (ap (λ (x : GrowingNode). x.shows) leaf);
     }

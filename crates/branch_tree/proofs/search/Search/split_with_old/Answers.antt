@@ -2,8 +2,8 @@ use Rattle.std.proofs.Common.{List, subst, sym, refl, ◌≤◌}
 use Rattle.branch_rules.specs.Decisions.{rules_of}
 use Rattle.branch_rules.specs.Prices.{Prices, value_of}
 use Rattle.grown_trees.specs.Values.{IsShown}
-use Rattle.branch_tree.specs.Leaves.{IsSplitBy, MayBegin, set_in}
-use Rattle.branch_tree.specs.Searches.{state_of}
+use Rattle.branch_tree.specs.Leaves.{IsSplitBy, MayBegin}
+use Rattle.branch_tree.specs.Searches.{set_in, state_of}
 use Rattle.branch_tree.specs.declared.search.Turn.TheVariants.{Split}
 use Rattle.branch_tree.proofs.Standing.{leaf_shores, may_begin, named_some}
 use Rattle.branch_tree.proofs.Turning.{splits_old}
