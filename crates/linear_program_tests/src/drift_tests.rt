@@ -22,13 +22,16 @@ fn add_drawn(alloc: Global, store: &mut Columns, generator: &mut Lcg64Xsh32) -> 
     let mut sum: u32 = 0;
     for row in 0..ROWS {
         if draw(generator, ROWS as u32) < 8 {
-            let coefficient = 1 + draw(generator, 200);
-            sum = sum.saturating_add(coefficient);
-            entries.push(entry(row, coefficient as i32)?)?;
+            let less_one = (generator.next_u32() % 200) as u8;
+            sum = sum.saturating_add(u32::from(less_one) + 1);
+            entries.push(entry(row, i32::from(less_one) + 1)?)?;
         }
     }
     let more = draw(generator, sum.saturating_mul(400));
-    store.add_column(i64::from(sum) * 1000 + i64::from(more), entries)?;
+    let cost = i64::from(sum)
+        .saturating_mul(1000)
+        .saturating_add(i64::from(more));
+    store.add_column(cost, entries)?;
     Ok(())
 }
 
@@ -103,7 +106,7 @@ fn expect_covered(
 fn change_ranges(program: &mut Program, generator: &mut Lcg64Xsh32) -> Result<(), Fail> {
     for _ in 0..ROWS / 3 {
         let row = RowId::new(draw(generator, ROWS as u32) as usize).ok_or("no row")?;
-        let most = i64::from(200 + draw(generator, 1800));
+        let most = i64::from(draw(generator, 1800)) + 200;
         let least = if draw(generator, 2) == 0 { 0 } else { -most };
         program.set_bounds(row, least, most);
     }
