@@ -120,11 +120,8 @@ fn nothing_is_proposed_if_no_edge_is_required(rt: HostRuntime) -> Result<(), Fai
 }
 
 // So many streets of cost 10 from the depot to one other vertex, no two of which one vehicle can serve.
-fn parallel_streets(alloc: Global, count: usize) -> Result<Instance, Fail> {
-    let mut required = Vec::new(alloc);
-    for _ in 0..count {
-        required.push(street(1, 2, 10, 2))?;
-    }
+fn parallel_streets(alloc: Global, count: u16) -> Result<Instance, Fail> {
+    let required = vec![in alloc; street(1, 2, 10, 2); usize::from(count)]?;
     Ok(Instance::build(alloc, 2, 1, 3, &required, &[])?)
 }
 
