@@ -33,6 +33,21 @@ pub record NodeList : Type 0 where
   pub nodes : List Node
   pub room : ℕ
 
+-- what a node with two children decides for the first one, and for the second one; a leaf decides nothing, which is read as a no to no pair
+abbrev pub first_of : Node → Decision
+first_of (Pair a b) = Yes a b
+first_of (Cut shore k) = Low shore k
+first_of (Price set) = No 0 0
+first_of Void = No 0 0
+first_of Fixed = No 0 0
+
+abbrev pub second_of : Node → Decision
+second_of (Pair a b) = No a b
+second_of (Cut shore k) = High shore k
+second_of (Price set) = No 0 0
+second_of Void = No 0 0
+second_of Fixed = No 0 0
+
 -- the node at a place from 0
 abbrev pub node_at : List Node → ℕ → Node
 node_at nodes i = slice_index_or nodes i Void

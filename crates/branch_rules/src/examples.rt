@@ -4,15 +4,15 @@ ghost use Rattle.deadhead_paths.specs.Examples.{town};
 ghost use Rattle.cut_pool.specs.Examples.{in_a_row};
 ghost use Rattle.carp_base.specs.Problem.{edge_at};
 ghost use Rattle.decision_chains.specs.Neighbours.{AreNeighbours};
-ghost use Rattle.branch_rules.specs.Bonds.{IsGroup, bond_weight, bonds, plan_bonds, room, surcharge};
+ghost use Rattle.branch_rules.specs.Bonds.{IsApart, IsGroup, bond_weight, bonds, plan_bonds, room, surcharge};
 ghost use Rattle.branch_rules.specs.Prices.{KeepsRules, deadhead_price, task_adds, value_of};
 ghost use Rattle.decision_chains.specs.Exclusions.{Excluded};
 ghost use Rattle.branch_rules.specs.Decisions.{IsFixed, IsVoid, Meets, MeetsAll, Spells, cuts_of, is_yes_pair, lower_of, lowest, rules_of};
 ghost use Rattle.decision_chains.specs.FixedValue.{HasFixedValue};
 ghost use Rattle.branch_rules.specs.Laws.{FitsBranch, IsMet};
 ghost use Rattle.decision_chains.specs.Pairs.{ArePairsIn};
-ghost use Rattle.branch_rules.specs.Limits.{AreShoresIn, IsNodeIn};
-ghost use Rattle.branch_rules.specs.Trees.{HasTurns, IsLean, IsLeanNode, IsSoundSupport, NodesShow, PairsIn, Shows, cut, fixed, pair, preorder, price, void};
+ghost use Rattle.branch_rules.specs.Limits.{AreShoresIn, IsNodeIn, IsSurcharge};
+ghost use Rattle.branch_rules.specs.Trees.{HasTurns, IsLean, IsLeanNode, IsSoundSupport, NodesShow, PairsIn, Shows, cut, first_of, fixed, pair, preorder, price, second_of, void};
 ghost use Rattle.decision_chains.specs.declared.decision.Decision.TheVariants.{High, Low, No, Yes};
 ghost use Rattle.branch_rules.specs.declared.node.Node.TheVariants.{Cut, Fixed, Pair, Price};
 ghost use Rattle.branch_rules.specs.Examples.{both_weights, heavy_prices, light_prices, one_row_tour, row, row_prices, row_weights, town_plan, town_pool, town_prices, town_support, two_row_tours, yes_prices, yes_weights};
@@ -111,6 +111,10 @@ fn bonds_of_a_group()
     ensures none { surcharge row_weights 2 3 ≡ pos 0 }
     ensures added { surcharge both_weights 2 1 ≡ pos 5 }
     ensures of_one { surcharge both_weights 2 3 ≡ pos 2 }
+    ensures apart { IsApart row_weights 3 }
+    ensures together { ¬ (IsApart row_weights 2) }
+    ensures greatest { IsSurcharge (pos 2000000000000000000) }
+    ensures too_great { ¬ (IsSurcharge (pos 2000000000000000001)) }
     ensures value { value_of (rules_of (in_a_row 3) [] []) row_prices ≡ pos 5 }
     ensures full { value_of (rules_of (in_a_row 2) [] []) row_prices ≡ pos 8 }
 {}
@@ -150,6 +154,8 @@ fn a_lean_tree()
     ensures required { ¬ (PairsIn town (pair 1 2 fixed fixed)) }
     ensures closed { HasTurns town_support [] 12 (price 1) 1 }
     ensures open { HasTurns town_support [] 13 (price 1) 0 }
+    ensures inner { HasTurns town_support [] 12 (cut 1 0 void (price 1)) 3 }
+    ensures a_turn_too_few { ¬ (HasTurns town_support [] 12 (cut 1 0 void (price 1)) 2) }
 {}
 
 fn premises_of_a_branch()
@@ -159,6 +165,13 @@ fn premises_of_a_branch()
     ensures no_shore { ¬ (AreShoresIn town town_pool (Low 2 0 ∷ [])) }
     ensures node { ¬ (IsNodeIn town town_pool (Pair 1 1)) }
     ensures cuts { cuts_of (Low 1 2 ∷ Yes 1 2 ∷ High 1 3 ∷ []) ≡ 2 }
+{}
+
+fn decisions_of_a_node()
+    ensures low_first { first_of (Cut 1 3) ≡ Low 1 3 }
+    ensures high_second { second_of (Cut 1 3) ≡ High 1 3 }
+    ensures yes_first { first_of (Pair 1 2) ≡ Yes 1 2 }
+    ensures no_second { second_of (Pair 1 2) ≡ No 1 2 }
 {}
 
 fn a_lean_node()

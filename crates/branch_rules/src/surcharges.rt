@@ -1,5 +1,5 @@
 // Tables of surcharges.
-ghost use Rattle.std.specs.Prelude.{◌≡◌, ℕ, ◌*◌, ◌≤◌, pos, ◌*ℤ◌, length, All, IfOk};
+ghost use Rattle.std.specs.Prelude.{◌≡◌, ℕ, ◌*◌, ◌≤◌, pos, ◌*ℤ◌, [], length, All, IfOk};
 ghost use Rattle.std.specs.List.Sorted.{IsStrictlyIncreasing};
 ghost use Rattle.branch_rules.specs.Bonds.{IsSurchargeTable, bond, entry, surcharge};
 ghost use Rattle.branch_rules.specs.Limits.{IsPriceNumber, IsSurcharge};
@@ -23,6 +23,7 @@ pub fn surcharge_table(
     requires groups { length groups.now ≤ 2000 }
     ensures table { IfOk result (λ table. IsSurchargeTable required groups.now table.items) }
     ensures within { IfOk result (λ table. All IsSurcharge table.items) }
+    ensures empty { IfOk result (λ table. groups.now ≡ [] → table.items ≡ []) }
 {
     if groups.is_empty() {
         return Ok(Vec::new(alloc));

@@ -2,11 +2,11 @@
 use Rattle.std.proofs.Common.{ℕ, List}
 use Rattle.carp_base.specs.Problem.{Problem}
 use Rattle.decision_chains.specs.declared.decision.Decision.{Decision}
+use Rattle.branch_rules.specs.Trees.{first_of, second_of}
 use Rattle.branch_rules.specs.declared.node.Node.{Node}
 use Rattle.branch_rules.specs.declared.node.Node.TheVariants.{Pair, Cut, Price, Void, Fixed}
 use Rattle.grown_trees.specs.Laws.{IsOpenDecision}
 use Rattle.branch_tree.specs.Leaves.{IsSplitNode}
-use Rattle.branch_tree.specs.Splits.{first_of, second_of}
 
 module _ (p : Problem) (pool : List (List ℕ)) (branch : List Decision) where
   pub first_open : (node : Node) → IsSplitNode p pool branch node → IsOpenDecision p branch (first_of node)

@@ -15,3 +15,4 @@ mod Groups
 mod Shortness
 mod Tightness
 mod Cheaper
+mod Holding

@@ -1,13 +1,14 @@
 -- Small searches of the examples.
-use Rattle.std.specs.Prelude.{ℕ, [], ◌∷◌}
+use Rattle.std.specs.Prelude.{ℕ, List, [], ◌∷◌}
+use Rattle.branch_rules.specs.Prices.{Prices}
 use Rattle.branch_rules.specs.declared.node.Node.TheVariants as nodes
 use Rattle.branch_tree.specs.Searches.{State}
 
--- a pair with a void leaf, and a price leaf that shows so much, at a cost of 9
-abbrev pub state_with : ℕ → State
-state_with shown = record {
+-- price sets, and a pair with a void leaf and a price leaf that shows so much, at a cost of 9 and after three turns
+abbrev pub state_with : List Prices → ℕ → State
+state_with sets shown = record {
   pool = [];
-  sets = [];
+  sets = sets;
   nodes =
       record { node = nodes.Pair 1 2; shows = 18446744073709551615 } ∷ record { node = nodes.Void; shows = 18446744073709551615 } ∷ record { node = nodes.Price 1; shows = shown } ∷ [];
   plan = [];
@@ -17,7 +18,7 @@ state_with shown = record {
 }
 
 abbrev pub closed_state : State
-closed_state = state_with 9
+closed_state = state_with [] 9
 
 abbrev pub half_open_state : State
-half_open_state = state_with 8
+half_open_state = state_with [] 8

@@ -10,7 +10,7 @@ use Rattle.branch_rules.specs.Decisions.{cuts_of, rules_of, IsFixed, IsVoid}
 use Rattle.branch_rules.specs.Laws.{FitsBranch}
 use Rattle.branch_rules.specs.Limits.{IsNodeIn, IsShoreOf}
 use Rattle.branch_rules.specs.Prices.{Prices, value_of}
-use Rattle.branch_rules.specs.Trees.{IsLeanNode, preorder, Tree}
+use Rattle.branch_rules.specs.Trees.{IsLeanNode, first_of, preorder, second_of, Tree}
 use Rattle.branch_rules.specs.declared.node.Node.{Node}
 use Rattle.branch_rules.specs.declared.node.Node.TheVariants as nodes
 use Rattle.route_pricing.specs.Tables.{IsRoom}
@@ -28,7 +28,7 @@ use Rattle.branch_tree.specs.declared.search.Turn.{Turn}
 use Rattle.branch_tree.specs.declared.search.Turn.TheVariants.{Closed, Split}
 use Rattle.branch_tree.specs.Steps.{IsAsBefore, IsOffered, IsStep}
 use Rattle.task_tours.specs.Shorts.{IsShortPlan}
-use Rattle.branch_tree.specs.Splits.{IsInner, first_of, second_of}
+use Rattle.branch_tree.specs.Splits.{IsInner}
 use Rattle.grown_trees.specs.Values.{IsMostShown}
 
 -- at the place stands the first leaf that shows least, which is not the best plan's cost, and these are the decisions on the way to it

@@ -5,6 +5,7 @@ pub mod Splits
 pub mod Leaves
 pub mod Steps
 pub mod Beginnings
+pub mod Counts
 pub mod Founds
 pub mod Resumes
 pub mod Examples

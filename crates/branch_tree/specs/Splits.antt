@@ -1,9 +1,8 @@
--- The decisions that an inner node gives its children, and a leaf that gave way to an inner node with two price leaves. No public contract
--- speaks of this.
+-- Inner nodes, splits that a search may take, and a leaf that gave way to an inner node with two price leaves. No public contract speaks of
+-- this.
 use Rattle.std.specs.Prelude.{◌≡◌, ℕ, ◌<◌, List, length}
 use Rattle.carp_base.specs.Problem.{Problem, IsRequired}
 use Rattle.decision_chains.specs.declared.decision.Decision.{Decision}
-use Rattle.decision_chains.specs.declared.decision.Decision.TheVariants.{Yes, No, Low, High}
 use Rattle.decision_chains.specs.Exclusions.{IsDetermined}
 use Rattle.decision_chains.specs.Pairs.{IsPairWithin}
 use Rattle.branch_rules.specs.Prices.{Prices, weight_at}
@@ -18,21 +17,6 @@ IsInner (nodes.Cut shore k) = Unit {0}
 IsInner (nodes.Price set) = ⊥
 IsInner nodes.Void = ⊥
 IsInner nodes.Fixed = ⊥
-
--- what a node that was split decides for its first child, and for its second one; a leaf decides nothing, which is read as a no to no pair
-abbrev pub first_of : Node → Decision
-first_of (nodes.Pair a b) = Yes a b
-first_of (nodes.Cut shore k) = Low shore k
-first_of (nodes.Price set) = No 0 0
-first_of nodes.Void = No 0 0
-first_of nodes.Fixed = No 0 0
-
-abbrev pub second_of : Node → Decision
-second_of (nodes.Pair a b) = No a b
-second_of (nodes.Cut shore k) = High shore k
-second_of (nodes.Price set) = No 0 0
-second_of nodes.Void = No 0 0
-second_of nodes.Fixed = No 0 0
 
 -- a node with two price leaves of one set
 abbrev pub split_tree : Node → ℕ → Tree

@@ -6,7 +6,6 @@ ghost use Rattle.branch_rules.specs.Limits.{IsFineDecision, IsShoreOf};
 ghost use Rattle.branch_rules.specs.Prices.{value_of};
 ghost use Rattle.grown_trees.specs.Laws.{IsOpenDecision};
 ghost use Rattle.branch_tree.specs.Leaves.{AreShown, IsSplitNode};
-ghost use Rattle.branch_tree.specs.Splits.{first_of, second_of};
 ghost use Rattle.grown_trees.specs.Values.{IsMostShown, IsShown};
 
 use crate::laws::known_laws;
@@ -38,35 +37,9 @@ pub(crate) fn children_show(
     ensures shown { IfOk result (AreShown inst.now pool.now branch.old set.now node.now) }
     ensures same { branch.new ≡ branch.old }
 {
-    let first = shown_after(inst, pool, branch, first_decision(node), set)?;
-    let second = shown_after(inst, pool, branch, second_decision(node), set)?;
+    let first = shown_after(inst, pool, branch, node.first_decision(), set)?;
+    let second = shown_after(inst, pool, branch, node.second_decision(), set)?;
     Ok(Children { first, second })
-}
-
-// The decision of the first child. A leaf decides nothing.
-fn first_decision(node: &Node) -> Decision
-    ensures { result ≡ first_of node.now }
-{
-    match *node {
-        Node::Pair { a, b } => Decision::Yes { a, b },
-        Node::Cut { shore, k } => Decision::Low { shore, k },
-        Node::Price { .. } => Decision::No { a: 0, b: 0 },
-        Node::Void => Decision::No { a: 0, b: 0 },
-        Node::Fixed => Decision::No { a: 0, b: 0 },
-    }
-}
-
-// The decision of the second child.
-fn second_decision(node: &Node) -> Decision
-    ensures { result ≡ second_of node.now }
-{
-    match *node {
-        Node::Pair { a, b } => Decision::No { a, b },
-        Node::Cut { shore, k } => Decision::High { shore, k },
-        Node::Price { .. } => Decision::No { a: 0, b: 0 },
-        Node::Void => Decision::No { a: 0, b: 0 },
-        Node::Fixed => Decision::No { a: 0, b: 0 },
-    }
 }
 
 // The greatest bound that a price set, which fits under a branch, shows under one more decision.

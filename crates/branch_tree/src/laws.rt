@@ -1,4 +1,5 @@
-// The laws that a search stands on, as one.
+// The laws that a search stands on, as one, and a law on what it holds.
+ghost use Rattle.branch_tree.specs.Counts.{SearchesHoldFewSets};
 ghost use Rattle.branch_tree.specs.Known.{Known};
 
 use decision_chains::fixed_values_compare;
@@ -21,3 +22,9 @@ pub(crate) fn known_laws()
     fixed_values_compare();
     short_plans_cost_little();
 }
+
+/// A search that began anew holds at most one price set more than it has turns, at each moment: it does so when it has
+/// just begun, and each step and each plan that it takes keep that.
+pub fn searches_hold_few_sets()
+    ensures { SearchesHoldFewSets }
+{}

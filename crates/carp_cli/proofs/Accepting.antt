@@ -1,5 +1,5 @@
 -- What one run kept, the next run takes.
-use Rattle.std.proofs.Common.{◌≡◌, ◌≢◌, ℕ, ◌-◌, ◌≤◌, ◌++◌, List, [], ◌∷◌, length, inl, refl, sym, ap, ◌∙◌, subst, Option, Some, codes}
+use Rattle.std.proofs.Common.{◌≡◌, ◌≢◌, ℕ, ◌-◌, ◌≤◌, ◌++◌, List, length, inl, refl, sym, ap, ◌∙◌, subst, Option, Some, codes}
 use Rattle.std.specs.Prelude.{◌⊎◌, IsSomeAnd}
 use Rattle.carp_base.specs.Problem.{Problem, IsValid}
 use Rattle.dat_text.specs.DatText.{dat_of}

@@ -36,10 +36,19 @@ impl<W: Write> TerminalWatch<W> {
     }
 }
 
+// The words for what a search does next: before the first turn it raises the bound of the root.
+fn phase_of(standing: &Standing) -> &'static [u8] {
+    if standing.turn == 0 {
+        b"raising the bound, turn "
+    } else {
+        b"turn "
+    }
+}
+
 // The line of a standing.
 fn line_of(alloc: Global, standing: &Standing) -> Result<Vec<u8>, Memory> {
     let mut line = Vec::new(alloc);
-    push_words(&mut line, b"turn ", standing.turn)?;
+    push_words(&mut line, phase_of(standing), standing.turn)?;
     push_words(&mut line, b" of ", standing.turns)?;
     push_words(&mut line, b"  cost ", standing.cost)?;
     push_words(&mut line, b"  bound ", standing.bound)?;

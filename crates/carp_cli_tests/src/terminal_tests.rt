@@ -34,6 +34,22 @@ fn a_line_is_written_over_and_erased(rt: HostRuntime) -> Result<(), Fail> {
 }
 
 #[test]
+fn before_the_first_turn_the_bound_is_raised(rt: HostRuntime) -> Result<(), Fail> {
+    let mut written = Vec::new(rt.alloc());
+    let mut watch = TerminalWatch::new(rt.alloc(), &mut written, true);
+    watch.turns(Standing {
+        turn: 0,
+        turns: 64,
+        cost: 610,
+        bound: 480,
+    });
+    watch.ends();
+    let wanted = b"\r\x1b[Kraising the bound, turn 0 of 64  cost 610  bound 480  gap 130\r\x1b[K";
+    assert_eq!(rt; written.as_slice(), wanted.as_slice());
+    Ok(())
+}
+
+#[test]
 fn no_terminal_is_told_nothing(rt: HostRuntime) -> Result<(), Fail> {
     let written = told(rt.alloc(), false)?;
     assert!(rt; written.is_empty());

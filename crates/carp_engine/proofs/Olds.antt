@@ -1,17 +1,16 @@
 -- What is known of a good certificate that can be spelled: a search may go on from its tree.
-use Rattle.std.proofs.Common.{◌≡◌, ℕ, zero, suc, ◌+◌, ◌≤◌, ◌<◌, List, [], ◌∷◌, ◌++◌, length, sym, ap, subst, arith, All, get_or}
+use Rattle.std.proofs.Common.{ℕ, zero, suc, ◌+◌, List, [], ◌∷◌, ◌++◌, length, sym, ap, subst, arith, All, get_or}
 use Rattle.std.specs.List.{AllByRecursion}
 use Rattle.std.proofs.lemmas.List.Elements.{All-from_recursion, All-weaker, recursion_from_All}
-use Rattle.carp_base.specs.Problem.{Problem, IsValid}
+use Rattle.carp_base.specs.Problem.{Problem}
 use Rattle.plan_model.specs.Laws.{IsLowerBound}
 use Rattle.cut_pool.specs.Pools.{IsShoreNumber}
-use Rattle.cut_pool.specs.Shores.{Belongs}
 use Rattle.decision_chains.specs.declared.decision.Decision.{Decision}
 use Rattle.decision_chains.specs.declared.decision.Decision.TheVariants.{Yes, No, Low, High}
 use Rattle.decision_chains.specs.PlanLaws.{FixedValueIsUnique}
 use Rattle.branch_rules.specs.Limits.{IsNodeIn, IsPriceSet, IsShoreOf}
 use Rattle.branch_rules.specs.Prices.{Prices}
-use Rattle.branch_rules.specs.Trees.{Tree, pair, cut, price, void, fixed, preorder, PairsIn, Shows, Support, no_prices}
+use Rattle.branch_rules.specs.Trees.{Tree, pair, cut, price, void, fixed, preorder, PairsIn, Shows, Support}
 use Rattle.branch_rules.specs.declared.node.Node.{Node}
 use Rattle.branch_rules.specs.declared.node.Node.TheVariants as nodes
 use Rattle.branch_rules.specs.declared.weight.Weight.{Weight}
@@ -19,11 +18,10 @@ use Rattle.grown_trees.specs.Growth.{IsSpelledNode, turns_in}
 use Rattle.grown_trees.specs.Places as places
 use Rattle.grown_trees.specs.declared.growing.GrowingNode.{GrowingNode}
 use Rattle.branch_tree.specs.Resumes.{MayResume, ResumedTreesHaveTurns}
-use Rattle.branch_tree.specs.Searches.{IsHeldSet}
 use Rattle.cert_lines.specs.Certificates.{Certificate}
 use Rattle.cert_lines.specs.Laws.{SpellableIsFine}
 use Rattle.cert_lines.specs.Spelling.{IsFine, IsFineNode, IsFineSet, IsSpellable}
-use Rattle.cert_format.specs.Good.{HasPriceEach, IsGood, support_of}
+use Rattle.cert_format.specs.Good.{IsGood, support_of}
 use Rattle.tree_transfer.specs.Carried.{WouldShow}
 use Rattle.carp_engine.specs.Improved.{HaveTurns}
 use Rattle.carp_engine.proofs.Groups.{spelled_in_range}

@@ -92,7 +92,8 @@ fn tell<W: Watch>(search: &Search, watch: &mut W) {
     }
 }
 
-// Takes turns until each leaf is closed or the budget is spent.
+// Takes turns until each leaf is closed or the budget is spent. The watch is told before the first turn, which may take
+// most of the time, and after each one.
 fn take_turns<W: Watch>(
     inst: &Instance,
     turns: u64,
@@ -107,6 +108,7 @@ fn take_turns<W: Watch>(
     ensures least { search.new.least ≡ search.old.least }
     ensures ended { OnOk result (AreClosed (state_of search.new) ⊎ (turns ≤ search.new.done)) }
 {
+    tell(search, watch);
     while search.done() < turns {
         let turn = take_turn(inst, search)?;
         tell(search, watch);

@@ -1,5 +1,5 @@
 -- Bytes that go on: their good lines go on from those before.
-use Rattle.std.proofs.Common.{◌≡◌, ℕ, ◌+◌, ◌==◌, Bool, true, false, List, [], ◌∷◌, ◌++◌, refl, sym, ap, subst, ◌∙◌, inl, inr}
+use Rattle.std.proofs.Common.{◌≡◌, ℕ, ◌+◌, ◌==◌, Bool, List, [], ◌∷◌, ◌++◌, refl, sym, ap, subst, ◌∙◌, inl, inr}
 use Rattle.std.specs.List.{slice_split, onto_first}
 use Rattle.std.proofs.lemmas.Bool.{cases_Bool}
 use Rattle.std.proofs.lemmas.List.Splits.{slice_split-cons_yes, slice_split-cons_no}
@@ -7,7 +7,7 @@ use Rattle.cert_lines.specs.Laws.{ReadingIsUnique}
 use Rattle.cert_lines.specs.Lines.{Line}
 use Rattle.cert_lines.specs.Order.{LatestFirst}
 use Rattle.cert_lines.specs.Spelling.{AreGood}
-use Rattle.cert_lines.specs.Texts.{AreRead, ReadsAs, parts_of}
+use Rattle.cert_lines.specs.Texts.{AreRead, ReadsAs}
 
 -- what is said after some lines
 abbrev pub after_lines : List Line → LatestFirst → LatestFirst

@@ -1,13 +1,12 @@
 -- What is answered of a file.
-use Rattle.std.proofs.Common.{◌≡◌, ℕ, ◌+◌, ◌≤◌, ◌<◌, List, length, refl, sym, ap, subst, inl, inr, arith, Bool, IsTrue, Option, Some, None, Ok, Err, IfSome}
+use Rattle.std.proofs.Common.{◌≡◌, ℕ, ◌≤◌, ◌<◌, List, length, refl, ap, subst, inl, inr, arith, Bool, IsTrue, Option, Some, None, Ok, Err, IfSome}
 use Rattle.std.specs.Prelude.{IsSomeAnd}
 use Rattle.carp_base.specs.Problem.{Problem}
 use Rattle.carp_base.specs.declared.fail.Fail.TheVariants.{Memory, Refused}
 use Rattle.carp_outside.specs.Causes.{Rose, RoseBy}
 use Rattle.cert_lines.specs.declared.fault.CertFault.{CertFault}
-use Rattle.cert_lines.specs.Certificates.{Certificate}
 use Rattle.cert_lines.specs.Laws.{FaultIsUnique, TextHasNoFault}
-use Rattle.cert_lines.specs.Texts.{IsFaultOf, IsTextOf}
+use Rattle.cert_lines.specs.Texts.{IsFaultOf}
 use Rattle.cert_checker.specs.declared.streaming.Checked.{Checked}
 use Rattle.cert_checker.specs.declared.streaming.StreamFault.TheVariants as faults
 use Rattle.cert_checker.specs.Streams.{FileSays, IsChecked}

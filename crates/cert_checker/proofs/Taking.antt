@@ -1,5 +1,5 @@
 -- A certificate that is taken in pieces.
-use Rattle.std.proofs.Common.{◌≡◌, ℕ, ◌+◌, ◌-◌, ◌≤◌, ◌<◌, List, [], ◌∷◌, ◌++◌, length, take, refl, sym, ap, subst, ◌∙◌, arith, append-nil, length-append, inl, inr, Option, Some, None}
+use Rattle.std.proofs.Common.{◌≡◌, ℕ, ◌+◌, ◌-◌, ◌≤◌, List, [], ◌∷◌, ◌++◌, length, take, refl, sym, ap, subst, ◌∙◌, arith, append-nil, length-append, inl, Option, Some, None}
 use Rattle.std.specs.Prelude.{MatchOption}
 use Rattle.std.specs.List.{All}
 use Rattle.std.proofs.Math.Seq.{get_or-append_seam}
@@ -13,7 +13,7 @@ use Rattle.cert_lines.specs.declared.item.Item.{Item}
 use Rattle.cert_lines.specs.declared.item.Item.TheVariants as items
 use Rattle.cert_lines.specs.declared.next.Next.TheVariants.{Nothing}
 use Rattle.cert_lines.specs.Order.{LatestFirst, next_of}
-use Rattle.cert_lines.specs.Certificates.{Certificate, certificate_of, nodes_of, counts_of, cost_of, bound_of, plan_of, shores_of, sets_of}
+use Rattle.cert_lines.specs.Certificates.{Certificate, certificate_of, nodes_of, counts_of, cost_of, bound_of, plan_of, shores_of}
 use Rattle.cert_lines.specs.Texts.{BreaksAt, IsTextOf, ReadsAs, items_of, parts_of}
 use Rattle.cert_format.specs.declared.cert.CertHead.{CertHead}
 use Rattle.cert_format.specs.declared.cert_reader.CertReader.{CertReader}
@@ -30,9 +30,9 @@ use Rattle.cert_checker.specs.declared.stream.Stage.{Stage}
 use Rattle.cert_checker.specs.declared.stream.Stage.TheVariants.{Before, Rejected, Walking}
 use Rattle.cert_checker.specs.declared.stream.Stream.{Stream}
 use Rattle.cert_checker.specs.Claims.{IsSetRead, IsNodeRead}
-use Rattle.cert_checker.specs.Reasons.{HeadIsRight, IsAnswer, IsFirstReason}
-use Rattle.cert_checker.specs.Streams.{AreSound, Fits, HasStreamed, HasStreamedSome, ItemComes, MayWalk, SomeItemComes, StageAnswers, StageHolds, StageSays, TextLaws, Walks, head_count, head_with, said_support, stage_heads, with_nodes}
-use Rattle.cert_checker.specs.Walks.{HasWalked, IsChecker, TreeSays}
+use Rattle.cert_checker.specs.Reasons.{IsAnswer, IsFirstReason}
+use Rattle.cert_checker.specs.Streams.{Fits, HasStreamed, ItemComes, MayWalk, StageAnswers, StageHolds, StageSays, TextLaws, Walks, head_count, head_with, said_support, stage_heads, with_nodes}
+use Rattle.cert_checker.specs.Walks.{TreeSays}
 use Rattle.cert_checker.proofs.Accepting.{first_from, good_from}
 use Rattle.cert_checker.proofs.Extending.{GoesOn, bytes_go_on, read_goes_on}
 use Rattle.cert_checker.proofs.Sound.{head_count-append, nodes_given, sound_lines, steady_head, whole_lines}

@@ -1,5 +1,5 @@
 -- What is known while the text of a certificate is taken in pieces.
-use Rattle.std.specs.Prelude.{◌≡◌, ℕ, ◌+◌, ◌-◌, ◌<◌, ◌≤◌, IsTrue, Bool, List, [], ◌∷◌, ◌++◌, length, take, Option, Some, IfSome, IsSome, IsSomeAnd, MatchOption, Result, IfOk, IsOk, IsErrOf, ◌⊎◌}
+use Rattle.std.specs.Prelude.{◌≡◌, ℕ, ◌+◌, ◌<◌, ◌≤◌, IsTrue, Bool, List, [], ◌∷◌, ◌++◌, length, take, Option, Some, IfSome, IsSome, IsSomeAnd, MatchOption, Result, IfOk, IsOk, IsErrOf, ◌⊎◌}
 use Rattle.std.specs.List.{All}
 use Rattle.carp_base.specs.Problem.{Problem}
 use Rattle.carp_base.specs.declared.fail.Fail.{Fail}
@@ -12,12 +12,12 @@ use Rattle.cert_lines.specs.declared.item.Item.{Item}
 use Rattle.cert_lines.specs.declared.item.Item.TheVariants as items
 use Rattle.cert_lines.specs.declared.next.Next.{Next}
 use Rattle.cert_lines.specs.declared.next.Next.TheVariants as stands
-use Rattle.cert_lines.specs.Order.{LatestFirst, next_of, open_after}
-use Rattle.cert_lines.specs.Certificates.{Certificate, certificate_of, nodes_of, sets_of, shores_of}
+use Rattle.cert_lines.specs.Order.{LatestFirst, open_after}
+use Rattle.cert_lines.specs.Certificates.{Certificate, certificate_of, nodes_of, sets_of}
 use Rattle.cert_lines.specs.Laws.{ReadIsNotBad, ReadIsSpellable, ReadingIsUnique, SpellableIsFine}
 use Rattle.cert_lines.specs.Texts.{IsFaultOf, IsTextOf, ReadsAs, items_of}
 use Rattle.cert_format.specs.declared.cert.CertHead.{CertHead}
-use Rattle.cert_format.specs.Certs.{IsHeadOf, stated_nodes}
+use Rattle.cert_format.specs.Certs.{stated_nodes}
 use Rattle.cert_format.specs.Good.{support_of}
 use Rattle.cert_format.specs.Held.{HasTaken}
 use Rattle.cert_format.specs.Judging.{item_list}

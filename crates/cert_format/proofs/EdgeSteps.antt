@@ -1,24 +1,22 @@
 -- The edges of a group of a line, of which one more has come.
 use Rattle.std.proofs.Common.{◌≡◌, ℕ, zero, suc, ◌+◌, ◌-◌, ◌<◌, ◌≤◌, min, inl, inr, Bool, true, false, ◌&&◌, ◌↔◌, nat_le, IsTrue, ℤ, List, [], ◌∷◌, ◌++◌, map, length, refl, sym, ap, subst, ◌∙◌, append_assoc, length-append, arith}
 use Rattle.std.specs.List.{All, list_all, flat_map}
-use Rattle.std.proofs.lemmas.Bool.{and_parts, and_from, leb-true, le-leb, cases_Bool, cases_lt, true≢false}
-use Rattle.std.proofs.lemmas.List.{append-nil}
+use Rattle.std.proofs.lemmas.Bool.{and_parts, and_from, leb-true, cases_Bool, true≢false}
 use Rattle.std.proofs.lemmas.List.Folds.{list_all-append}
-use Rattle.std.proofs.lemmas.List.Sums.{sum_by-append, sum_by-cons}
 use Rattle.std.proofs.lemmas.List.Elements.{All-append, All-cons, All-nil}
 use Rattle.branch_rules.specs.Bonds.{GroupWeight}
 use Rattle.branch_rules.specs.Limits.{IsFineGroup}
 use Rattle.cert_lines.specs.Numerals.{numeral, signed_numeral}
-use Rattle.cert_lines.specs.Numbers.{IsNatural, IsWhole, clamped, limit}
-use Rattle.cert_lines.specs.Lines.{Remainder, nothing, weight_alone, short_of, stated_size, group_words}
+use Rattle.cert_lines.specs.Numbers.{IsNatural, clamped, limit}
+use Rattle.cert_lines.specs.Lines.{nothing, short_of, stated_size, group_words}
 use Rattle.cert_lines.specs.Agreement.{IsGroupInOrder}
 use Rattle.cert_format.specs.Numbers.{is_within, price_ok}
-use Rattle.cert_format.specs.Groups.{all_words, sizes, edge_ok, group_ok, rest_ok, groups_ok, LeftIs, Awaits, KnowsGroups, HoldsGroups, IsNoWordAfter, AreMore, Takes}
+use Rattle.cert_format.specs.Groups.{all_words, sizes, edge_ok, group_ok, groups_ok, LeftIs, Awaits, HoldsGroups, AreMore}
 use Rattle.cert_format.specs.declared.groups.Awaited.{Awaited}
 use Rattle.cert_format.specs.declared.groups.Awaited.TheVariants as awaited
 use Rattle.cert_format.specs.declared.groups.Groups.{Groups}
 use Rattle.cert_format.proofs.Ranges.{price_holds}
-use Rattle.cert_format.proofs.Told.{price_told, price_is, within_told, within_is}
+use Rattle.cert_format.proofs.Told.{price_is, within_told, within_is}
 use Rattle.cert_format.proofs.GroupSteps.{fit_of, fits, group_behind, range_more, sizes_behind, still_kept}
 
 numerals_append : (edges : List ℕ) (e : ℕ) → map numeral (edges ++ e ∷ []) ≡ map numeral edges ++ numeral e ∷ []

@@ -1,7 +1,7 @@
 -- A pool that is copied shore by shore.
-use Rattle.std.proofs.Common.{◌≡◌, ℕ, zero, suc, ◌+◌, ◌-◌, ◌≤◌, ◌<◌, List, [], length, take, min, get_or, refl, sym, ap, subst, ◌∙◌, arith}
+use Rattle.std.proofs.Common.{◌≡◌, ℕ, zero, suc, ◌-◌, ◌≤◌, ◌<◌, List, [], length, take, sym, ap, subst, ◌∙◌, arith}
 use Rattle.std.proofs.lemmas.List.{get_or-take, length-take}
-use Rattle.cut_pool.specs.Pools.{AreDifferent, Holds, IsHeldAs, IsShoreNumber, shore_at}
+use Rattle.cut_pool.specs.Pools.{AreDifferent, IsHeldAs, shore_at}
 use Rattle.cert_transfer.specs.Copies.{MayPlace}
 
 module _ (pool : List (List ℕ)) (different : AreDifferent pool) (few : length pool ≤ 2000) (k : ℕ) (within : k < length pool) where

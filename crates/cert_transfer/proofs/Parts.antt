@@ -1,5 +1,5 @@
 -- The parts of a carried certificate, and that they make a good one.
-use Rattle.std.proofs.Common.{◌≡◌, ℕ, zero, suc, ◌+◌, ◌^◌, ◌≤◌, ◌<◌, List, [], ◌∷◌, ◌++◌, length, refl, sym, ap, subst, ◌∙◌, arith, All}
+use Rattle.std.proofs.Common.{◌≡◌, ℕ, zero, suc, ◌+◌, ◌≤◌, List, [], ◌∷◌, ◌++◌, length, refl, sym, subst, ◌∙◌, arith, All}
 use Rattle.std.specs.Prelude.{Some, false}
 use Rattle.std.specs.List.{AllByRecursion}
 use Rattle.std.proofs.lemmas.List.Concat.{length-flat_map}
@@ -11,7 +11,7 @@ use Rattle.plan_model.specs.Plans.{IsLawful, plan_cost, steps_of}
 use Rattle.plan_model.specs.Laws.{IsLowerBound}
 use Rattle.task_tours.specs.Tours.{AreServedOnce, PlanGoesByLeastPaths, all_tasks, plan_tours}
 use Rattle.cert_transfer.specs.Cutting.{cut_tours}
-use Rattle.cut_pool.specs.Pools.{IsShoreNumber, shore_at}
+use Rattle.cut_pool.specs.Pools.{IsShoreNumber}
 use Rattle.cut_pool.specs.Shores.{Belongs, is_in}
 use Rattle.branch_rules.specs.Limits.{IsNodeIn, IsShoreOf}
 use Rattle.branch_rules.specs.Laws.{NoDepot}
@@ -23,9 +23,8 @@ use Rattle.branch_rules.specs.declared.node.Node.TheVariants as nodes
 use Rattle.branch_rules.specs.declared.weight.Weight.{Weight}
 use Rattle.grown_trees.specs.Places as places
 use Rattle.cert_lines.specs.Certificates.{Certificate}
-use Rattle.cert_lines.specs.Ranges.{IsWithin}
 use Rattle.cert_lines.specs.Spelling.{IsFine, IsFineNode, IsFineSet, IsSpellable}
-use Rattle.cert_format.specs.Good.{HasPriceEach, IsGood, counts_in, support_of}
+use Rattle.cert_format.specs.Good.{HasPriceEach, IsGood, counts_in}
 use Rattle.tree_transfer.specs.Raised.{IsRaised}
 use Rattle.tree_transfer.specs.Carried.{IsCarried}
 use Rattle.tree_transfer.specs.CarriedLaws.{WouldBeShowing}

@@ -6,7 +6,7 @@ use Rattle.decision_chains.specs.declared.decision.Decision.{Decision}
 use Rattle.decision_chains.specs.declared.decision.Decision.TheVariants.{Yes, No, Low, High}
 use Rattle.branch_rules.specs.Trees.{Tree, pair, cut, price, void, fixed, preorder}
 use Rattle.branch_rules.specs.declared.node.Node.{Node}
-use Rattle.branch_rules.specs.declared.node.Node.TheVariants.{Pair, Cut, Price, Void, Fixed}
+use Rattle.branch_rules.specs.declared.node.Node.TheVariants.{Pair, Cut}
 use Rattle.tree_transfer.specs.Carried.{IsCarried}
 
 tails : {X : Type 0} {x y : X} {xs ys : List X} → (x ∷ xs) ≡ (y ∷ ys) → xs ≡ ys

@@ -1,4 +1,4 @@
--- Points, and where a generation stands. No public contract speaks of this.
+-- Points, and where a generation of columns stands.
 use Rattle.std.specs.List.{All}
 use Rattle.carp_base.specs.Problem.{Problem}
 use Rattle.route_pricing.specs.Pricing.{IsServicePrice}

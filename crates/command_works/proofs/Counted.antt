@@ -1,5 +1,5 @@
 -- What the groups of a packing say of the walks that serve them.
-use Rattle.std.proofs.Common.{◌≡◌, ◌≢◌, ◌<◌, ◌≤◌, ◌+◌, ◌-◌, ◌*◌, ◌/◌, ◌^◌, ◌==◌, ◌&&◌, ◌||◌, ℕ, zero, suc, List, [], ◌∷◌, length, arith, refl, sym, ap, ◌∙◌, subst, inl, inr, Bool, true, false, cond}
+use Rattle.std.proofs.Common.{◌≡◌, ◌≢◌, ◌<◌, ◌≤◌, ◌-◌, ◌==◌, ◌&&◌, ◌||◌, ℕ, zero, suc, List, [], ◌∷◌, length, arith, refl, sym, ap, ◌∙◌, subst, inl, inr, Bool, true, false, cond}
 use Rattle.std.specs.Prelude.{◌⊎◌}
 use Rattle.std.specs.List.{count_by, list_any}
 use Rattle.std.proofs.lemmas.Bool.{cases_eq, eq-eqb}
@@ -10,12 +10,12 @@ use Rattle.plan_model.specs.declared.step.Step.{Step}
 use Rattle.plan_model.specs.Plans.{IsLawful, serves, walk_at}
 use Rattle.task_tours.specs.Tours.{PlanGoesByLeastPaths}
 use Rattle.packing_trees.specs.declared.packing.Packing.{Packing}
-use Rattle.fleet_pack.specs.Packed.{IsPacked, all_turns}
+use Rattle.fleet_pack.specs.Packed.{IsPacked}
 use Rattle.group_plans.specs.Groups.{ServesGroups, serving_walks}
 use Rattle.group_plans.specs.Laws.{PlansArePackings}
 use Rattle.command_jobs.specs.declared.status.Status.{Status}
 use Rattle.command_jobs.specs.declared.status.Status.TheVariants.{Proven, Gap}
-use Rattle.command_works.specs.Fleets.{IsCountEnding, IsFleetFound, fleet_text}
+use Rattle.command_works.specs.Fleets.{IsFleetFound, fleet_text}
 use Rattle.command_works.specs.Outputs.{Output}
 
 abbrev served : Step → Bool

@@ -3,12 +3,12 @@ use Rattle.std.proofs.Common.{◌≡◌, ℕ, suc, ◌+◌, ◌-◌, ◌≤◌, 
 use Rattle.std.specs.List.{All, insert}
 use Rattle.std.proofs.Math.Seq.{split_at, get_or-append_seam, set-append_seam, take-append_seam}
 use Rattle.std.proofs.lemmas.Bool.{cases_lt}
-use Rattle.std.proofs.lemmas.List.{take_more, drop_more, take_all, take-append-drop, take-append-le, drop-append-le, length-take-le, length-drop, length-map, map-append, get_or_append_left, get_or-append-add, get_or_default}
+use Rattle.std.proofs.lemmas.List.{take_more, drop_more, take_all, take-append-drop, take-append-le, drop-append-le, length-take-le, length-drop, map-append, get_or_append_left, get_or-append-add, get_or_default}
 use Rattle.std.proofs.lemmas.List.Edits.{insert-append_right}
 use Rattle.std.proofs.lemmas.List.Elements.{All-append, All-drop, All-from_recursion, All-take}
 use Rattle.std.proofs.lemmas.List.Sums.{sum_by-append, count_by-le-length}
 use Rattle.branch_rules.specs.declared.node.Node.{Node}
-use Rattle.grown_trees.specs.Backward.{Found, all_read, read_from}
+use Rattle.grown_trees.specs.Backward.{Found, read_from}
 use Rattle.grown_trees.specs.Blocks.{IsRoomySpot, IsSpot, joined}
 use Rattle.grown_trees.specs.Growth.{turns_in}
 use Rattle.grown_trees.specs.declared.blocks.Spot.{Spot}

@@ -7,7 +7,7 @@ ghost use Rattle.branch_rules.specs.declared.node.Node.TheVariants.{Cut, Fixed, 
 ghost use Rattle.branch_rules.specs.Examples.{heavy_prices, town_pool, town_prices, town_support};
 ghost use Rattle.branch_rules.specs.Trees.{cut, fixed, pair, price, void};
 ghost use Rattle.grown_trees.specs.Examples.{cut_entry, cut_root, entries_showing, high_tree, low_tree, price_entry, whole};
-ghost use Rattle.grown_trees.specs.Growth.{AreSound, IsLeastOpen, IsSoundNode, NodeReaches, ShowsUpTo, shows_just, turns_in};
+ghost use Rattle.grown_trees.specs.Growth.{AreNoted, AreSound, IsLeastOpen, IsNotedNode, IsSoundNode, NodeReaches, ShowsUpTo, shows_just, turns_in};
 ghost use Rattle.grown_trees.specs.Laws.{IsKept, IsOpenDecision};
 ghost use Rattle.grown_trees.specs.Places.{IsFineNode, IsLeaf, IsLeafAt, branch_to, grown, size_of};
 ghost use Rattle.grown_trees.specs.Stands.{HoldsShores, IsLeanStand, IsShownStand, NodeFits, PricesFit, stands, with_sets, with_shores};
@@ -97,6 +97,14 @@ fn sound_nodes()
     ensures none { AreSound town_support (whole 12) [] [] }
     ensures one_too_many { ¬ (AreSound town_support (whole 12) [] (cut_entry 1 999999999999999999 ∷ [])) }
     ensures one_too_few { ¬ (AreSound town_support (whole 12) (cut_root 1 ∷ []) []) }
+{}
+
+fn noted_nodes()
+    ensures cut { IsNotedNode town_support (cut_root 1) (cut_entry 1 999999999999999999) }
+    ensures shows_more { ¬ (IsNotedNode town_support (cut_root 1) (cut_entry 1 5)) }
+    ensures another { ¬ (IsNotedNode town_support (cut_root 1) (cut_entry 2 999999999999999999)) }
+    ensures one { AreNoted town_support (cut_root 1 ∷ []) (cut_entry 1 999999999999999999 ∷ []) }
+    ensures one_too_few { ¬ (AreNoted town_support (cut_root 1 ∷ []) []) }
 {}
 
 fn decisions_that_may_be_added()

@@ -10,17 +10,8 @@ use cut_pool::ShorePool;
 use decision_chains::is_pair;
 use std::alloc::Global;
 
-/// The decisions of both children of a node. A leaf has none.
-pub(crate) fn decisions_of(node: &Node) -> Option<(Decision, Decision)> {
-    match *node {
-        Node::Pair { a, b } => Some((Decision::Yes { a, b }, Decision::No { a, b })),
-        Node::Cut { shore, k } => Some((Decision::Low { shore, k }, Decision::High { shore, k })),
-        _ => None,
-    }
-}
-
-/// The same, but none for a node on a pair that is not of required edges, or on a shore that is not one of the instance
-/// in the pool.
+/// The decisions of both children of a node; none for a leaf, for a node on a pair that is not of required edges, and
+/// for one on a shore that is not one of the instance in the pool.
 pub(crate) fn decisions_in(
     inst: &Instance,
     pool: &ShorePool,
@@ -29,7 +20,8 @@ pub(crate) fn decisions_in(
     ensures first { IfSome result (λ both. IsDecisionIn inst.now pool.now both.0) }
     ensures second { IfSome result (λ both. IsDecisionIn inst.now pool.now both.1) }
 {
-    let (first, second) = decisions_of(node)?;
+    let first = node.first_decision();
+    let second = node.second_decision();
     if is_decision_in(inst, pool, &first) && is_decision_in(inst, pool, &second) {
         Some((first, second))
     } else {

@@ -10,7 +10,7 @@ ghost use Rattle.column_generation.specs.Points.{IsGeneration};
 ghost use Rattle.column_generation.specs.Proposals.{IsGroupedProposal};
 ghost use Rattle.leaf_programs.specs.Leaves.{IsLeaf};
 
-use crate::decisions::{decisions_of, last_of};
+use crate::decisions::last_of;
 use crate::leaf::Leaf;
 use crate::poor::Poor;
 use crate::ranking::ranked_splits;
@@ -348,10 +348,8 @@ impl LeafPrograms {
             second: other,
             ..
         } = tried;
-        if let Some((first, second)) = decisions_of(&node) {
-            self.shelf.put(number, Some(first), one)?;
-            self.shelf.put(number, Some(second), other)?;
-        }
+        self.shelf.put(number, Some(node.first_decision()), one)?;
+        self.shelf.put(number, Some(node.second_decision()), other)?;
         Ok(Some(node))
     }
 }

@@ -25,7 +25,7 @@ pub trait Watch {
     /// Helpers are asked for tours.
     fn asks(&mut self);
 
-    /// The search stands here after a turn.
+    /// The search stands here, before the first turn or after one.
     fn turns(&mut self, standing: Standing);
 
     /// Nothing is told any more.

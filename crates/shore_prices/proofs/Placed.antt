@@ -8,7 +8,7 @@ use Rattle.std.proofs.lemmas.List.{append-nil, append_assoc, get_or_default, len
 use Rattle.std.proofs.lemmas.List.Folds.{list_any_at, Any-from_list_any}
 use Rattle.std.proofs.lemmas.List.Elements.{All-append, All-cons, All-nil}
 use Rattle.carp_base.specs.Problem.{Problem}
-use Rattle.cut_pool.specs.Pools.{Holds, IsHeldAs, shore_at}
+use Rattle.cut_pool.specs.Pools.{Holds, IsHeldAs}
 use Rattle.cut_pool.specs.Shores.{Belongs}
 use Rattle.shore_prices.specs.Proposals.{IsGrown}
 

@@ -1,5 +1,5 @@
 -- Small data for the examples beside the tests. No public contract speaks of this.
-use Rattle.std.specs.Prelude.{ℕ, List, [], ◌∷◌, pos}
+use Rattle.std.specs.Prelude.{ℕ, [], ◌∷◌, pos}
 use Rattle.carp_base.specs.declared.edge.Edge.{Edge}
 use Rattle.carp_base.specs.Problem.{Problem}
 use Rattle.cut_pool.specs.declared.shore.Weighted.{Weighted}

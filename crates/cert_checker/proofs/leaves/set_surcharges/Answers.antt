@@ -1,5 +1,4 @@
-use Rattle.std.proofs.Common.{subst, sym}
-use Rattle.branch_rules.specs.Bonds.{IsSurchargeTable}
+use Rattle.std.proofs.Common.{subst}
 use Rattle.route_pricing.specs.Pricing.{AreSurcharges}
 use Rattle.cert_checker.proofs.Pricing.{are_surcharges}
 use Rattle.cert_checker.proofs.leaves.set_surcharges.Goals as goal

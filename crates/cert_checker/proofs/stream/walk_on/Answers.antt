@@ -1,8 +1,8 @@
-use Rattle.std.proofs.Common.{◌≡◌, ℕ, ◌+◌, ◌≤◌, ◌∷◌, ◌++◌, List, OnOk, [], sym, subst, arith, length-append}
+use Rattle.std.proofs.Common.{ℕ, ◌+◌, ◌≤◌, ◌∷◌, ◌++◌, List, OnOk, [], sym, subst, arith, length-append}
 use Rattle.branch_rules.specs.Trees.{Support}
 use Rattle.branch_rules.specs.declared.node.Node.{Node}
 use Rattle.cert_checker.specs.Claims.{IsBacked, IsNodeRead, support_in}
-use Rattle.cert_checker.specs.Streams.{Walks, head_with}
+use Rattle.cert_checker.specs.Streams.{head_with}
 use Rattle.cert_checker.specs.Walks.{HasWalked, IsChecker}
 use Rattle.cert_checker.proofs.Accepting.{backed_by}
 use Rattle.cert_checker.proofs.Filling.{goes_so_far}

@@ -1,4 +1,4 @@
-use Rattle.std.proofs.Common.{◌≡◌, ℕ, List, length, rules}
+use Rattle.std.proofs.Common.{length, rules}
 use Rattle.carp_outside.specs.Causes.{RoseBy}
 use Rattle.cert_lines.specs.Texts.{IsFaultOf}
 use Rattle.cert_checker.specs.Streams.{HasStreamed, IsChecked}

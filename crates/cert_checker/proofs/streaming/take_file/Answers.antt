@@ -1,4 +1,4 @@
-use Rattle.std.proofs.Common.{rules, ◌≡◌, ◌+◌, ◌++◌, ℕ, List, length, subst, sym, ap, ◌∙◌, arith}
+use Rattle.std.proofs.Common.{rules, ◌≡◌, ◌+◌, ◌++◌, ℕ, List, length, subst, ap, ◌∙◌}
 use Rattle.carp_outside.specs.Pieces.{piece_of, taken_of}
 use Rattle.cert_checker.specs.Streams.{HasStreamed}
 use Rattle.cert_checker.proofs.Reading.{given_on, read_on}

@@ -1,4 +1,4 @@
-use Rattle.std.proofs.Common.{◌≡◌, ℕ, ◌+◌, ◌-◌, ◌≤◌, List, length, take, IsTrue, IfSome, IsSome, ◌<◌}
+use Rattle.std.proofs.Common.{◌≡◌, ℕ, ◌+◌, ◌-◌, ◌≤◌, List, IsTrue}
 use Rattle.carp_outside.specs.Causes.{RoseBy}
 use Rattle.carp_outside.specs.Told.{SameContents}
 use Rattle.carp_outside.specs.Pieces.{limit_of, taken_of}

@@ -1,5 +1,4 @@
-use Rattle.std.proofs.Common.{◌≡◌, List, sym, subst, ◌∙◌}
-use Rattle.branch_rules.specs.Prices.{Prices}
+use Rattle.std.proofs.Common.{sym, subst, ◌∙◌}
 use Rattle.cert_format.specs.Certs.{certificate_in}
 use Rattle.tree_transfer.specs.Raised.{IsRaised}
 use Rattle.tree_transfer.specs.Shown.{AreCarried, AreTreeNodes}

@@ -1,5 +1,4 @@
 use Rattle.std.proofs.Common.{rules}
-use Rattle.command_works.specs.Outputs.{output_in}
 use Rattle.command_works.proofs.Counted.{counted}
 use Rattle.command_works.proofs.fleets.count_fleet.Goals as goal
 

@@ -1,6 +1,5 @@
-use Rattle.std.proofs.Common.{◌-◌, ◌≤◌, length, refl, sym, subst, arith}
+use Rattle.std.proofs.Common.{◌-◌, length, arith}
 use Rattle.std.proofs.lemmas.List.{drop_all}
-use Rattle.decision_chains.specs.Choosing.{IsLeastLeft}
 use Rattle.decision_chains.proofs.Choices.{nothing_left}
 use Rattle.decision_chains.proofs.directing.cost_left.Goals as goal
 

@@ -1,4 +1,4 @@
-use Rattle.std.proofs.Common.{◌≡◌, ◌+◌, ◌-◌, ◌<◌, length, subst, sym, arith}
+use Rattle.std.proofs.Common.{◌≡◌, ◌+◌, ◌-◌, subst, arith}
 use Rattle.decision_chains.specs.Choosing.{IsFilled}
 use Rattle.decision_chains.proofs.Choices.{filled_more}
 use Rattle.decision_chains.proofs.directing.fill.Goals as goal

@@ -1,6 +1,5 @@
-use Rattle.std.proofs.Common.{◌+◌, ◌<◌, length, drop, get_or, refl, inl, arith}
+use Rattle.std.proofs.Common.{◌+◌, drop, get_or, refl, inl, arith}
 use Rattle.deadhead_paths.specs.Prices.{price_of, costs_of}
-use Rattle.decision_chains.specs.Choosing.{no_left}
 use Rattle.decision_chains.proofs.Choices.{one_more_task, all_done}
 use Rattle.decision_chains.proofs.directing.follow.Goals as goal
 

@@ -1,4 +1,4 @@
-use Rattle.std.proofs.Common.{◌≡◌, ℕ, arith, refl}
+use Rattle.std.proofs.Common.{arith, refl}
 use Rattle.decision_chains.proofs.examples.the_next_edge.Goals as goal
 
 pub returns-clause-alone : goal.returns-clause-alone

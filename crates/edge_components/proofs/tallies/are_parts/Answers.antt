@@ -1,4 +1,4 @@
-use Rattle.std.proofs.Common.{◌≡◌, ◌≤◌, length, arith}
+use Rattle.std.proofs.Common.{◌≡◌, length, arith}
 use Rattle.edge_components.proofs.Tallying.{parts_from, parts_to}
 use Rattle.edge_components.proofs.tallies.are_parts.Goals as goal
 

@@ -1,4 +1,4 @@
-use Rattle.std.proofs.Common.{◌<◌, length, ap, arith}
+use Rattle.std.proofs.Common.{length, ap, arith}
 use Rattle.grown_trees.proofs.Joining.{more_long, spot_here}
 use Rattle.grown_trees.proofs.blocks.find.Goals as goal
 

@@ -1,4 +1,4 @@
-use Rattle.std.proofs.Common.{◌≡◌, ◌<◌, ◌≤◌, ◌∙◌, List, ◌∷◌, ◌++◌, length, take, drop, ap, arith, subst}
+use Rattle.std.proofs.Common.{◌≡◌, ◌<◌, ◌≤◌, ◌∙◌, List, length, ap, arith, subst}
 use Rattle.grown_trees.specs.Blocks.{IsSpot}
 use Rattle.grown_trees.specs.declared.growing.GrowingNode.{GrowingNode}
 use Rattle.grown_trees.proofs.Joining.{block_is, divided_same, spot_divided}

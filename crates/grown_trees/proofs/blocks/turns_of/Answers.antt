@@ -1,4 +1,4 @@
-use Rattle.std.proofs.Common.{◌≡◌, ◌∙◌, List, get_or, set, ap, arith, sym}
+use Rattle.std.proofs.Common.{◌≡◌, ◌∙◌, List, get_or, set, ap, arith}
 use Rattle.std.proofs.lemmas.List.{set-get_or}
 use Rattle.grown_trees.specs.Growth.{turns_in}
 use Rattle.grown_trees.specs.declared.growing.GrowingNode.{GrowingNode}

@@ -1,4 +1,4 @@
-use Rattle.std.proofs.Common.{subst, Result, ℕ}
+use Rattle.std.proofs.Common.{subst}
 use Rattle.std.specs.Result.{IsOkAnd}
 use Rattle.cut_pool.specs.Pools.{IsHeldAs}
 use Rattle.shore_prices.proofs.Placed.{after_belongs, after_grows, after_holds}

@@ -1,9 +1,8 @@
-use Rattle.std.proofs.Common.{rules, ◌≡◌, ◌*◌, map, pos, refl, subst, sym, ◌∙◌, ap}
+use Rattle.std.proofs.Common.{rules, ◌≡◌, ◌*◌, map, pos, refl, subst, sym, ◌∙◌}
 use Rattle.std.proofs.lemmas.Result.{IfOk-weaker}
 use Rattle.carp_base.specs.Problem.{required_edges}
-use Rattle.branch_rules.specs.Prices.{Prices}
 use Rattle.shore_prices.specs.Proposals.{IsProposal}
-use Rattle.shore_prices.proofs.Proposed.{set_fine, set_of, set_proposed}
+use Rattle.shore_prices.proofs.Proposed.{set_fine, set_proposed}
 use Rattle.shore_prices.proofs.proposing.shore_prices.Goals as goal
 
 pub new-requires : goal.new-requires

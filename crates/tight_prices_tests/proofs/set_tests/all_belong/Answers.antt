@@ -1,4 +1,4 @@
-use Rattle.std.proofs.Common.{rules, ◌≡◌, ℕ, suc, ◌<◌, ◌≤◌, List, [], length, arith, subst}
+use Rattle.std.proofs.Common.{rules, ℕ, suc, ◌≤◌, List, [], length, arith, subst}
 use Rattle.std.specs.List.{All}
 use Rattle.std.proofs.lemmas.List.{get_or_default}
 use Rattle.carp_base.specs.Problem.{Problem}

@@ -1,4 +1,4 @@
-use Rattle.std.proofs.Common.{rules, ◌≡◌, List, [], refl, sym, ap, ◌∙◌, inl, arith}
+use Rattle.std.proofs.Common.{rules, ◌≡◌, [], refl, ◌∙◌, inl, arith}
 use Rattle.carp_base.specs.declared.fail.Fail.TheVariants.{Refused}
 use Rattle.cert_lines.specs.Certificates.{certificate_of}
 use Rattle.cert_lines.specs.Texts.{IsTextOf}

@@ -1,4 +1,4 @@
-use Rattle.std.proofs.Common.{◌≡◌, List, inl, inr, refl, subst}
+use Rattle.std.proofs.Common.{inl, inr, subst}
 use Rattle.cert_lines.specs.declared.item.Item.{Item}
 use Rattle.cert_checker.specs.Streams.{ItemComes}
 use Rattle.cert_checker.proofs.Taking.{quiet_on, whole_on}

@@ -1,4 +1,4 @@
-use Rattle.std.proofs.Common.{◌+◌, ◌-◌, ◌≤◌, ◌++◌, List, length, take, drop, arith}
+use Rattle.std.proofs.Common.{◌+◌, ◌-◌, ◌++◌, length, take, drop, arith}
 use Rattle.cert_checker.proofs.Reading.{rest_length, run_on}
 use Rattle.cert_checker.proofs.stream.Stream.take_piece.Goals as goal
 

@@ -1,6 +1,5 @@
-use Rattle.std.proofs.Common.{◌≡◌, ℕ, List, ◌++◌, length, take, refl, sym, ap, subst, rules}
+use Rattle.std.proofs.Common.{ℕ, List, ◌++◌, take, refl, sym, subst, rules}
 use Rattle.std.proofs.Math.Seq.{take-length}
-use Rattle.carp_base.specs.declared.fail.Fail.TheVariants.{Refused}
 use Rattle.cert_checker.specs.declared.stream.Stream.{Stream}
 use Rattle.cert_checker.specs.Streams.{HasStreamed}
 use Rattle.cert_checker.proofs.Taking.{item_comes, streamed_bad, streamed_on}
