@@ -1,6 +1,6 @@
 use Rattle.std.proofs.Common.{◌≡◌, [], ◌∷◌, ℕ, zero, suc, ◌≤◌, refl, arith}
 use Rattle.carp_base.specs.Problem.{IsRequired}
-use Rattle.carp_base.specs.Packings.{IsGroup, group_load, group_of}
+use Rattle.carp_base.specs.Packings.{IsGroup, IsPacking, group_load, group_of}
 use Rattle.carp_base.specs.Examples.{two_tasks}
 use Rattle.carp_base.proofs.examples.a_packing.Goals as goal
 
