@@ -1,5 +1,5 @@
 //! The program: the files of the system, its standard output, the words of the command line and four helpers, given to
-//! the top call ([`carp_cli::run`]).
+//! the top call ([`carp_cli::run_watched`]).
 //!
 //! In the field: four heuristics, path scanning, augment-merge, route first and cluster second, and ruin and recreate
 //! with local search. `helping` makes them.

@@ -62,7 +62,7 @@ pub(crate) fn search_on<W: Watch>(
 }
 
 // What a search finds that goes on until each leaf is closed or its budget is spent, and its certificate.
-pub(crate) fn go_on<W: Watch>(
+fn go_on<W: Watch>(
     alloc: Global,
     inst: &Instance,
     search: Search,

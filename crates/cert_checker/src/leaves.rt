@@ -1,7 +1,6 @@
 // What the leaves of a tree show.
 ghost use Rattle.std.specs.Prelude.{◌≡◌, ℕ, ◌≤◌, IfErr, IfOk, IfSome, IsTrue, OnOk};
 ghost use Rattle.carp_base.specs.Allowed.{allows};
-ghost use Rattle.plan_model.specs.Plans.{IsLawful, plan_cost};
 ghost use Rattle.decision_chains.specs.Pairs.{ArePairsIn};
 ghost use Rattle.decision_chains.specs.FixedValue.{HasFixedValue};
 ghost use Rattle.route_pricing.specs.Pricing.{AreSurcharges};
@@ -23,10 +22,10 @@ use branch_rules::{
 };
 use carp_base::{Allowed, Fail, Instance, Memory};
 use deadhead_paths::{Distances, cost_prices, distances};
-use plan_model::{JudgeRoom, Plan, Verdict, judge, verdicts_are_exact};
 use road_network::Network;
 use route_pricing::Table;
 use std::alloc::Global;
+use task_tours::lawful_cost;
 
 /// The prices of a set: those of services, the surcharges of pairs, and the distances by the prices of deadheads.
 #[derive(Drop)]
@@ -347,19 +346,6 @@ fn distances_by_cost(
             let prices = cost_prices(alloc, inst)?;
             distances(alloc, inst, net, &prices)
         }
-    }
-}
-
-// What a lawful plan costs.
-fn lawful_cost(alloc: Global, inst: &Instance, plan: &Plan) -> Result<u128, Memory>
-    requires { IsLawful inst.now plan.now }
-    ensures { IfOk result (λ cost. cost ≡ plan_cost inst.now plan.now) }
-{
-    verdicts_are_exact();
-    let mut room = JudgeRoom::new(alloc, inst)?;
-    match judge(inst, plan, &mut room) {
-        Verdict::Lawful { cost } => Ok(cost),
-        _ => unreachable!(),
     }
 }
 

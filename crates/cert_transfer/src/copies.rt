@@ -13,7 +13,7 @@ pub(crate) fn copy_pool(alloc: Global, pool: &ShorePool) -> Result<ShorePool, Me
 {
     let mut copy = ShorePool::new(alloc);
     for number in 1..pool.len() + 1 {
-        place(&mut copy, copy_shore(alloc, pool.shore(number))?)?;
+        place(&mut copy, pool.shore(number).copy(alloc)?)?;
     }
     Ok(copy)
 }
@@ -28,16 +28,6 @@ fn place(pool: &mut ShorePool, shore: Shore) -> Result<(), Memory>
         Err(Fail::Memory) => Err(Memory),
         Err(Fail::Refused(_)) => unreachable!(),
     }
-}
-
-fn copy_shore(alloc: Global, shore: &Shore) -> Result<Shore, Memory>
-    ensures { IfOk result (λ copy. copy ≡ shore.now) }
-{
-    let mut vertices = Vec::with_capacity(alloc, shore.len())?;
-    for place in 0..shore.len() {
-        vertices.push(shore.vertex(place))?;
-    }
-    Shore::from_list(alloc, &vertices)
 }
 
 // The same price sets, in the same order.

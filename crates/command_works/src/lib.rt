@@ -3,7 +3,8 @@
 //! [`make`] does a job whose files are read, and gives a [`Delivery`]. It keeps and writes nothing, so that all of it
 //! can be built before anything is kept or written.
 //!
-//! - `solving`, `drilling`: instances that are solved.
+//! - `making`: which function makes what. `delivery`: what is made.
+//! - `solving`, `drilling`: instances that are solved, and how what was found is told.
 //! - `fleets`: a count of vehicles. `rounds`: a walk of the postman.
 //! - `improving`: a certificate that is gone on from.
 //! - `editing`: a certificate that is carried over.

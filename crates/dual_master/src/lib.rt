@@ -13,8 +13,9 @@
 //! ([`level_sets_are_there`]), and the best of such sets reaches all their floors ([`better_sets_reach_as_much`]).
 //!
 //! [`floors`] takes the set of greatest value, and places the shores of one vertex behind those of the floor. A pool
-//! may grow without any change of the sets whose shores it held ([`growth_keeps_sets`]). [`raise`] looks for a better
-//! set under a branch, and raises each number of it to its limit.
+//! may grow without any change of the sets whose shores it held ([`growth_keeps_sets`]). [`raise_with`] looks for
+//! a better set under a branch, with programs that are kept from leaf to leaf, and raises each number of it to its limit;
+//! [`raise`] does so once, with none kept.
 //!
 //! - `shell`, `ratio`, `join`: the sets of the floors, over `services` and `placing` (prices of services, and shores
 //!   that are placed in a pool with their weights).

@@ -101,7 +101,6 @@ fn sound_nodes()
 
 fn noted_nodes()
     ensures cut { IsNotedNode town_support (cut_root 1) (cut_entry 1 999999999999999999) }
-    ensures shows_more { ¬ (IsNotedNode town_support (cut_root 1) (cut_entry 1 5)) }
     ensures another { ¬ (IsNotedNode town_support (cut_root 1) (cut_entry 2 999999999999999999)) }
     ensures one { AreNoted town_support (cut_root 1 ∷ []) (cut_entry 1 999999999999999999 ∷ []) }
     ensures one_too_few { ¬ (AreNoted town_support (cut_root 1 ∷ []) []) }

@@ -1,6 +1,6 @@
 //! Programs for the leaves of a tree, and splits that they propose.
 //!
-//! In the field: branch and price, with reliability branching.
+//! In the field: branch and price, with strong branching (Applegate, Bixby, Chvatal and Cook 1995).
 //!
 //! Each leaf of a tree has a linear program over tours, shores and groups (`column_generation`). [`LeafPrograms`] tells
 //! which leaf goes on from which program: a child from that of its parent, or from its own after its split was tried. It

@@ -62,7 +62,8 @@ impl LeafPrograms {
     /// together.
     ///
     /// It goes on from the program that was kept under the number. If there is none, it goes on from the one that was
-    /// kept last for another leaf. The first time it begins with the set.
+    /// kept last for another leaf. If none is kept at all, it begins anew with the set: so at the first leaf, and in a
+    /// tree that is gone on from after leaves that were closed and not split.
     ///
     /// It answers `None` if no edge is required, or if it finds no point above the value of the start. It does so at
     /// once for more than 120 required edges, for more than 400 edges, and for m required edges and a capacity Q if
@@ -74,9 +75,9 @@ impl LeafPrograms {
     /// It asks for a leaf, a table that was made for the instance, and a start with a price for each required edge and
     /// weights on shores of the pool that belong to the instance. All shores of the pool have to belong to the instance.
     /// What it proposed for another instance before is no matter to what it promises. The only error is want of memory.
-    /// A leaf takes some 100 fills of the table at most, and the first one some 1,000. The program touches some
-    /// 1.5 * 10^9 entries at a leaf at most, and 4 * 10^9 at the first one. All leaves and splits together take
-    /// 1.5 * 10^10 entries and steps of fills; then it answers `None` at once. No clock decides.
+    /// A leaf takes some 100 fills of the table at most, and one that begins anew some 1,000. The program touches some
+    /// 1.5 * 10^9 entries at a leaf at most, and 4 * 10^9 at one that begins anew. All leaves and splits since then
+    /// take 1.5 * 10^10 entries and steps of fills; then it answers `None` at once. No clock decides.
     pub fn raise(
         &mut self,
         alloc: Global,
@@ -258,7 +259,7 @@ impl LeafPrograms {
     /// It asks for the leaf, a table that was made for the instance, and a pool that has the shores of the branch. All
     /// shores of the pool have to belong to the instance.
     /// Shores of cuts that look worth a trial are placed in the pool behind those that it held. The only error is want
-    /// of memory. It takes up to 32 fills of the table, and the time of some 700 steps of the dual method.
+    /// of memory. It takes up to 32 fills of the table, and the time of up to 1,200 steps of the dual method.
     pub fn split(
         &mut self,
         alloc: Global,

@@ -7,6 +7,7 @@
 //! moves both at once along what relaxed tours serve and cross. It only proposes: the pricing table says whether a set
 //! fits.
 //!
+//! - `ascending`: the public call.
 //! - `climbing`: the steps, with `step_size` (their length, and when the ascent turns back or ends) and `slopes` (their
 //!   direction).
 //! - `scoring`: a point made one that pays, with `scaling` (weights that no street is overloaded by).

@@ -8,13 +8,10 @@ ghost use Rattle.price_ascent.specs.Points.{IsActive};
 
 use crate::active::Active;
 use carp_base::{Instance, Memory};
-use cut_pool::ShorePool;
+use cut_pool::{MOST_SHORES, ShorePool};
 use price_points::number_at;
 use shore_prices::place_weight;
 use std::alloc::Global;
-
-// How many shores a pool holds at most.
-const MOST: usize = 2000;
 
 /// Places the shores with weights, and gives for each number of a shore its weight, or 0 if it has none. A weight above
 /// 0 and below `least` counts as none.
@@ -34,7 +31,7 @@ pub(crate) fn place_weights(
     ensures grown { IsGrown pool.old pool.new }
     ensures belong { All (Belongs inst.now) pool.new }
 {
-    let mut placed = vec![in alloc; 0; MOST + 1]?;
+    let mut placed = vec![in alloc; 0; MOST_SHORES + 1]?;
     for place in 0..actives.len() {
         let weight = number_at(weights, place);
         place_active(

@@ -1,4 +1,4 @@
-//! Trees of decisions that are carried over to another instance.
+//! Trees of decisions that are carried over to another instance, or taken up again by a search.
 //!
 //! In the field: reoptimization: a branch-and-bound tree with its dual solutions, reused for changed data.
 //!

@@ -6,5 +6,5 @@ pub place-requires : goal.place-requires
 place-requires c =
     let some : 1 ≤ c.loop-number.number = search rules in
     let within : c.loop-number.number ≤ length c.args.pool.now = search rules in
-    next_place c.args.pool.now c.loop-number.copy c.in_ok-copy_shore.field-0 c.loop-number.number c.len-number-end.ensures.different c.len-number-end.ensures.few some within c.loop-number.invariant
-    (c.in_ok-copy_shore.ensures ∙ c.shore.ensures)
+    next_place c.args.pool.now c.loop-number.copy c.in_ok-copy.field-0 c.loop-number.number c.len-number-end.ensures.different c.len-number-end.ensures.few some within c.loop-number.invariant
+    (c.in_ok-copy.ensures ∙ c.shore.ensures)
