@@ -27,8 +27,6 @@ mod cutting;
 mod examples;
 mod laws;
 mod reading;
-#[cfg(test)]
-mod tests;
 
 pub use carrying::carry;
 pub use carrying_tours::carry_plan;

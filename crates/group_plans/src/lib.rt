@@ -14,8 +14,6 @@ mod examples;
 mod gathering;
 mod laws;
 mod planning;
-#[cfg(test)]
-mod tests;
 
 pub use laws::plans_are_packings;
 pub use planning::plan_of_groups;

@@ -25,8 +25,6 @@ mod blocks;
 mod examples;
 mod growing;
 mod laws;
-#[cfg(test)]
-mod tests;
 mod values;
 mod way;
 

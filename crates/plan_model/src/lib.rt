@@ -21,8 +21,6 @@ mod plan;
 mod proposer;
 mod served;
 mod step;
-#[cfg(test)]
-mod tests;
 mod totals;
 mod tours;
 mod verdict;

@@ -1,7 +1,8 @@
-ghost use Rattle.std.specs.Prelude.{◌<◌, length};
+ghost use Rattle.std.specs.Prelude.{◌<◌, length, IsTrue};
+ghost use Rattle.plan_model.specs.Plans.{IsOnEdges};
 
 use carp_base::{Instance, Memory, RawEdge};
-use plan_model::{JudgeRoom, Plan, Step, Verdict, Walk, judge};
+use plan_model::{JudgeRoom, Plan, Step, Verdict, Walk, cost_of, judge, load_of};
 use samples::street;
 use std::alloc::Global;
 use std::process::Abort;
@@ -200,5 +201,66 @@ fn services_have_costs_of_their_own(rt: HostRuntime) -> Result<(), Fail> {
         alloc,
         &inst,
         &[("+1+2<2<1;", Verdict::Lawful { cost: 21 })],
+    )
+}
+
+// Whether a step of a plan is broken.
+fn is_broken(alloc: Global, inst: &Instance, plan: &Plan) -> Result<bool, Memory> {
+    let mut room = JudgeRoom::new(alloc, inst)?;
+    Ok(matches!(judge(inst, plan, &mut room), Verdict::Broken { .. }))
+}
+
+// Whether the steps of a walk are on edges of the instance.
+fn is_on_edges(inst: &Instance, walk: &Walk) -> bool
+    ensures { IsTrue result → IsOnEdges inst.now walk.now }
+{
+    for i in 0..walk.len() {
+        let edge = walk.step(i).edge;
+        if edge < 1 || edge > inst.edge_count() {
+            return false;
+        }
+    }
+    true
+}
+
+// The first walk of each plan has this load and this cost.
+fn expect_totals(
+    rt: &impl Abort,
+    alloc: Global,
+    inst: &Instance,
+    rows: &[(&str, u128, u128)],
+) -> Result<(), Fail> {
+    for (text, load, cost) in rows {
+        assert!(rt; text.len() < 1000);
+        let plan = plan_of(alloc, text)?;
+        let broken = is_broken(alloc, inst, &plan)?;
+        assert!(rt; !broken);
+        assert!(rt; plan.len() > 0);
+        let on_edges = is_on_edges(inst, plan.walk(0));
+        assert!(rt; on_edges);
+        assert_eq!(rt; load_of(inst, plan.walk(0)), *load);
+        assert_eq!(rt; cost_of(inst, plan.walk(0)), *cost);
+    }
+    Ok(())
+}
+
+#[test]
+fn walks_have_their_loads_and_costs(rt: HostRuntime) -> Result<(), Fail> {
+    let alloc = rt.alloc();
+    // A service that costs more than a crossing, and one that costs nothing.
+    let dear = RawEdge {
+        service: 9,
+        ..street(1, 2, 5, 1)
+    };
+    let free = RawEdge {
+        service: 0,
+        ..street(2, 3, 7, 2)
+    };
+    let inst = Instance::build(alloc, 3, 1, 3, &[dear, free], &[])?;
+    expect_totals(
+        &rt,
+        alloc,
+        &inst,
+        &[("+1+2<2<1;", 3, 21), (";", 0, 0), (">1-1;", 1, 14)],
     )
 }

@@ -17,8 +17,6 @@
 //! - `laws`, `carried_laws`: what is proved of raised instances, and of carried trees.
 #![tactic(auto)]
 
-#[cfg(test)]
-mod bound_tests;
 mod bounding;
 mod carried_examples;
 mod carried_laws;
@@ -26,13 +24,7 @@ mod carrying;
 mod examples;
 mod laws;
 mod naming;
-#[cfg(test)]
-mod naming_tests;
 mod noting;
-#[cfg(test)]
-mod samples;
-#[cfg(test)]
-mod tests;
 
 pub use bounding::greatest_bound;
 pub use carried_laws::carried_trees_show;

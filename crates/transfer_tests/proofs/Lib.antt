@@ -1,0 +1,3 @@
+pub mod LightSets
+pub mod SmallTrees
+pub mod SameServices
