@@ -1,11 +1,10 @@
 -- Inner nodes, splits that a search may take, and a leaf that gave way to an inner node with two price leaves. No public contract speaks of
 -- this.
-use Rattle.std.specs.Prelude.{◌≡◌, ℕ, ◌<◌, List, length}
+use Rattle.std.specs.Prelude.{ℕ, ◌<◌, List}
 use Rattle.carp_base.specs.Problem.{Problem, IsRequired}
 use Rattle.decision_chains.specs.declared.decision.Decision.{Decision}
 use Rattle.decision_chains.specs.Exclusions.{IsDetermined}
 use Rattle.decision_chains.specs.Pairs.{IsPairWithin}
-use Rattle.branch_rules.specs.Prices.{Prices, weight_at}
 use Rattle.branch_rules.specs.declared.node.Node.{Node}
 use Rattle.branch_rules.specs.declared.node.Node.TheVariants as nodes
 use Rattle.branch_rules.specs.Trees.{Tree, pair, cut, price}
@@ -41,9 +40,3 @@ AreSettledBelow p branch n = (a b : ℕ) → IsRequired p a → IsRequired p b �
 -- each pair of the edge a and a later one is determined, if the later one is below the number n
 abbrev pub IsSettledBelow : Problem → List Decision → ℕ → ℕ → Type 0
 IsSettledBelow p branch a n = (b : ℕ) → IsRequired p b → a < b → b < n → IsDetermined p branch a b
-
--- some weight of a set is on this shore
-pub record IsWeighed (set : Prices) (shore : ℕ) : Type 0 where
-  pub place : ℕ
-  pub inside : place < length set.weights
-  pub is : shore ≡ (weight_at set place).shore

@@ -1,39 +1,33 @@
 // How a leaf is split.
-ghost use Rattle.std.specs.Prelude.{◌-◌, ◌+◌, All, IfOk, IfSome, IsFalse, IsTrue, MatchOption};
+ghost use Rattle.std.specs.Prelude.{◌-◌, ◌+◌, IfOk, IfSome, IsFalse, IsTrue, MatchOption};
 ghost use Rattle.carp_base.specs.Problem.{IsRequired};
 ghost use Rattle.decision_chains.specs.Exclusions.{IsDetermined, PermitsUnexcluded};
 ghost use Rattle.decision_chains.specs.Pairs.{ArePairsIn};
 ghost use Rattle.branch_rules.specs.Decisions.{cuts_of, IsFixed, IsVoid};
-ghost use Rattle.branch_rules.specs.Limits.{AreShoresIn, IsNodeIn, IsShoreOf};
+ghost use Rattle.branch_rules.specs.Limits.{IsNodeIn};
 ghost use Rattle.branch_rules.specs.Trees.{IsLeanNode};
 ghost use Rattle.grown_trees.specs.Growth.{IsSpelledNode};
 ghost use Rattle.grown_trees.specs.Places.{IsFineNode};
-ghost use Rattle.branch_tree.specs.Splits.{AreSettledBelow, IsInner, IsOpenPair, IsSettledBelow, IsWeighed};
+ghost use Rattle.branch_tree.specs.Splits.{AreSettledBelow, IsInner, IsOpenPair, IsSettledBelow};
 
-use branch_rules::{Branch, MOST_K, Node, PriceSet, is_shore_of};
+use branch_rules::{Branch, MOST_K, Node, is_shore_of};
 use carp_base::{Allowed, Instance, Memory};
 use cut_pool::ShorePool;
 use decision_chains::{excluded_is_symmetric, is_pair, yes_pairs_join};
 use std::alloc::Global;
 
-// A node that splits a branch that is neither void nor fixed. A bound greater by `gap` would close the leaf. The node
-// is the one that is proposed, if it may stand. Else it is the cut of the shore of the greatest weight at its lower
-// number, if that cut may be made and two more deadheads over the shore raise the value of the set by so much. Else it
-// is the first pair of edges that is not determined.
+// A node that splits a branch that is neither void nor fixed: the one that is proposed, if it may stand, and else the
+// first pair of edges that is not determined.
 pub(crate) fn choose_split(
     alloc: Global,
     inst: &Instance,
     pool: &ShorePool,
     branch: &Branch,
-    set: &PriceSet,
-    gap: u64,
     proposed: Option<Node>,
 ) -> Result<Node, Memory>
     requires pairs { ArePairsIn inst.now branch.now }
-    requires shores { AreShoresIn inst.now pool.now branch.now }
     requires not_void { ¬ (IsVoid inst.now pool.now branch.now) }
     requires not_fixed { ¬ (IsFixed inst.now pool.now branch.now) }
-    requires weights { All (λ w. IsShoreOf inst.now pool.now w.shore) set.now.weights }
     ensures inner { IfOk result IsInner }
     ensures inside { IfOk result (IsNodeIn inst.now pool.now) }
     ensures fine { IfOk result IsFineNode }
@@ -42,11 +36,7 @@ pub(crate) fn choose_split(
 {
     yes_pairs_join();
     excluded_is_symmetric();
-    if let Some(node) = lean_proposal(alloc, inst, pool, branch, proposed)? {
-        return Ok(node);
-    }
-    let cut = lean_cut(alloc, inst, pool, branch, set, gap)?;
-    match cut {
+    match lean_proposal(alloc, inst, pool, branch, proposed)? {
         Some(node) => Ok(node),
         None => the_open_pair(alloc, inst, branch),
     }
@@ -107,47 +97,6 @@ fn is_inner_in(inst: &Instance, pool: &ShorePool, node: &Node) -> bool
         Node::Cut { shore, k } => k <= MOST_K && is_shore_of(inst, pool, shore),
         _ => false,
     }
-}
-
-// The cut on the shore of the greatest weight, if it may be made and closes the high child.
-fn lean_cut(
-    alloc: Global,
-    inst: &Instance,
-    pool: &ShorePool,
-    branch: &Branch,
-    set: &PriceSet,
-    gap: u64,
-) -> Result<Option<Node>, Memory>
-    requires pairs { ArePairsIn inst.now branch.now }
-    requires weights { All (λ w. IsShoreOf inst.now pool.now w.shore) set.now.weights }
-    ensures inner { IfOk result (λ found. IfSome found IsInner) }
-    ensures inside { IfOk result (λ found. IfSome found (IsNodeIn inst.now pool.now)) }
-    ensures fine { IfOk result (λ found. IfSome found IsFineNode) }
-    ensures spelled { IfOk result (λ found. IfSome found (IsSpelledNode 0)) }
-    ensures lean { IfOk result (λ found. IfSome found (IsLeanNode inst.now pool.now branch.now (4 - cuts_of branch.now))) }
-{
-    let missing = i128::from(set.unit()) * i128::from(gap);
-    let Some(shore) = heaviest(set, missing) else {
-        return Ok(None);
-    };
-    let k = branch.lower(inst, pool, shore);
-    if_lean(alloc, inst, pool, branch, Node::Cut { shore, k })
-}
-
-// The shore of the greatest weight, if twice the weight is at least so much.
-fn heaviest(set: &PriceSet, missing: i128) -> Option<u32>
-    ensures { IfSome result (IsWeighed set.now) }
-{
-    let mut best = None;
-    let mut most = 0;
-    for place in 0..set.weights() {
-        let weight = set.weight(place);
-        if weight.weight > most && 2 * i128::from(weight.weight) >= missing {
-            most = weight.weight;
-            best = Some(weight.shore);
-        }
-    }
-    best
 }
 
 // The first pair that is not determined. There is one.

@@ -94,8 +94,7 @@ impl Search {
         if self.cost <= shown {
             self.close_with(place, set, shown)
         } else {
-            let gap = self.cost.saturating_sub(shown);
-            self.split_with_new(inst, place, branch, number, set, gap, proposed)
+            self.split_with_new(inst, place, branch, number, set, proposed)
         }
     }
 
@@ -121,7 +120,6 @@ impl Search {
         branch: &mut Branch,
         number: u32,
         set: PriceSet,
-        gap: u64,
         proposed: Option<Node>,
     ) -> Result<Turn, Memory>
         requires search { IsSearch inst.now self.old }
@@ -134,7 +132,7 @@ impl Search {
         ensures err { OnErr result (state_of self.new ≡ state_of self.old) }
     {
         known_laws();
-        let halves = choose_halves(self.alloc, inst, &self.pool, branch, &set, gap, proposed)?;
+        let halves = choose_halves(self.alloc, inst, &self.pool, branch, &set, proposed)?;
         self.put_split_with(place, halves.node, set, halves.children)?;
         Ok(Turn::Split)
     }
@@ -154,24 +152,20 @@ impl Search {
         ensures { IsTurn inst.now self.old self.new result }
     {
         known_laws();
-        let gap = self.cost.saturating_sub(self.tree.node(place).shows);
-        let halves = choose_halves_of(
-            self.alloc, inst, &self.pool, branch, &self.sets, number, gap,
-        )?;
+        let halves = choose_halves_of(self.alloc, inst, &self.pool, branch, &self.sets, number)?;
         self.put_split(place, halves.node, number, halves.children)?;
         Ok(Turn::Split)
     }
 }
 
 // A node that splits a branch that is neither void nor fixed, and what a set that fits there shows under the decisions
-// of both children. A bound greater by `gap` would close the leaf. The branch is as it was afterwards.
+// of both children. The branch is as it was afterwards.
 fn choose_halves(
     alloc: Global,
     inst: &Instance,
     pool: &ShorePool,
     branch: &mut Branch,
     set: &PriceSet,
-    gap: u64,
     proposed: Option<Node>,
 ) -> Result<Halves, Memory>
     requires pairs { ArePairsIn inst.now branch.old }
@@ -185,7 +179,7 @@ fn choose_halves(
     ensures some_unit { 1 ≤ set.now.unit }
 {
     let _ = set.unit();
-    let node = choose_split(alloc, inst, pool, branch, set, gap, proposed)?;
+    let node = choose_split(alloc, inst, pool, branch, proposed)?;
     let children = children_show(inst, pool, branch, &node, set)?;
     Ok(Halves { node, children })
 }
@@ -198,7 +192,6 @@ fn choose_halves_of(
     branch: &mut Branch,
     sets: &[PriceSet],
     number: u32,
-    gap: u64,
 ) -> Result<Halves, Memory>
     requires begins { MayBegin inst.now pool.now branch.old sets.now number }
     requires shores { AreShoresIn inst.now pool.now branch.old }
@@ -208,7 +201,7 @@ fn choose_halves_of(
     ensures split { IfOk result (λ halves. IsSplitBy inst.now pool.now branch.old (set_in sets.now number) halves.node halves.children) }
     ensures some_unit { 1 ≤ (set_in sets.now number).unit }
 {
-    choose_halves(alloc, inst, pool, branch, set_of(sets, number), gap, None)
+    choose_halves(alloc, inst, pool, branch, set_of(sets, number), None)
 }
 
 // The price set of a number from 1.
