@@ -32,16 +32,21 @@ fn cost_table(alloc: Global, inst: &Instance) -> Result<Distances, Memory>
     distances(alloc, inst, &net, &prices)
 }
 
+// A cost and where a step ends, if it starts at a vertex.
+fn from_tail(cost: u64, tail: u32, head: u32, at: u32) -> Option<(u64, u32)> {
+    if tail == at { Some((cost, head)) } else { None }
+}
+
 // The cost of crossing an edge from a vertex without service, and where the step ends; `None` if it serves, or starts elsewhere.
 fn crossed(inst: &Instance, step: Step, at: u32) -> Option<(u64, u32)> {
     if step.served || step.edge == 0 || step.edge > inst.edge_count() {
         return None;
     }
     let edge = inst.edge(step.edge);
-    match step.forward {
-        true if edge.u == at => Some((edge.cost, edge.v)),
-        false if edge.v == at => Some((edge.cost, edge.u)),
-        _ => None,
+    if step.forward {
+        from_tail(edge.cost, edge.u, edge.v, at)
+    } else {
+        from_tail(edge.cost, edge.v, edge.u, at)
     }
 }
 
@@ -57,6 +62,51 @@ fn along(inst: &Instance, walk: &Walk, from: u32) -> Option<(u128, u32)> {
     Some((sum, at))
 }
 
+// The least cost from one vertex to another; `None` where one of them is out of range.
+fn least(inst: &Instance, dist: &Distances, way: (u32, u32)) -> Option<Option<u128>>
+    requires { dist.now.problem ≡ inst.now }
+{
+    let (from, to) = way;
+    if from < 1 || from > inst.vertices() || to < 1 || to > inst.vertices() {
+        return None;
+    }
+    Some(dist.get(from, to))
+}
+
+// A path from one vertex to another, where both are in range.
+fn path(
+    alloc: Global,
+    inst: &Instance,
+    dist: &Distances,
+    way: (u32, u32),
+) -> Result<Option<Walk>, Memory>
+    requires { dist.now.problem ≡ inst.now }
+{
+    let (from, to) = way;
+    if from < 1 || from > inst.vertices() || to < 1 || to > inst.vertices() {
+        return Ok(None);
+    }
+    dist.path(alloc, from, to)
+}
+
+// The cost of the path from one vertex to another, and its end; an error if it is long or does not chain.
+fn walked(
+    alloc: Global,
+    inst: &Instance,
+    dist: &Distances,
+    way: (u32, u32),
+) -> Result<Option<(u128, u32)>, Fail>
+    requires { dist.now.problem ≡ inst.now }
+{
+    let Some(walk) = path(alloc, inst, dist, way)? else {
+        return Ok(None);
+    };
+    if walk.len() >= inst.vertices() as usize {
+        return Err("the path is long")?;
+    }
+    Ok(Some(along(inst, &walk, way.0).ok_or("the steps chain")?))
+}
+
 // The least cost from one vertex to another is as wanted, and the path has it.
 fn expect_cost(
     rt: &impl Abort,
@@ -68,17 +118,9 @@ fn expect_cost(
 ) -> Result<(), Fail>
     requires { dist.now.problem ≡ inst.now }
 {
-    let (from, to) = way;
-    assert!(rt; 1 <= from && from <= inst.vertices() && 1 <= to && to <= inst.vertices());
-    assert_eq!(rt; dist.get(from, to), want, "cost of {way:?}");
-    match dist.path(alloc, from, to)? {
-        Some(walk) => {
-            let found = along(inst, &walk, from);
-            assert_eq!(rt; found, want.map(|cost| (cost, to)), "path of {way:?}");
-            assert!(rt; walk.len() < inst.vertices() as usize, "length of {way:?}");
-        }
-        None => assert_eq!(rt; want, None, "path of {way:?}"),
-    }
+    assert_eq!(rt; least(inst, dist, way), Some(want), "cost of {way:?}");
+    let found = walked(alloc, inst, dist, way)?;
+    assert_eq!(rt; found, want.map(|cost| (cost, way.1)), "path of {way:?}");
     Ok(())
 }
 
@@ -91,12 +133,20 @@ fn expect_costs(
     wants: &[(u32, u32, Option<u128>)],
 ) -> Result<(), Fail> {
     assert!(rt; edges.len() < 10);
-    let Ok(inst) = Instance::build(alloc, vertices, 1, 1, &[], edges) else {
-        panic!(rt; "it is valid");
-    };
-    let dist = cost_table(alloc, &inst)?;
+    let inst = Instance::build(alloc, vertices, 1, 1, &[], edges)?;
+    expect_costs_of(rt, alloc, &inst, wants)
+}
+
+// The least costs of an instance, from some vertices to others.
+fn expect_costs_of(
+    rt: &impl Abort,
+    alloc: Global,
+    inst: &Instance,
+    wants: &[(u32, u32, Option<u128>)],
+) -> Result<(), Fail> {
+    let dist = cost_table(alloc, inst)?;
     for &(from, to, want) in wants {
-        expect_cost(rt, alloc, &inst, &dist, (from, to), want)?;
+        expect_cost(rt, alloc, inst, &dist, (from, to), want)?;
     }
     Ok(())
 }
@@ -189,24 +239,42 @@ fn relaxed(alloc: Global, inst: &Instance, from: u32) -> Result<Vec<u128>, Alloc
     Ok(labels)
 }
 
+// A made instance.
+fn made(alloc: Global, seed: u64) -> Result<Instance, Fail> {
+    let edges = made_edges(alloc, seed)?;
+    if edges.len() != 10 {
+        return Err("ten edges")?;
+    }
+    Ok(Instance::build(alloc, 7, 1, 1, &[], &edges)?)
+}
+
+// The distances from a vertex are those of the slow relaxation.
+fn expect_relaxed_from(
+    rt: &impl Abort,
+    alloc: Global,
+    inst: &Instance,
+    dist: &Distances,
+    from: u32,
+) -> Result<(), Fail>
+    requires { dist.now.problem ≡ inst.now }
+{
+    let labels = relaxed(alloc, inst, from)?;
+    for to in 1..8 {
+        let want = labels
+            .get(to as usize)
+            .copied()
+            .filter(|label| *label < u128::MAX);
+        expect_cost(rt, alloc, inst, dist, (from, to), want)?;
+    }
+    Ok(())
+}
+
 // All distances of a made instance are those of the slow relaxation.
 fn expect_relaxed(rt: &impl Abort, alloc: Global, seed: u64) -> Result<(), Fail> {
-    let edges = made_edges(alloc, seed)?;
-    assert!(rt; edges.len() < 20);
-    assert!(rt; edges.len() == 10);
-    let Ok(inst) = Instance::build(alloc, 7, 1, 1, &[], &edges) else {
-        panic!(rt; "it is valid");
-    };
+    let inst = made(alloc, seed)?;
     let dist = cost_table(alloc, &inst)?;
     for from in 1..8 {
-        let labels = relaxed(alloc, &inst, from)?;
-        for to in 1..8 {
-            let want = labels
-                .get(to as usize)
-                .copied()
-                .filter(|label| *label < u128::MAX);
-            expect_cost(rt, alloc, &inst, &dist, (from, to), want)?;
-        }
+        expect_relaxed_from(rt, alloc, &inst, &dist, from)?;
     }
     Ok(())
 }
@@ -247,13 +315,9 @@ fn step_of(sign: u8, edge: u8) -> Step {
 }
 
 // Three edges to serve, round a triangle, and a dead end.
-fn triangle(rt: &impl Abort, alloc: Global) -> Instance {
+fn triangle(alloc: Global) -> Result<Instance, Fail> {
     let required = [street(1, 2, 5), street(2, 3, 7), street(1, 3, 4)];
-    let others = [street(3, 4, 1)];
-    let Ok(inst) = Instance::build(alloc, 4, 1, 3, &required, &others) else {
-        panic!(rt; "it is valid");
-    };
-    inst
+    Ok(Instance::build(alloc, 4, 1, 3, &required, &[street(3, 4, 1)])?)
 }
 
 // A plan is lawful, and costs this much.
@@ -269,6 +333,31 @@ fn expect_lawful(
     Ok(())
 }
 
+// What a plan is tidied to, if it is lawful and costs this much.
+fn tidied(alloc: Global, inst: &Instance, plan: &Plan, cost: u128) -> Result<Plan, Fail> {
+    let mut room = JudgeRoom::new(alloc, inst)?;
+    let Verdict::Lawful { cost: found } = judge(inst, plan, &mut room) else {
+        return Err("it is lawful")?;
+    };
+    if found != cost {
+        return Err("another cost")?;
+    }
+    let dist = cost_table(alloc, inst)?;
+    Ok(tidy(alloc, inst, &dist, plan)?)
+}
+
+// A plan has this text, is lawful, and costs this much.
+fn expect_plan(
+    rt: &impl Abort,
+    alloc: Global,
+    inst: &Instance,
+    plan: &Plan,
+    want: (&str, u128),
+) -> Result<(), Fail> {
+    assert_eq!(rt; plan_text(alloc, plan)?.as_slice(), want.0.as_bytes());
+    expect_lawful(rt, alloc, inst, plan, want.1)
+}
+
 // A plan that costs this much is tidied to another, which costs the least.
 fn expect_tidied(
     rt: &impl Abort,
@@ -276,17 +365,10 @@ fn expect_tidied(
     before: (&str, u128),
     after: (&str, u128),
 ) -> Result<(), Fail> {
-    let inst = triangle(rt, alloc);
-    let dist = cost_table(alloc, &inst)?;
+    let inst = triangle(alloc)?;
     let plan = plan_of(alloc, before.0)?;
-    let mut room = JudgeRoom::new(alloc, &inst)?;
-    let Verdict::Lawful { cost } = judge(&inst, &plan, &mut room) else {
-        panic!(rt; "it is lawful");
-    };
-    assert_eq!(rt; cost, before.1);
-    let tidied = tidy(alloc, &inst, &dist, &plan)?;
-    assert_eq!(rt; plan_text(alloc, &tidied)?.as_slice(), after.0.as_bytes());
-    expect_lawful(rt, alloc, &inst, &tidied, after.1)
+    let tidied = tidied(alloc, &inst, &plan, before.1)?;
+    expect_plan(rt, alloc, &inst, &tidied, after)
 }
 
 #[test]
@@ -302,15 +384,16 @@ fn tidies_plans(rt: HostRuntime) -> Result<(), Fail> {
     expect_tidied(&rt, alloc, (">1>2-3;+1+2<3;", 32), (">3-3;+1+2<3;", 24))
 }
 
+// A tour for each edge to serve.
+fn one_each(alloc: Global, inst: &Instance) -> Result<Plan, Fail> {
+    let dist = cost_table(alloc, inst)?;
+    Ok(single_tours(alloc, inst, &dist)?)
+}
+
 #[test]
 fn serves_each_edge_in_a_tour(rt: HostRuntime) -> Result<(), Fail> {
     let alloc = rt.alloc();
-    let inst = triangle(&rt, alloc);
-    let dist = cost_table(alloc, &inst)?;
-    let plan = single_tours(alloc, &inst, &dist)?;
-    assert_eq!(rt;
-        plan_text(alloc, &plan)?.as_slice(),
-        b"+1<1;>1+2<3;+3<3;".as_slice()
-    );
-    expect_lawful(&rt, alloc, &inst, &plan, 34)
+    let inst = triangle(alloc)?;
+    let plan = one_each(alloc, &inst)?;
+    expect_plan(&rt, alloc, &inst, &plan, ("+1<1;>1+2<3;+3<3;", 34))
 }

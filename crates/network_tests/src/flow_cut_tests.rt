@@ -5,6 +5,7 @@ ghost use Rattle.flow_cut.specs.Flows.{HasEnds, HasFineRoom, IsNetwork};
 use carp_base::Memory;
 use flow_cut::{Arc, max_flow};
 use std::alloc::Global;
+use std::process::Abort;
 
 // The limits of a network.
 const MAX_NODES: u32 = 10_000;
@@ -62,9 +63,24 @@ fn value_of(
     }
 }
 
+// The greatest flow from one node to another over these rows.
+fn expect_value(
+    rt: &impl Abort,
+    alloc: Global,
+    nodes: u32,
+    way: (u32, u32),
+    rows: &[Row],
+    want: u128,
+) {
+    let value = value_of(alloc, nodes, rows, way.0, way.1);
+    assert_eq!(rt; value, Ok(Some(want)), "from {way:?} of {rows:?}");
+}
+
 #[test]
-fn answers_small_networks(rt: HostRuntime) {
+fn answers_networks_that_were_worked(rt: HostRuntime) {
     let worked: &[Row] = &[(1, 2, 3), (1, 3, 2), (2, 4, 2), (3, 4, 3), (2, 3, 1)];
+    expect_value(&rt, rt.alloc(), 4, (1, 4), worked, 5);
+    expect_value(&rt, rt.alloc(), 4, (4, 1), worked, 0);
     // The network of the chapter on flows in Cormen, Leiserson, Rivest and Stein, whose greatest flow is 23.
     let trucks: &[Row] = &[
         (1, 2, 16),
@@ -77,6 +93,7 @@ fn answers_small_networks(rt: HostRuntime) {
         (5, 4, 7),
         (5, 6, 4),
     ];
+    expect_value(&rt, rt.alloc(), 6, (1, 6), trucks, 23);
     // The shortest way, 1 2 3 4, has to be taken back in part.
     let back: &[Row] = &[
         (1, 2, 1),
@@ -89,37 +106,34 @@ fn answers_small_networks(rt: HostRuntime) {
         (7, 8, 1),
         (8, 4, 1),
     ];
-    let none: &[Row] = &[];
-    let rows: [(u32, u32, u32, &[Row], u128); 15] = [
-        (4, 1, 4, worked, 5),
-        (4, 4, 1, worked, 0),
-        (6, 1, 6, trucks, 23),
-        (8, 1, 4, back, 2),
-        (2, 1, 2, none, 0),
-        (2, 1, 2, &[(1, 1, 7), (1, 2, 4), (2, 2, 9)], 4),
-        (2, 1, 2, &[(1, 2, 3), (1, 2, 5)], 8),
-        (2, 1, 2, &[(1, 2, 3), (2, 1, 5)], 3),
-        (2, 2, 1, &[(1, 2, 3), (2, 1, 5)], 5),
-        (2, 1, 2, &[(1, 2, 0)], 0),
-        (4, 1, 4, &[(1, 2, 5), (3, 4, 5)], 0),
-        (3, 2, 3, &[(1, 2, 9), (2, 3, 4), (3, 1, 6)], 4),
-        (3, 1, 2, &[(1, 3, 6), (3, 1, 2), (3, 2, 5), (2, 3, 8)], 5),
-        (10_000, 10_000, 1, &[(10_000, 5000, 4), (5000, 1, 3)], 3),
-        (
-            2,
-            1,
-            2,
-            &[
-                (1, 2, 1_000_000_000_000_000_000),
-                (1, 2, 1_000_000_000_000_000_000),
-            ],
-            2_000_000_000_000_000_000,
-        ),
+    expect_value(&rt, rt.alloc(), 8, (1, 4), back, 2);
+}
+
+#[test]
+fn answers_small_networks(rt: HostRuntime) {
+    let alloc = rt.alloc();
+    expect_value(&rt, alloc, 2, (1, 2), &[], 0);
+    expect_value(&rt, alloc, 2, (1, 2), &[(1, 1, 7), (1, 2, 4), (2, 2, 9)], 4);
+    expect_value(&rt, alloc, 2, (1, 2), &[(1, 2, 3), (1, 2, 5)], 8);
+    expect_value(&rt, alloc, 2, (1, 2), &[(1, 2, 3), (2, 1, 5)], 3);
+    expect_value(&rt, alloc, 2, (2, 1), &[(1, 2, 3), (2, 1, 5)], 5);
+    expect_value(&rt, alloc, 2, (1, 2), &[(1, 2, 0)], 0);
+    expect_value(&rt, alloc, 4, (1, 4), &[(1, 2, 5), (3, 4, 5)], 0);
+    expect_value(&rt, alloc, 3, (2, 3), &[(1, 2, 9), (2, 3, 4), (3, 1, 6)], 4);
+}
+
+#[test]
+fn answers_networks_with_ways_back_and_great_numbers(rt: HostRuntime) {
+    let alloc = rt.alloc();
+    let round = [(1, 3, 6), (3, 1, 2), (3, 2, 5), (2, 3, 8)];
+    expect_value(&rt, alloc, 3, (1, 2), &round, 5);
+    let far = [(10_000, 5000, 4), (5000, 1, 3)];
+    expect_value(&rt, alloc, 10_000, (10_000, 1), &far, 3);
+    let great = [
+        (1, 2, 1_000_000_000_000_000_000),
+        (1, 2, 1_000_000_000_000_000_000),
     ];
-    for (nodes, s, t, arcs, want) in rows {
-        let value = value_of(rt.alloc(), nodes, arcs, s, t);
-        assert_eq!(rt; value, Ok(Some(want)), "from {s} to {t} of {arcs:?}");
-    }
+    expect_value(&rt, alloc, 2, (1, 2), &great, 2_000_000_000_000_000_000);
 }
 
 #[test]
