@@ -1,9 +1,6 @@
 // `check` and `check_stream` on certificates with weights on groups, worked out by hand.
-use crate::cert_checker_tests::{AS_IT_IS, expect, ring, with_line};
-use carp_base::Instance;
-use cert_checker::{Answer, Reason, check};
-use cert_format::read_cert;
-use cert_lines::read_is_spelled;
+use crate::cert_checker_tests::{AS_IT_IS, answer_of, expect, ring, with_line};
+use cert_checker::{Answer, Reason};
 use std::alloc::Global;
 use std::fmt::Write;
 use std::process::Abort;
@@ -96,28 +93,38 @@ fn cheap(node: u64, value: i128) -> Answer {
     })
 }
 
+// With one line changed, a certificate of the ring gets this answer.
+fn expect_ring(
+    rt: &impl Abort,
+    alloc: Global,
+    text: &str,
+    change: (usize, &str),
+    expected: Answer,
+) -> Result<(), Fail> {
+    let inst = ring(alloc, 5)?;
+    expect(rt, alloc, &inst, text, change, expected)
+}
+
 #[test]
 fn groups_show_exactly_their_bound(rt: HostRuntime) -> Result<(), Fail> {
     let alloc = rt.alloc();
-    let inst = ring(alloc, 5)?;
     let good = Answer::Accepted;
-    expect(&rt, alloc, &inst, GROUP_RING, AS_IT_IS, good)?;
-    expect(&rt, alloc, &inst, GROUP_RING, (4, "bound 46"), low(45, 45))
+    expect_ring(&rt, alloc, GROUP_RING, AS_IT_IS, good)?;
+    expect_ring(&rt, alloc, GROUP_RING, (4, "bound 46"), low(45, 45))
 }
 
 // One more on the weight takes one off the value. One less leaves a tour of two streets one short.
 #[test]
 fn a_group_has_just_its_weight(rt: HostRuntime) -> Result<(), Fail> {
     let alloc = rt.alloc();
-    let inst = ring(alloc, 5)?;
     let heavy = (12, "bonds 1 22 3 1 2 3");
-    expect(&rt, alloc, &inst, GROUP_RING, heavy, low(44, 44))?;
+    expect_ring(&rt, alloc, GROUP_RING, heavy, low(44, 44))?;
     let light = (12, "bonds 1 20 3 1 2 3");
-    expect(&rt, alloc, &inst, GROUP_RING, light, cheap(1, -1))?;
+    expect_ring(&rt, alloc, GROUP_RING, light, cheap(1, -1))?;
     let twice = (12, "bonds 2 20 3 1 2 3 1 3 1 2 3");
-    expect(&rt, alloc, &inst, GROUP_RING, twice, Answer::Accepted)?;
+    expect_ring(&rt, alloc, GROUP_RING, twice, Answer::Accepted)?;
     let two = (12, "bonds 1 21 2 1 2");
-    expect(&rt, alloc, &inst, GROUP_RING, two, cheap(1, -21))
+    expect_ring(&rt, alloc, GROUP_RING, two, cheap(1, -21))
 }
 
 // The fourth street is not to be served, and there are no streets 599 and 600. No tour has a bond with them, and they have no demand. So with
@@ -125,48 +132,38 @@ fn a_group_has_just_its_weight(rt: HostRuntime) -> Result<(), Fail> {
 #[test]
 fn nothing_is_asked_of_the_edges_of_a_group(rt: HostRuntime) -> Result<(), Fail> {
     let alloc = rt.alloc();
-    let inst = ring(alloc, 5)?;
     let wide = (12, "bonds 1 21 4 1 2 3 4");
-    expect(&rt, alloc, &inst, GROUP_RING, wide, low(24, 44))?;
+    expect_ring(&rt, alloc, GROUP_RING, wide, low(24, 44))?;
     let far = (12, "bonds 2 21 3 1 2 3 7 2 599 600");
-    expect(&rt, alloc, &inst, GROUP_RING, far, low(31, 44))
+    expect_ring(&rt, alloc, GROUP_RING, far, low(31, 44))
 }
 
 #[test]
 fn a_yes_weight_needs_its_yes(rt: HostRuntime) -> Result<(), Fail> {
     let alloc = rt.alloc();
-    let inst = ring(alloc, 5)?;
     let good = Answer::Accepted;
-    expect(&rt, alloc, &inst, YES_RING, AS_IT_IS, good)?;
-    expect(&rt, alloc, &inst, YES_RING, (18, "price 1"), good)?;
+    expect_ring(&rt, alloc, YES_RING, AS_IT_IS, good)?;
+    expect_ring(&rt, alloc, YES_RING, (18, "price 1"), good)?;
     let apart = missing_yes(2, 3, 1, 2);
-    expect(&rt, alloc, &inst, YES_RING, (19, "price 2"), apart)?;
+    expect_ring(&rt, alloc, YES_RING, (19, "price 2"), apart)?;
     let first = (15, "bonds 3 -1 2 1 3 21 3 1 2 3 -1 2 2 3");
-    expect(&rt, alloc, &inst, YES_RING, first, missing_yes(2, 2, 1, 3))?;
+    expect_ring(&rt, alloc, YES_RING, first, missing_yes(2, 2, 1, 3))?;
     let second = (15, "bonds 3 21 3 1 2 3 -1 2 1 2 -1 2 2 3");
-    expect(&rt, alloc, &inst, YES_RING, second, missing_yes(2, 2, 2, 3))
+    expect_ring(&rt, alloc, YES_RING, second, missing_yes(2, 2, 2, 3))
 }
 
 // The upper number is asked for before the yes, and the yes before the tours.
 #[test]
 fn reasons_of_a_leaf_come_in_their_order(rt: HostRuntime) -> Result<(), Fail> {
     let alloc = rt.alloc();
-    let inst = ring(alloc, 5)?;
     let missing = Answer::Rejected(Reason::MissingUpper {
         set: 1,
         node: 1,
         shore: 1,
     });
-    expect(&rt, alloc, &inst, BARE_RING, AS_IT_IS, missing)?;
+    expect_ring(&rt, alloc, BARE_RING, AS_IT_IS, missing)?;
     let no_weights = (12, "weights 0");
-    expect(
-        &rt,
-        alloc,
-        &inst,
-        BARE_RING,
-        no_weights,
-        missing_yes(1, 1, 1, 2),
-    )
+    expect_ring(&rt, alloc, BARE_RING, no_weights, missing_yes(1, 1, 1, 2))
 }
 
 // So many times the same weight on the streets 1 and 2, as the line of a set.
@@ -178,21 +175,17 @@ fn many_bonds(alloc: Global, count: usize, weight: i64) -> Result<String, Fail> 
     Ok(line)
 }
 
-// With one line changed, the certificate gets this answer.
-fn expect_whole(
-    rt: &impl Abort,
-    alloc: Global,
-    inst: &Instance,
-    text: &str,
-    change: (usize, &str),
-    expected: Answer,
-) -> Result<(), Fail> {
-    read_is_spelled();
+// The answer to a certificate of the ring with one line changed.
+fn changed_answer(alloc: Global, text: &str, change: (usize, &str)) -> Result<Answer, Fail> {
+    let inst = ring(alloc, 5)?;
     let text = with_line(alloc, text, change.0, change.1)?;
-    let cert = read_cert(alloc, text.as_bytes())?;
-    let answer = check(alloc, inst, &cert)?;
-    assert_eq!(rt; answer, expected);
-    Ok(())
+    answer_of(alloc, &inst, text.as_bytes())
+}
+
+// The answer to one with 2,000 bonds of this weight.
+fn answer_with_bonds(alloc: Global, text: &str, weight: i64) -> Result<Answer, Fail> {
+    let line = many_bonds(alloc, 2_000, weight)?;
+    changed_answer(alloc, text, (12, &line))
 }
 
 // 2,000 weights of 10^15 on the pair 1 2, whose room is 1: two streets less the one vehicle that their demand of 4 takes. A tour that serves one
@@ -200,31 +193,22 @@ fn expect_whole(
 #[test]
 fn the_greatest_weights_are_summed(rt: HostRuntime) -> Result<(), Fail> {
     let alloc = rt.alloc();
-    let inst = ring(alloc, 5)?;
-    let line = many_bonds(alloc, 2_000, 1_000_000_000_000_000)?;
-    let bonds = (12, line.as_str());
-    expect_whole(&rt, alloc, &inst, GROUP_RING, bonds, cheap(1, -21))?;
+    let answer = answer_with_bonds(alloc, GROUP_RING, 1_000_000_000_000_000)?;
+    assert_eq!(&rt; answer, cheap(1, -21));
     let small = with_line(alloc, GROUP_RING, 10, "prices 1 3 11 11 11")?;
-    let value = 33 - 2_000_000_000_000_000_000;
-    expect_whole(&rt, alloc, &inst, &small, bonds, low(value, 44))
+    let answer = answer_with_bonds(alloc, &small, 1_000_000_000_000_000)?;
+    assert_eq!(&rt; answer, low(33 - 2_000_000_000_000_000_000, 44));
+    Ok(())
 }
 
 // 2,000 yes weights of 10^15 on the pair 1 2: a tour that serves both costs 23, less 44 for their prices, less all the weights.
 #[test]
 fn the_greatest_yes_weights_are_summed(rt: HostRuntime) -> Result<(), Fail> {
     let alloc = rt.alloc();
-    let inst = ring(alloc, 5)?;
-    let line = many_bonds(alloc, 2_000, -1_000_000_000_000_000)?;
-    let bonds = (12, line.as_str());
-    expect_whole(
-        &rt,
-        alloc,
-        &inst,
-        GROUP_RING,
-        bonds,
-        missing_yes(1, 1, 1, 2),
-    )?;
+    let answer = answer_with_bonds(alloc, GROUP_RING, -1_000_000_000_000_000)?;
+    assert_eq!(&rt; answer, missing_yes(1, 1, 1, 2));
     let joined = with_line(alloc, YES_RING, 18, "price 1")?;
-    let value = -21 - 2_000_000_000_000_000_000;
-    expect_whole(&rt, alloc, &inst, &joined, bonds, cheap(2, value))
+    let answer = answer_with_bonds(alloc, &joined, -1_000_000_000_000_000)?;
+    assert_eq!(&rt; answer, cheap(2, -21 - 2_000_000_000_000_000_000));
+    Ok(())
 }

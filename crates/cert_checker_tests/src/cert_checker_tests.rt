@@ -187,7 +187,29 @@ pub(crate) fn with_line(
     Ok(changed)
 }
 
-// In a file that gives so many bytes at a look, the certificate gets this answer.
+// The answer to the certificate of a text.
+pub(crate) fn answer_of(alloc: Global, inst: &Instance, bytes: &[u8]) -> Result<Answer, Fail> {
+    read_is_spelled();
+    let cert = read_cert(alloc, bytes)?;
+    Ok(check(alloc, inst, &cert)?)
+}
+
+// The answer to it in a file that gives so many bytes at a look.
+fn answer_in_file(
+    alloc: Global,
+    inst: &Instance,
+    bytes: &[u8],
+    piece: usize,
+) -> Result<Answer, Fail> {
+    if piece == 0 {
+        return Err("a look gives some bytes")?;
+    }
+    let mut shelf = MemShelf::new(alloc, piece, Vec::new(alloc), Vec::new(alloc));
+    shelf.place("CERT", bytes)?;
+    Ok(check_stream(alloc, inst, &mut shelf, "CERT", 1_000)?.answer)
+}
+
+// In such a file it gets this answer.
 fn expect_in_file(
     rt: &impl Abort,
     alloc: Global,
@@ -196,15 +218,27 @@ fn expect_in_file(
     piece: usize,
     expected: Answer,
 ) -> Result<(), Fail> {
-    assert!(rt; piece > 0);
-    let mut shelf = MemShelf::new(alloc, piece, Vec::new(alloc), Vec::new(alloc));
-    shelf.place("CERT", bytes)?;
-    let checked = check_stream(alloc, inst, &mut shelf, "CERT", 1_000)?;
-    assert_eq!(rt; checked.answer, expected);
+    let answer = answer_in_file(alloc, inst, bytes, piece)?;
+    assert_eq!(rt; answer, expected);
     Ok(())
 }
 
-// With one line changed, the certificate gets this answer, whole and in pieces of any size.
+// The certificate of a text gets this answer, whole and in pieces of any size.
+fn expect_answer(
+    rt: &impl Abort,
+    alloc: Global,
+    inst: &Instance,
+    bytes: &[u8],
+    expected: Answer,
+) -> Result<(), Fail> {
+    let answer = answer_of(alloc, inst, bytes)?;
+    assert_eq!(rt; answer, expected);
+    expect_in_file(rt, alloc, inst, bytes, 1, expected)?;
+    expect_in_file(rt, alloc, inst, bytes, 7, expected)?;
+    expect_in_file(rt, alloc, inst, bytes, 65_536, expected)
+}
+
+// With one line changed, the certificate gets this answer.
 pub(crate) fn expect(
     rt: &impl Abort,
     alloc: Global,
@@ -213,258 +247,197 @@ pub(crate) fn expect(
     change: (usize, &str),
     expected: Answer,
 ) -> Result<(), Fail> {
-    read_is_spelled();
     let text = with_line(alloc, text, change.0, change.1)?;
-    let cert = read_cert(alloc, text.as_bytes())?;
-    let answer = check(alloc, inst, &cert)?;
-    assert_eq!(rt; answer, expected);
-    expect_in_file(rt, alloc, inst, text.as_bytes(), 1, expected)?;
-    expect_in_file(rt, alloc, inst, text.as_bytes(), 7, expected)?;
-    expect_in_file(rt, alloc, inst, text.as_bytes(), 65_536, expected)
+    expect_answer(rt, alloc, inst, text.as_bytes(), expected)
 }
 
 pub(crate) const AS_IT_IS: (usize, &str) = (0, "");
 
+// With one line changed, the certificate of the triangle gets this answer.
+fn expect_triangle(
+    rt: &impl Abort,
+    alloc: Global,
+    change: (usize, &str),
+    expected: Answer,
+) -> Result<(), Fail> {
+    let inst = triangle(alloc)?;
+    expect(rt, alloc, &inst, TRIANGLE, change, expected)
+}
+
+// The same of the row.
+fn expect_row(
+    rt: &impl Abort,
+    alloc: Global,
+    change: (usize, &str),
+    expected: Answer,
+) -> Result<(), Fail> {
+    let inst = row(alloc)?;
+    expect(rt, alloc, &inst, ROW, change, expected)
+}
+
+// The same of one street.
+fn expect_street(
+    rt: &impl Abort,
+    alloc: Global,
+    change: (usize, &str),
+    expected: Answer,
+) -> Result<(), Fail> {
+    let inst = one_street(alloc)?;
+    expect(rt, alloc, &inst, STREET, change, expected)
+}
+
+// The same of the ring.
+fn expect_ring(
+    rt: &impl Abort,
+    alloc: Global,
+    change: (usize, &str),
+    expected: Answer,
+) -> Result<(), Fail> {
+    let inst = ring(alloc, 3)?;
+    expect(rt, alloc, &inst, RING, change, expected)
+}
+
+// The same of the ring with wide vehicles.
+fn expect_wide(
+    rt: &impl Abort,
+    alloc: Global,
+    change: (usize, &str),
+    expected: Answer,
+) -> Result<(), Fail> {
+    let inst = ring(alloc, 5)?;
+    expect(rt, alloc, &inst, WIDE_RING, change, expected)
+}
+
+// The same of the star.
+fn expect_star(
+    rt: &impl Abort,
+    alloc: Global,
+    change: (usize, &str),
+    expected: Answer,
+) -> Result<(), Fail> {
+    let inst = star(alloc)?;
+    expect(rt, alloc, &inst, STAR, change, expected)
+}
+
+// The same of the fork.
+fn expect_fork(
+    rt: &impl Abort,
+    alloc: Global,
+    change: (usize, &str),
+    expected: Answer,
+) -> Result<(), Fail> {
+    let inst = fork(alloc)?;
+    expect(rt, alloc, &inst, FORK, change, expected)
+}
+
+fn low(node: u64, value: i128, limit: i128) -> Answer {
+    Answer::Rejected(Reason::LeafLow { node, value, limit })
+}
+
+fn cheap(node: u64, value: i128) -> Answer {
+    Answer::Rejected(Reason::TourTooCheap {
+        set: 1,
+        node,
+        value,
+    })
+}
+
+fn no_upper(node: u64, shore: u32) -> Answer {
+    Answer::Rejected(Reason::MissingUpper {
+        set: 1,
+        node,
+        shore,
+    })
+}
+
+fn not_lean(node: u64) -> Answer {
+    Answer::Rejected(Reason::NotLean { node })
+}
+
+fn misfit(part: Part) -> Answer {
+    Answer::Rejected(Reason::Misfit(part))
+}
+
 #[test]
 fn good_certificates_are_accepted(rt: HostRuntime) -> Result<(), Fail> {
     let alloc = rt.alloc();
-    let good = Answer::Accepted;
-    expect(&rt, alloc, &triangle(alloc)?, TRIANGLE, AS_IT_IS, good)?;
-    expect(&rt, alloc, &row(alloc)?, ROW, AS_IT_IS, good)?;
-    expect(&rt, alloc, &one_street(alloc)?, STREET, AS_IT_IS, good)?;
-    expect(&rt, alloc, &ring(alloc, 3)?, RING, AS_IT_IS, good)?;
-    expect(&rt, alloc, &ring(alloc, 5)?, WIDE_RING, AS_IT_IS, good)?;
-    expect(&rt, alloc, &star(alloc)?, STAR, AS_IT_IS, good)?;
+    expect_triangle(&rt, alloc, AS_IT_IS, Answer::Accepted)?;
+    expect_row(&rt, alloc, AS_IT_IS, Answer::Accepted)?;
+    expect_street(&rt, alloc, AS_IT_IS, Answer::Accepted)?;
+    expect_ring(&rt, alloc, AS_IT_IS, Answer::Accepted)?;
+    expect_wide(&rt, alloc, AS_IT_IS, Answer::Accepted)?;
+    expect_star(&rt, alloc, AS_IT_IS, Answer::Accepted)?;
     let split = (10, "nodes 3\npair 1 2\nprice 1");
-    expect(&rt, alloc, &triangle(alloc)?, TRIANGLE, split, good)
+    expect_triangle(&rt, alloc, split, Answer::Accepted)
 }
 
 #[test]
 fn leaves_of_prices_are_tested(rt: HostRuntime) -> Result<(), Fail> {
     let alloc = rt.alloc();
-    let inst = row(alloc)?;
-    let low = Reason::LeafLow {
-        node: 1,
-        value: 20,
-        limit: 20,
-    };
-    expect(
-        &rt,
-        alloc,
-        &inst,
-        ROW,
-        (3, "bound 21"),
-        Answer::Rejected(low),
-    )?;
-    let cheap = Reason::TourTooCheap {
-        set: 1,
-        node: 1,
-        value: -1,
-    };
-    expect(
-        &rt,
-        alloc,
-        &inst,
-        ROW,
-        (11, "prices 1 2 4 4"),
-        Answer::Rejected(cheap),
-    )?;
+    expect_row(&rt, alloc, (3, "bound 21"), low(1, 20, 20))?;
+    expect_row(&rt, alloc, (11, "prices 1 2 4 4"), cheap(1, -1))?;
     let heavy = Reason::WeightTooLarge {
         set: 1,
         edge: 1,
         price: -1,
     };
-    expect(
-        &rt,
-        alloc,
-        &inst,
-        ROW,
-        (12, "weights 2 1 4 2 4"),
-        Answer::Rejected(heavy),
-    )?;
-    let missing = Reason::MissingUpper {
-        set: 1,
-        node: 1,
-        shore: 2,
-    };
-    expect(
-        &rt,
-        alloc,
-        &inst,
-        ROW,
-        (12, "weights 2 1 3 2 -4"),
-        Answer::Rejected(missing),
-    )?;
-    let twice = Reason::TourTooCheap {
-        set: 1,
-        node: 1,
-        value: -100,
-    };
-    expect(
-        &rt,
-        alloc,
-        &fork(alloc)?,
-        FORK,
-        AS_IT_IS,
-        Answer::Rejected(twice),
-    )
+    let weights = (12, "weights 2 1 4 2 4");
+    expect_row(&rt, alloc, weights, Answer::Rejected(heavy))?;
+    expect_row(&rt, alloc, (12, "weights 2 1 3 2 -4"), no_upper(1, 2))?;
+    expect_fork(&rt, alloc, AS_IT_IS, cheap(1, -100))
 }
 
 #[test]
 fn nodes_are_tested_in_preorder(rt: HostRuntime) -> Result<(), Fail> {
     let alloc = rt.alloc();
-    let inst = star(alloc)?;
-    let low = Reason::LeafLow {
-        node: 2,
-        value: 410,
-        limit: 609,
-    };
-    expect(
-        &rt,
-        alloc,
-        &inst,
-        STAR,
-        (22, "price 2"),
-        Answer::Rejected(low),
-    )?;
-    let missing = Reason::MissingUpper {
-        set: 1,
-        node: 3,
-        shore: 1,
-    };
-    expect(
-        &rt,
-        alloc,
-        &inst,
-        STAR,
-        (23, "price 1"),
-        Answer::Rejected(missing),
-    )?;
-    let fat = Reason::NotLean { node: 1 };
-    expect(
-        &rt,
-        alloc,
-        &inst,
-        STAR,
-        (21, "cut 1 3"),
-        Answer::Rejected(fat),
-    )?;
-    let low = Reason::LeafLow {
-        node: 2,
-        value: 510,
-        limit: 609,
-    };
-    expect(
-        &rt,
-        alloc,
-        &inst,
-        STAR,
-        (21, "cut 1 5"),
-        Answer::Rejected(low),
-    )?;
-    let cheap = Reason::TourTooCheap {
-        set: 1,
-        node: 2,
-        value: -1,
-    };
-    expect(
-        &rt,
-        alloc,
-        &inst,
-        STAR,
-        (16, "prices 1 5 202 201 201 201 201"),
-        Answer::Rejected(cheap),
-    )
+    expect_star(&rt, alloc, (22, "price 2"), low(2, 410, 609))?;
+    expect_star(&rt, alloc, (23, "price 1"), no_upper(3, 1))?;
+    expect_star(&rt, alloc, (21, "cut 1 3"), not_lean(1))?;
+    expect_star(&rt, alloc, (21, "cut 1 5"), low(2, 510, 609))?;
+    let prices = (16, "prices 1 5 202 201 201 201 201");
+    expect_star(&rt, alloc, prices, cheap(2, -1))
 }
 
 #[test]
 fn void_and_fixed_leaves_are_tested(rt: HostRuntime) -> Result<(), Fail> {
     let alloc = rt.alloc();
-    let inst = triangle(alloc)?;
     let not_fixed = Answer::Rejected(Reason::NotFixed { node: 1 });
-    expect(&rt, alloc, &inst, TRIANGLE, (11, "fixed"), not_fixed)?;
+    expect_triangle(&rt, alloc, (11, "fixed"), not_fixed)?;
     let not_void = Answer::Rejected(Reason::NotVoid { node: 1 });
-    expect(&rt, alloc, &inst, TRIANGLE, (11, "void"), not_void)?;
+    expect_triangle(&rt, alloc, (11, "void"), not_void)?;
     let not_void = Answer::Rejected(Reason::NotVoid { node: 5 });
-    expect(
-        &rt,
-        alloc,
-        &one_street(alloc)?,
-        STREET,
-        (16, "void"),
-        not_void,
-    )?;
-    let inst = ring(alloc, 3)?;
-    let low = Reason::LeafLow {
-        node: 1,
-        value: 67,
-        limit: 67,
-    };
-    expect(
-        &rt,
-        alloc,
-        &inst,
-        RING,
-        (3, "bound 68"),
-        Answer::Rejected(low),
-    )?;
-    let fat = Answer::Rejected(Reason::NotLean { node: 1 });
-    expect(
-        &rt,
-        alloc,
-        &inst,
-        RING,
-        (10, "nodes 3\npair 1 2\nvoid"),
-        fat,
-    )
+    expect_street(&rt, alloc, (16, "void"), not_void)?;
+    expect_ring(&rt, alloc, (3, "bound 68"), low(1, 67, 67))?;
+    expect_ring(&rt, alloc, (10, "nodes 3\npair 1 2\nvoid"), not_lean(1))
 }
 
 #[test]
 fn what_stands_before_the_nodes_is_tested_first(rt: HostRuntime) -> Result<(), Fail> {
     let alloc = rt.alloc();
-    let inst = row(alloc)?;
     let cost = Reason::CostDiffers {
         stated: 19,
         found: 20,
     };
-    expect(
-        &rt,
-        alloc,
-        &inst,
-        ROW,
-        (2, "cost 19"),
-        Answer::Rejected(cost),
-    )?;
+    expect_row(&rt, alloc, (2, "cost 19"), Answer::Rejected(cost))?;
     let away = Reason::PlanUnlawful(Verdict::NotAtDepot { tour: 1 });
-    expect(
-        &rt,
-        alloc,
-        &inst,
-        ROW,
-        (5, "tour 1 +1"),
-        Answer::Rejected(away),
-    )?;
-    let shore = Answer::Rejected(Reason::Misfit(Part::Shore(1)));
-    expect(&rt, alloc, &inst, ROW, (8, "shore 2 2 4"), shore)?;
-    expect(&rt, alloc, &inst, ROW, (8, "shore 2 1 2"), shore)?;
-    let prices = Answer::Rejected(Reason::Misfit(Part::Prices(1)));
-    expect(&rt, alloc, &inst, ROW, (11, "prices 1 1 3"), prices)?;
-    let pair = Answer::Rejected(Reason::Misfit(Part::Node(1)));
-    expect(
-        &rt,
-        alloc,
-        &inst,
-        ROW,
-        (13, "nodes 3\npair 1 3\nprice 1"),
-        pair,
-    )?;
+    expect_row(&rt, alloc, (5, "tour 1 +1"), Answer::Rejected(away))?;
+    expect_row(&rt, alloc, (8, "shore 2 2 4"), misfit(Part::Shore(1)))?;
+    expect_row(&rt, alloc, (8, "shore 2 1 2"), misfit(Part::Shore(1)))?;
+    expect_row(&rt, alloc, (11, "prices 1 1 3"), misfit(Part::Prices(1)))?;
+    let pair = (13, "nodes 3\npair 1 3\nprice 1");
+    expect_row(&rt, alloc, pair, misfit(Part::Node(1)))
+}
+
+#[test]
+fn counts_of_the_instance_are_tested(rt: HostRuntime) -> Result<(), Fail> {
+    let alloc = rt.alloc();
     let head = (1, "carp-certificate 2\ninstance 3 2 2 3 4");
     let counts = Reason::CountsDiffer {
         place: 4,
         stated: 3,
         found: 2,
     };
-    expect(&rt, alloc, &inst, ROW, head, Answer::Rejected(counts))?;
+    expect_row(&rt, alloc, head, Answer::Rejected(counts))?;
     let head = (1, "carp-certificate 2\ninstance 3 2 2 2 4");
-    expect(&rt, alloc, &inst, ROW, head, Answer::Accepted)
+    expect_row(&rt, alloc, head, Answer::Accepted)
 }

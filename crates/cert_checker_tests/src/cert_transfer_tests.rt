@@ -11,6 +11,7 @@ use cert_lines::read_is_spelled;
 use cert_transfer::{carry, edited, read_edits};
 use samples::street;
 use std::alloc::Global;
+use std::process::Abort;
 use std::test::Fail;
 
 // Two streets in a row, each a load for a vehicle.
@@ -53,7 +54,24 @@ fn good(alloc: Global, inst: &Instance, text: &str) -> Result<Option<Cert>, Fail
     }
 }
 
-// The cost, the bound, the numbers of tours, shores, sets and nodes, and the edges of the certificate that is carried over by the edits.
+// The cost, the bound, the numbers of tours, shores, sets and nodes, and the edges of a certificate.
+fn numbers_text(alloc: Global, cert: &Cert) -> Result<String, Fail> {
+    let edges = match &cert.counts {
+        Some(counts) => counts.edges,
+        None => 0,
+    };
+    Ok(format!(in alloc;
+        "{} {} {} {} {} {} {edges}",
+        cert.cost,
+        cert.bound,
+        cert.plan.len(),
+        cert.shores.len(),
+        cert.sets.len(),
+        cert.tree.len()
+    )?)
+}
+
+// These numbers of the certificate that is carried over by the edits.
 fn carried(alloc: Global, inst: &Instance, text: &str, edits: &str) -> Result<String, Fail> {
     let Some(cert) = good(alloc, inst, text)? else {
         return Ok(String::new(alloc));
@@ -67,15 +85,21 @@ fn carried(alloc: Global, inst: &Instance, text: &str, edits: &str) -> Result<St
     }
     let after = edited(alloc, inst, &edits)?;
     let new = carry(alloc, inst, &edits, &after, &cert)?;
-    let edges = new.counts.map_or(0, |counts| counts.edges);
-    let sizes = format!(in alloc;
-        "{} {} {} {}",
-        new.plan.len(),
-        new.shores.len(),
-        new.sets.len(),
-        new.tree.len()
-    )?;
-    Ok(format!(in alloc; "{} {} {sizes} {edges}", new.cost, new.bound)?)
+    numbers_text(alloc, &new)
+}
+
+// What is carried over is this.
+fn expect_carried(
+    rt: &impl Abort,
+    alloc: Global,
+    inst: &Instance,
+    text: &str,
+    edits: &str,
+    want: &str,
+) -> Result<(), Fail> {
+    let found = carried(alloc, inst, text, edits)?;
+    assert_eq!(rt; found.as_str(), want);
+    Ok(())
 }
 
 // The street of cost 3 is driven three times without service, each time for 2 more.
@@ -83,19 +107,31 @@ fn carried(alloc: Global, inst: &Instance, text: &str, edits: &str) -> Result<St
 fn a_dearer_street_costs_more(rt: HostRuntime) -> Result<(), Fail> {
     let alloc = rt.alloc();
     let inst = row(alloc)?;
-    assert!(rt; carried(alloc, &inst, ROW, "cost 1 2\n")?.as_str() == "26 20 2 2 1 1 2");
-    assert!(rt; carried(alloc, &inst, ROW, "")?.as_str() == "20 20 2 2 1 1 2");
-    Ok(())
+    expect_carried(&rt, alloc, &inst, ROW, "cost 1 2\n", "26 20 2 2 1 1 2")?;
+    expect_carried(&rt, alloc, &inst, ROW, "", "20 20 2 2 1 1 2")
 }
 
 #[test]
 fn a_heavier_street_cuts_its_tour(rt: HostRuntime) -> Result<(), Fail> {
     let alloc = rt.alloc();
     let inst = ring(alloc)?;
-    assert!(rt; carried(alloc, &inst, RING, "demand 1 2\n")?.as_str() == "67 45 3 2 1 1 4");
-    assert!(rt; carried(alloc, &inst, SPLIT_RING, "demand 1 2\n")?.as_str() == "67 45 3 2 1 1 4");
-    assert!(rt; carried(alloc, &inst, SPLIT_RING, "cost 2 0\n")?.as_str() == "45 45 2 2 1 3 4");
-    Ok(())
+    expect_carried(&rt, alloc, &inst, RING, "demand 1 2\n", "67 45 3 2 1 1 4")?;
+    expect_carried(
+        &rt,
+        alloc,
+        &inst,
+        SPLIT_RING,
+        "demand 1 2\n",
+        "67 45 3 2 1 1 4",
+    )?;
+    expect_carried(
+        &rt,
+        alloc,
+        &inst,
+        SPLIT_RING,
+        "cost 2 0\n",
+        "45 45 2 2 1 3 4",
+    )
 }
 
 // With demands of 5, 4 and 2 three vehicles are needed, so the group has no room any more, and the same set has the value 66. The tours cost
@@ -105,8 +141,14 @@ fn groups_are_carried_over_and_lose_room(rt: HostRuntime) -> Result<(), Fail> {
     let alloc = rt.alloc();
     let inst = ring(alloc)?;
     let heavy = "demand 1 3\ndemand 2 2\n";
-    assert!(rt; carried(alloc, &inst, GROUP_RING, heavy)?.as_str() == "67 66 3 0 1 1 4");
-    assert!(rt; carried(alloc, &inst, GROUP_RING, "demand 1 2\n")?.as_str() == "67 45 3 0 1 1 4");
-    assert!(rt; carried(alloc, &inst, GROUP_RING, "")?.as_str() == "45 45 2 0 1 1 4");
-    Ok(())
+    expect_carried(&rt, alloc, &inst, GROUP_RING, heavy, "67 66 3 0 1 1 4")?;
+    expect_carried(
+        &rt,
+        alloc,
+        &inst,
+        GROUP_RING,
+        "demand 1 2\n",
+        "67 45 3 0 1 1 4",
+    )?;
+    expect_carried(&rt, alloc, &inst, GROUP_RING, "", "45 45 2 0 1 1 4")
 }
