@@ -130,6 +130,19 @@ fn expect_room(rt: &impl Abort, inst: &Instance, capacity: u64, group: &[u32], w
 }
 
 // A row has the digits of the edges of a group, and its room behind a stop.
+fn expect_row(
+    rt: &impl Abort,
+    alloc: Global,
+    inst: &Instance,
+    capacity: u64,
+    row: &'static str,
+) -> Result<(), Fail> {
+    let (group, want) = row.split_once('.').ok_or("a stop")?;
+    let edges = edges_of(alloc, group)?;
+    expect_room(rt, inst, capacity, &edges, want.len() as u64);
+    Ok(())
+}
+
 fn expect_rooms(
     rt: &impl Abort,
     alloc: Global,
@@ -138,14 +151,7 @@ fn expect_rooms(
 ) -> Result<(), Fail> {
     let inst = row(alloc, capacity)?;
     for line in rows.split(' ') {
-        let (group, want) = line.split_once('.').ok_or("a stop")?;
-        expect_room(
-            rt,
-            &inst,
-            capacity,
-            &edges_of(alloc, group)?,
-            want.len() as u64,
-        );
+        expect_row(rt, alloc, &inst, capacity, line)?;
     }
     Ok(())
 }
@@ -176,18 +182,18 @@ fn all_plans_of_four_streets(rt: HostRuntime) -> Result<(), Fail> {
 }
 
 // The room of three streets that ask for 6 together, with vehicles of a capacity.
-fn far_room(rt: &impl Abort, alloc: Global, capacity: u64) -> Result<u64, Fail> {
+fn expect_far_room(rt: &impl Abort, alloc: Global, capacity: u64, want: u64) -> Result<(), Fail> {
     let inst = far_triangle(alloc, capacity)?;
-    Ok(room(rt, &inst, &[1, 2, 3]))
+    assert_eq!(rt; room(rt, &inst, &[1, 2, 3]), want);
+    Ok(())
 }
 
 // One vehicle is enough just at 6, and two just at 3.
 #[test]
 fn a_demand_just_at_the_capacity(rt: HostRuntime) -> Result<(), Fail> {
     let alloc = rt.alloc();
-    assert_eq!(&rt; far_room(&rt, alloc, 6)?, 2);
-    assert_eq!(&rt; far_room(&rt, alloc, 5)?, 1);
-    assert_eq!(&rt; far_room(&rt, alloc, 3)?, 1);
-    assert_eq!(&rt; far_room(&rt, alloc, 2)?, 0);
-    Ok(())
+    expect_far_room(&rt, alloc, 6, 2)?;
+    expect_far_room(&rt, alloc, 5, 1)?;
+    expect_far_room(&rt, alloc, 3, 1)?;
+    expect_far_room(&rt, alloc, 2, 0)
 }

@@ -3,10 +3,10 @@ ghost use Rattle.std.specs.Prelude.{IsTrue};
 ghost use Rattle.decision_chains.specs.Pairs.{ArePairsIn, HasPairWithin};
 ghost use Rattle.branch_rules.specs.Limits.{AreShoresIn, HasShoreOf, IsNodeIn};
 
-use crate::signs::{branch_of, digit, triangle};
+use crate::signs::{add_shore, branch_of, digit, triangle};
 use branch_rules::{Branch, Decision, Node, is_shore_of};
 use carp_base::{Instance, Memory};
-use cut_pool::{Shore, ShorePool};
+use cut_pool::ShorePool;
 use decision_chains::is_pair;
 use samples::street;
 use std::alloc::Global;
@@ -122,6 +122,21 @@ fn state_of(
     })
 }
 
+// The branch has the state of a row.
+fn expect_state(
+    rt: &impl Abort,
+    alloc: Global,
+    inst: &Instance,
+    pool: &ShorePool,
+    branch: &Branch,
+    row: &'static str,
+) -> Result<(), Fail> {
+    let [_, _, want] = parts_of(row);
+    let state = state_of(alloc, inst, pool, branch)?;
+    assert_eq!(rt; state, want, "{row}");
+    Ok(())
+}
+
 // A row has decisions, then the allowed pairs, and then the state of the branch; a line is a row.
 fn expect_row(
     rt: &impl Abort,
@@ -130,11 +145,10 @@ fn expect_row(
     pool: &ShorePool,
     row: &'static str,
 ) -> Result<(), Fail> {
-    let [decisions, pairs, state] = parts_of(row);
+    let [decisions, pairs, _] = parts_of(row);
     let branch = branch_of(alloc, decisions)?;
     expect_allowed(rt, alloc, inst, &branch, pairs)?;
-    assert_eq!(rt; state_of(alloc, inst, pool, &branch)?, state, "{row}");
-    Ok(())
+    expect_state(rt, alloc, inst, pool, &branch, row)
 }
 
 pub(crate) fn expect_rows(
@@ -231,11 +245,9 @@ fn far_star(alloc: Global) -> Result<Instance, Fail> {
 }
 
 // The pool of the shore of all vertices but the depot.
-fn far_shore(rt: &impl Abort, alloc: Global) -> Result<ShorePool, Fail> {
+fn far_shore(alloc: Global) -> Result<ShorePool, Fail> {
     let mut pool = ShorePool::new(alloc);
-    let number = pool.add(Shore::from_list(alloc, &[2, 3, 4, 5, 6, 7])?);
-    let first = matches!(number, Ok(1));
-    assert!(rt; first);
+    add_shore(alloc, &mut pool, &[2, 3, 4, 5, 6, 7], 1)?;
     Ok(pool)
 }
 
@@ -247,7 +259,7 @@ fn a_shore_needs_four_deadheads(rt: HostRuntime) -> Result<(), Fail> {
         <13|12 13 14 15 23 24 25 34 35 45 |v\n\
         >13<14|12 13 14 15 23 24 25 34 35 45 |.\n\
         >14<15|12 13 14 15 23 24 25 34 35 45 |v";
-    expect_rows(&rt, alloc, &far_star(alloc)?, &far_shore(&rt, alloc)?, rows)
+    expect_rows(&rt, alloc, &far_star(alloc)?, &far_shore(alloc)?, rows)
 }
 
 // The node of two signs after a letter: `p12` splits by the edges 1 and 2, and `c14` by the shore 1 at 4.
@@ -294,6 +306,19 @@ fn may_stand(
     Ok(Some(branch.lean(alloc, inst, pool, node)?))
 }
 
+// Whether the node of a text may stand in a lean tree after the decisions of another one.
+fn may_follow(
+    alloc: Global,
+    inst: &Instance,
+    pool: &ShorePool,
+    decisions: &str,
+    node: &str,
+) -> Result<Option<bool>, Fail> {
+    let node = node_of(node).ok_or("a node")?;
+    let branch = branch_of(alloc, decisions)?;
+    Ok(may_stand(alloc, inst, pool, &branch, &node)?)
+}
+
 // A row has decisions, then a node, and then whether it may stand there; a line is a row.
 fn expect_node(
     rt: &impl Abort,
@@ -303,9 +328,7 @@ fn expect_node(
     row: &'static str,
 ) -> Result<(), Fail> {
     let [decisions, node, want] = parts_of(row);
-    let branch = branch_of(alloc, decisions)?;
-    let node = node_of(node).ok_or("a node")?;
-    let may = may_stand(alloc, inst, pool, &branch, &node)?;
+    let may = may_follow(alloc, inst, pool, decisions, node)?;
     assert_eq!(rt; may, Some(want == "yes"), "{row}");
     Ok(())
 }
@@ -338,7 +361,7 @@ fn nodes_of_a_lean_tree(rt: HostRuntime) -> Result<(), Fail> {
         +12|p12|no\n\
         +12|p23|no\n\
         +12|p34|yes";
-    expect_nodes(&rt, alloc, &far_star(alloc)?, &far_shore(&rt, alloc)?, rows)
+    expect_nodes(&rt, alloc, &far_star(alloc)?, &far_shore(alloc)?, rows)
 }
 
 // Whether a pair is determined, and `None` where an edge is not required.
@@ -357,20 +380,27 @@ fn determined(
     Ok(Some(branch.determined(alloc, inst, a, b)?))
 }
 
+// Whether a pair of five streets is determined by yes to the first two and no to the next two.
+fn is_settled(alloc: Global, a: u32, b: u32) -> Result<Option<bool>, Fail> {
+    let inst = side_by_side(alloc, 10)?;
+    let branch = branch_of(alloc, "+12-34")?;
+    Ok(determined(alloc, &inst, &branch, a, b)?)
+}
+
+// It is, or is not.
+fn expect_settled(rt: &impl Abort, alloc: Global, a: u32, b: u32, want: bool) -> Result<(), Fail> {
+    let found = is_settled(alloc, a, b)?;
+    assert_eq!(rt; found, Some(want), "{a} {b}");
+    Ok(())
+}
+
 #[test]
 fn a_pair_is_determined_for_a_reason(rt: HostRuntime) -> Result<(), Fail> {
     let alloc = rt.alloc();
-    let inst = side_by_side(alloc, 10)?;
-    let branch = branch_of(alloc, "+12-34")?;
-    let rows = [(2, 1, true), (4, 3, true), (5, 5, true), (2, 3, false)];
-    for &(a, b, want) in &rows {
-        assert_eq!(&rt;
-            determined(alloc, &inst, &branch, a, b)?,
-            Some(want),
-            "{a} {b}"
-        );
-    }
-    Ok(())
+    expect_settled(&rt, alloc, 2, 1, true)?;
+    expect_settled(&rt, alloc, 4, 3, true)?;
+    expect_settled(&rt, alloc, 5, 5, true)?;
+    expect_settled(&rt, alloc, 2, 3, false)
 }
 
 // The cost of the plan of a branch whose numbers are in range, and `None` where it is not fixed.
@@ -406,16 +436,21 @@ fn fixed_cost(
     cost_within(alloc, inst, pool, branch)
 }
 
+// The cost of the plan of these decisions, without shores.
+fn cost_of(alloc: Global, inst: &Instance, decisions: &str) -> Result<Option<u128>, Fail> {
+    let branch = branch_of(alloc, decisions)?;
+    fixed_cost(alloc, inst, &ShorePool::new(alloc), &branch)
+}
+
 // Under these decisions the branch is fixed, and its plan costs this.
-pub(crate) fn expect_fixed_cost(
+fn expect_fixed_cost(
     rt: &impl Abort,
     alloc: Global,
     inst: &Instance,
     decisions: &str,
     want: u128,
 ) -> Result<(), Fail> {
-    let branch = branch_of(alloc, decisions)?;
-    let cost = fixed_cost(alloc, inst, &ShorePool::new(alloc), &branch)?;
+    let cost = cost_of(alloc, inst, decisions)?;
     assert_eq!(rt; cost, Some(want), "{decisions}");
     Ok(())
 }

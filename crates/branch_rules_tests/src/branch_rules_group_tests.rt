@@ -4,6 +4,7 @@ ghost use Rattle.std.specs.Prelude.{◌≡◌, ◌≤◌, [], IfOk, length};
 use crate::branch_rules_deciding_tests::far_triangle;
 use crate::signs::branch_of;
 use branch_rules::{NoYes, PriceSet, Weight, WeightedGroup, surcharge_of, surcharge_table};
+use carp_base::Instance;
 use cut_pool::ShorePool;
 use std::alloc::Global;
 use std::fmt::Write;
@@ -55,11 +56,18 @@ fn surcharges_of_all_pairs(rt: HostRuntime) -> Result<(), Fail> {
     Ok(())
 }
 
+// The table of the three groups, where so many edges are required.
+fn table(alloc: Global, required: u32) -> Result<Vec<i64>, Fail>
+    requires { required ≤ 4 }
+{
+    let groups = three_groups(alloc)?;
+    Ok(surcharge_table(alloc, required, &groups)?)
+}
+
 // The second edge after itself is of all three groups: 5 and 7, less 4.
 #[test]
 fn a_table_of_three_groups(rt: HostRuntime) -> Result<(), Fail> {
-    let alloc = rt.alloc();
-    let table = surcharge_table(alloc, 4, &three_groups(alloc)?)?;
+    let table = table(rt.alloc(), 4)?;
     let want = [1, 1, 5, 0, 1, 8, 12, 7, 5, 12, 12, 7, 0, 7, 7, 7];
     assert_eq!(&rt; table.as_slice(), want.as_slice());
     Ok(())
@@ -68,8 +76,7 @@ fn a_table_of_three_groups(rt: HostRuntime) -> Result<(), Fail> {
 // The third and the fourth edge are not required, and of each group only what is required counts.
 #[test]
 fn a_group_with_edges_that_are_not_required(rt: HostRuntime) -> Result<(), Fail> {
-    let alloc = rt.alloc();
-    let table = surcharge_table(alloc, 2, &three_groups(alloc)?)?;
+    let table = table(rt.alloc(), 2)?;
     assert_eq!(&rt; table.as_slice(), [1, 1, 1, 8].as_slice());
     Ok(())
 }
@@ -93,14 +100,21 @@ fn signed_set(alloc: Global) -> Result<PriceSet, Fail>
     Ok(set.with_groups(groups))
 }
 
+// What the yes weights of the set lack under these decisions.
+fn checked(alloc: Global, decisions: &str) -> Result<Result<(), NoYes>, Fail> {
+    let set = signed_set(alloc)?;
+    let branch = branch_of(alloc, decisions)?;
+    Ok(branch.check_yes(&set))
+}
+
 fn expect_yes(
     rt: &impl Abort,
     alloc: Global,
     decisions: &str,
     want: Result<(), NoYes>,
 ) -> Result<(), Fail> {
-    let branch = branch_of(alloc, decisions)?;
-    assert_eq!(rt; branch.check_yes(&signed_set(alloc)?), want, "{decisions}");
+    let found = checked(alloc, decisions)?;
+    assert_eq!(rt; found, want, "{decisions}");
     Ok(())
 }
 
@@ -115,12 +129,31 @@ fn yes_weights_need_their_yes(rt: HostRuntime) -> Result<(), Fail> {
     expect_yes(&rt, alloc, "+21+23", Err(second))
 }
 
+// The value of a set without weights on shores.
+fn value_in(alloc: Global, inst: &Instance, set: &PriceSet, decisions: &str) -> Result<i128, Fail>
+    requires { set.now.weights ≡ [] }
+{
+    let branch = branch_of(alloc, decisions)?;
+    Ok(branch.value_at(inst, &ShorePool::new(alloc), set)?)
+}
+
 // The value of the set for three streets of demand 2, with vehicles of a capacity.
 fn value(alloc: Global, capacity: u64, decisions: &str) -> Result<i128, Fail> {
+    let set = signed_set(alloc)?;
     let inst = far_triangle(alloc, capacity)?;
-    let branch = branch_of(alloc, decisions)?;
-    let value = branch.value_at(&inst, &ShorePool::new(alloc), &signed_set(alloc)?)?;
-    Ok(value)
+    value_in(alloc, &inst, &set, decisions)
+}
+
+fn expect_value(
+    rt: &impl Abort,
+    alloc: Global,
+    capacity: u64,
+    decisions: &str,
+    want: i128,
+) -> Result<(), Fail> {
+    let found = value(alloc, capacity, decisions)?;
+    assert_eq!(rt; found, want);
+    Ok(())
 }
 
 // The prices are 18, and the yes weights are worth 6 also if no vehicle can serve a pair. Three edges have room for two bonds at a
@@ -128,11 +161,10 @@ fn value(alloc: Global, capacity: u64, decisions: &str) -> Result<i128, Fail> {
 #[test]
 fn values_of_a_set_with_groups(rt: HostRuntime) -> Result<(), Fail> {
     let alloc = rt.alloc();
-    assert_eq!(&rt; value(alloc, 6, "+12+13")?, 18);
-    assert_eq!(&rt; value(alloc, 5, "+12")?, 21);
-    assert_eq!(&rt; value(alloc, 3, "")?, 21);
-    assert_eq!(&rt; value(alloc, 2, "-12")?, 24);
-    Ok(())
+    expect_value(&rt, alloc, 6, "+12+13", 18)?;
+    expect_value(&rt, alloc, 5, "+12", 21)?;
+    expect_value(&rt, alloc, 3, "", 21)?;
+    expect_value(&rt, alloc, 2, "-12", 24)
 }
 
 // The groups of a set as text, each with its weight.
@@ -144,14 +176,16 @@ fn groups_text(alloc: Global, set: &PriceSet) -> Result<String, Fail> {
     Ok(text)
 }
 
-fn expect_groups(
-    rt: &impl Abort,
-    alloc: Global,
-    set: &PriceSet,
-    want: &'static str,
-) -> Result<(), Fail> {
-    assert_eq!(rt; groups_text(alloc, set)?.as_str(), want);
-    Ok(())
+// The groups of the set.
+fn signed_text(alloc: Global) -> Result<String, Fail> {
+    let set = signed_set(alloc)?;
+    groups_text(alloc, &set)
+}
+
+// The groups of its copy.
+fn copied_text(alloc: Global) -> Result<String, Fail> {
+    let set = signed_set(alloc)?;
+    groups_text(alloc, &set.copy(alloc)?)
 }
 
 // Another set of two prices and a weight on a shore, with the same groups.
@@ -164,6 +198,12 @@ fn rebuilt(alloc: Global, set: &PriceSet) -> Result<PriceSet, Fail> {
     Ok(set.rebuilt(alloc, &[8, 9], &[weight])?)
 }
 
+// The groups of such a set.
+fn rebuilt_text(alloc: Global) -> Result<String, Fail> {
+    let set = signed_set(alloc)?;
+    groups_text(alloc, &rebuilt(alloc, &set)?)
+}
+
 // The same prices with other groups.
 fn regrouped(alloc: Global) -> Result<PriceSet, Fail> {
     let mut groups = Vec::with_capacity(alloc, 1)?;
@@ -171,13 +211,23 @@ fn regrouped(alloc: Global) -> Result<PriceSet, Fail> {
     Ok(signed_set(alloc)?.with_groups(groups))
 }
 
+// The groups of these.
+fn regrouped_text(alloc: Global) -> Result<String, Fail> {
+    let set = regrouped(alloc)?;
+    groups_text(alloc, &set)
+}
+
+fn expect_text(rt: &impl Abort, found: &str, want: &str) {
+    assert_eq!(rt; found, want);
+}
+
 #[test]
 fn groups_are_kept(rt: HostRuntime) -> Result<(), Fail> {
     let alloc = rt.alloc();
-    let set = signed_set(alloc)?;
     let want = "[1, 2, 3] 3 [1, 2] -4 [1, 3] -2 ";
-    expect_groups(&rt, alloc, &set, want)?;
-    expect_groups(&rt, alloc, &set.copy(alloc)?, want)?;
-    expect_groups(&rt, alloc, &rebuilt(alloc, &set)?, want)?;
-    expect_groups(&rt, alloc, &regrouped(alloc)?, "[2, 3] 9 ")
+    expect_text(&rt, &signed_text(alloc)?, want);
+    expect_text(&rt, &copied_text(alloc)?, want);
+    expect_text(&rt, &rebuilt_text(alloc)?, want);
+    expect_text(&rt, &regrouped_text(alloc)?, "[2, 3] 9 ");
+    Ok(())
 }

@@ -1,6 +1,7 @@
 //! Small instances and shores, and branches that are written as signs.
 ghost use Rattle.std.specs.Prelude.{◌≤◌, IfSome};
 ghost use Rattle.branch_rules.specs.Limits.{IsFineDecision};
+ghost use Rattle.cut_pool.specs.Shores.{IsShore};
 
 use branch_rules::{Branch, Decision};
 use carp_base::Instance;
@@ -20,12 +21,25 @@ pub fn one_street(alloc: Global) -> Result<Instance, Fail> {
     Ok(Instance::build(alloc, 2, 1, 1, &[street(1, 2, 5, 1)], &[])?)
 }
 
+/// Adds a shore, which gets this number.
+pub fn add_shore(
+    alloc: Global,
+    pool: &mut ShorePool,
+    vertices: &[u32],
+    number: u32,
+) -> Result<(), Fail>
+    requires { IsShore vertices.now }
+{
+    match pool.add(Shore::from_list(alloc, vertices)?) {
+        Ok(given) if given == number => Ok(()),
+        _ => Err("another number")?,
+    }
+}
+
 /// The pool of the shore of the other vertex of [`one_street`].
 pub fn other_vertex(alloc: Global) -> Result<ShorePool, Fail> {
     let mut pool = ShorePool::new(alloc);
-    let Ok(1) = pool.add(Shore::from_list(alloc, &[2])?) else {
-        return Err("the first shore")?;
-    };
+    add_shore(alloc, &mut pool, &[2], 1)?;
     Ok(pool)
 }
 
