@@ -1,9 +1,9 @@
 // Small trees, their ways and how they grow, worked by hand.
-ghost use Rattle.std.specs.Prelude.{◌≤◌, All, IfOk};
+ghost use Rattle.std.specs.Prelude.{◌≤◌, All, IfOk, IsTrue};
 ghost use Rattle.grown_trees.specs.Examples.{IsSmall};
 ghost use Rattle.grown_trees.specs.Places.{IsFineNode};
 
-use branch_rules::{Decision, Node};
+use branch_rules::{Decision, Node, Tree};
 use grown_trees::{GrowingNode, GrowingTree};
 use std::alloc::{AllocError, Global};
 use std::process::Abort;
@@ -45,9 +45,7 @@ fn entry_of(signs: [u8; 4]) -> GrowingNode
 }
 
 // The entries of a text of nodes of three signs.
-fn entries_of(alloc: Global, text: &[u8]) -> Result<Vec<GrowingNode>, Fail>
-    ensures { IfOk result (λ entries. All (λ entry. IsFineNode entry.node) entries.items) }
-{
+fn entries_of(alloc: Global, text: &[u8]) -> Result<Vec<GrowingNode>, Fail> {
     let mut entries = Vec::new(alloc);
     for signs in text.chunks_exact(3) {
         let &[kind, first, second] = signs else {
@@ -58,14 +56,45 @@ fn entries_of(alloc: Global, text: &[u8]) -> Result<Vec<GrowingNode>, Fail>
     Ok(entries)
 }
 
+// Whether the number of a cut is at most 1,000,000.
+fn is_fine(node: &Node) -> bool
+    ensures { IsTrue result → IsFineNode node.now }
+{
+    match *node {
+        Node::Cut { k, .. } => k <= 1_000_000,
+        _ => true,
+    }
+}
+
+// The same, of all nodes.
+fn are_fine(entries: &[GrowingNode]) -> bool
+    ensures { IsTrue result → All (λ entry. IsFineNode entry.node) entries.now }
+{
+    for entry in entries {
+        if !is_fine(&entry.node) {
+            return false;
+        }
+    }
+    true
+}
+
+// A sign and two numbers.
+fn signs(kind: u8, first: u32, second: u64) -> (u8, u64, u64) {
+    (kind, u64::from(first), second)
+}
+
+fn signs_of_pair(kind: u8, a: u32, b: u32) -> (u8, u64, u64) {
+    signs(kind, a, u64::from(b))
+}
+
 // A decision as three signs: `+12` is yes to the edges 1 and 2, `-12` no, `<13` at most 3 over the shore 1, `>13` more
 // than 3.
 fn signs_of(decision: &Decision) -> (u8, u64, u64) {
     match *decision {
-        Decision::Yes { a, b } => (b'+', u64::from(a), u64::from(b)),
-        Decision::No { a, b } => (b'-', u64::from(a), u64::from(b)),
-        Decision::Low { shore, k } => (b'<', u64::from(shore), k),
-        Decision::High { shore, k } => (b'>', u64::from(shore), k),
+        Decision::Yes { a, b } => signs_of_pair(b'+', a, b),
+        Decision::No { a, b } => signs_of_pair(b'-', a, b),
+        Decision::Low { shore, k } => signs(b'<', shore, k),
+        Decision::High { shore, k } => signs(b'>', shore, k),
     }
 }
 
@@ -106,6 +135,9 @@ fn expect_ways(
     ways: &'static str,
 ) -> Result<(), Fail> {
     let entries = entries_of(alloc, nodes.as_bytes())?;
+    if !are_fine(&entries) {
+        return Err("numbers of cuts")?;
+    }
     let tree = GrowingTree::of(alloc, &entries)?;
     let mut place = 0;
     for want in ways.split('\n') {
@@ -168,6 +200,18 @@ fn small_tree(alloc: Global) -> Result<GrowingTree, Fail>
     Ok(tree)
 }
 
+// Whether a tree has this entry at a place.
+fn has_entry(rt: &impl Abort, tree: &GrowingTree, place: usize, entry: GrowingNode) -> bool {
+    assert!(rt; place < tree.len());
+    tree.node(place) == entry
+}
+
+// Whether what was made of it has this node there.
+fn has_node(rt: &impl Abort, nodes: &Tree, place: usize, node: Node) -> bool {
+    assert!(rt; place < nodes.len());
+    nodes.node(place) == node
+}
+
 // The tree has the entries of a row of four signs each.
 fn expect_entries(
     rt: &impl Abort,
@@ -182,10 +226,9 @@ fn expect_entries(
             return Err("four signs")?;
         };
         let entry = entry_of([kind, first, second, shows]);
-        assert!(rt; place < tree.len() && place < nodes.len());
-        assert!(rt; tree.node(place) == entry, "{row}");
-        assert!(rt; nodes.node(place) == entry.node, "{row}");
-        place += 1;
+        assert!(rt; has_entry(rt, tree, place, entry), "{row}");
+        assert!(rt; has_node(rt, &nodes, place, entry.node), "{row}");
+        place = place.saturating_add(1);
     }
     assert_eq!(rt; tree.len(), place);
     assert_eq!(rt; nodes.len(), place);
@@ -233,21 +276,29 @@ fn the_way_to_a_leaf(rt: HostRuntime) -> Result<(), Fail> {
     Ok(())
 }
 
-// The turns for a cost, the greatest bound up to it that is shown, and the place of the first leaf that shows least, or
-// `-`.
+// The place of a sign, or none for `-`.
+fn place_of(sign: u8) -> Option<usize> {
+    match sign {
+        b'-' => None,
+        _ => Some(digit(sign) as usize),
+    }
+}
+
+// At a cost, the turns, the greatest bound up to it that is shown, and the place of the first leaf that shows least.
+fn open_at(tree: &mut GrowingTree, cost: u64) -> (usize, u64, Option<usize>) {
+    (tree.turns(cost), tree.shown(cost), tree.open_leaf(cost))
+}
+
+// A row each has a cost, the turns for it, the bound and the place of a leaf, or `-`.
 fn expect_open(rt: &impl Abort, tree: &mut GrowingTree, rows: &'static str) -> Result<(), Fail> {
     for row in rows.split('\n') {
         let &[cost, turns, shown, place] = row.as_bytes() else {
             return Err("four signs")?;
         };
-        let cost = u64::from(digit(cost));
-        assert_eq!(rt; tree.turns(cost), digit(turns) as usize, "{row}");
-        assert_eq!(rt; tree.shown(cost), u64::from(digit(shown)), "{row}");
-        let want = match place {
-            b'-' => None,
-            sign => Some(digit(sign) as usize),
-        };
-        assert!(rt; tree.open_leaf(cost) == want, "{row}");
+        let (found_turns, found_shown, found_place) = open_at(tree, u64::from(digit(cost)));
+        assert_eq!(rt; found_turns, digit(turns) as usize, "{row}");
+        assert_eq!(rt; found_shown, u64::from(digit(shown)), "{row}");
+        assert!(rt; found_place == place_of(place), "{row}");
     }
     Ok(())
 }
@@ -317,12 +368,20 @@ fn grow_often(
     Ok(())
 }
 
+// A leaf alone.
+fn root(alloc: Global) -> Result<GrowingTree, Fail>
+    ensures { IfOk result (λ tree. All (λ entry. IsFineNode entry.node) tree.nodes) }
+{
+    let tree = GrowingTree::new(alloc, entry_of(*b"s017"))?;
+    Ok(tree)
+}
+
 // The second child is split 1,500 times, and then the first child of the root as often. First children show 5. Second
 // children show 6, if they stand below the first child of the root, and 7 if not.
 fn two_combs(rt: &impl Abort, alloc: Global) -> Result<GrowingTree, Fail>
     ensures { IfOk result (λ tree. All (λ entry. IsFineNode entry.node) tree.nodes) }
 {
-    let mut tree = GrowingTree::new(alloc, entry_of(*b"s017"))?;
+    let mut tree = root(alloc)?;
     grow_often(rt, alloc, &mut tree, 0, 2, b'7')?;
     grow_often(rt, alloc, &mut tree, 1, 1, b'6')?;
     Ok(tree)
