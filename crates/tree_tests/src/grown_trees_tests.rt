@@ -78,23 +78,14 @@ fn are_fine(entries: &[GrowingNode]) -> bool
     true
 }
 
-// A sign and two numbers.
-fn signs(kind: u8, first: u32, second: u64) -> (u8, u64, u64) {
-    (kind, u64::from(first), second)
-}
-
-fn signs_of_pair(kind: u8, a: u32, b: u32) -> (u8, u64, u64) {
-    signs(kind, a, u64::from(b))
-}
-
 // A decision as three signs: `+12` is yes to the edges 1 and 2, `-12` no, `<13` at most 3 over the shore 1, `>13` more
 // than 3.
 fn signs_of(decision: &Decision) -> (u8, u64, u64) {
     match *decision {
-        Decision::Yes { a, b } => signs_of_pair(b'+', a, b),
-        Decision::No { a, b } => signs_of_pair(b'-', a, b),
-        Decision::Low { shore, k } => signs(b'<', shore, k),
-        Decision::High { shore, k } => signs(b'>', shore, k),
+        Decision::Yes { a, b } => (b'+', u64::from(a), u64::from(b)),
+        Decision::No { a, b } => (b'-', u64::from(a), u64::from(b)),
+        Decision::Low { shore, k } => (b'<', u64::from(shore), k),
+        Decision::High { shore, k } => (b'>', u64::from(shore), k),
     }
 }
 
@@ -368,20 +359,12 @@ fn grow_often(
     Ok(())
 }
 
-// A leaf alone.
-fn root(alloc: Global) -> Result<GrowingTree, Fail>
-    ensures { IfOk result (λ tree. All (λ entry. IsFineNode entry.node) tree.nodes) }
-{
-    let tree = GrowingTree::new(alloc, entry_of(*b"s017"))?;
-    Ok(tree)
-}
-
 // The second child is split 1,500 times, and then the first child of the root as often. First children show 5. Second
 // children show 6, if they stand below the first child of the root, and 7 if not.
 fn two_combs(rt: &impl Abort, alloc: Global) -> Result<GrowingTree, Fail>
     ensures { IfOk result (λ tree. All (λ entry. IsFineNode entry.node) tree.nodes) }
 {
-    let mut tree = root(alloc)?;
+    let mut tree = GrowingTree::new(alloc, entry_of(*b"s017"))?;
     grow_often(rt, alloc, &mut tree, 0, 2, b'7')?;
     grow_often(rt, alloc, &mut tree, 1, 1, b'6')?;
     Ok(tree)
