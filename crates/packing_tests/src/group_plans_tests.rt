@@ -5,8 +5,8 @@ ghost use Rattle.group_plans.specs.Examples.{far_triangle, lone_depot, raw_stree
 
 use carp_base::{Instance, Memory, RawEdge};
 use group_plans::{plan_of_groups, plans_are_packings};
-use plan_model::{Plan, Step, Walk};
-use std::alloc::{AllocError, Global};
+use samples::plan_text;
+use std::alloc::Global;
 use std::test::Fail;
 use task_tours::{cost_distances, lawful_cost};
 
@@ -43,36 +43,6 @@ fn lone_depot(alloc: Global) -> Result<Instance, Fail>
     Ok(Instance::build(alloc, 1, 1, 3, &[], &[])?)
 }
 
-fn sign_of(step: Step) -> u8 {
-    match (step.served, step.forward) {
-        (true, true) => b'+',
-        (true, false) => b'-',
-        (false, true) => b'>',
-        (false, false) => b'<',
-    }
-}
-
-// A sign and a digit are a step on the edge of that number: `+` serves it forward, `-` serves it backward, `>` crosses it
-// forward and `<` backward.
-fn write_walk(text: &mut Vec<u8>, walk: &Walk) -> Result<(), AllocError> {
-    text.push(b' ')?;
-    for i in 0..walk.len() {
-        let step = walk.step(i);
-        text.push(sign_of(step))?;
-        text.push(b'0' + (step.edge % 10) as u8)?;
-    }
-    Ok(())
-}
-
-// The walks of a plan, with a blank before each.
-fn text_of(alloc: Global, plan: &Plan) -> Result<Vec<u8>, AllocError> {
-    let mut text = Vec::new(alloc);
-    for i in 0..plan.len() {
-        write_walk(&mut text, plan.walk(i))?;
-    }
-    Ok(text)
-}
-
 // The plan of a packing as text, and what it costs.
 fn planned(
     alloc: Global,
@@ -84,7 +54,7 @@ fn planned(
 {
     let dist = cost_distances(alloc, inst)?;
     let plan = plan_of_groups(alloc, inst, &dist, groups, count)?;
-    Ok((text_of(alloc, &plan)?, lawful_cost(alloc, inst, &plan)?))
+    Ok((plan_text(alloc, &plan)?, lawful_cost(alloc, inst, &plan)?))
 }
 
 // Ways out and home: 10 and 11, 11 and 11, 11 and 10.
@@ -95,7 +65,7 @@ fn serves_each_edge_alone(rt: HostRuntime) -> Result<(), Fail> {
     let (text, cost) = planned(alloc, &inst, &[1, 2, 3], 3)?;
     assert_eq!(rt;
         text.as_slice(),
-        b" >4+1<1<4 >4>1+2>3<4 >4<3+3<4".as_slice()
+        b">4+1<1<4;>4>1+2>3<4;>4<3+3<4;".as_slice()
     );
     assert_eq!(rt; cost, 67);
     Ok(())
@@ -106,7 +76,7 @@ fn serves_all_edges_in_one_tour(rt: HostRuntime) -> Result<(), Fail> {
     let alloc = rt.alloc();
     let inst = triangle(alloc)?;
     let (text, cost) = planned(alloc, &inst, &[1, 1, 1], 1)?;
-    assert_eq!(rt; text.as_slice(), b" +1+2<3+3<3".as_slice());
+    assert_eq!(rt; text.as_slice(), b"+1+2<3+3<3;".as_slice());
     assert_eq!(rt; cost, 5 + 7 + 4 + 4 + 4);
     Ok(())
 }
@@ -116,7 +86,7 @@ fn serves_groups_in_their_order(rt: HostRuntime) -> Result<(), Fail> {
     let alloc = rt.alloc();
     let inst = triangle(alloc)?;
     let (text, cost) = planned(alloc, &inst, &[2, 1, 2], 2)?;
-    assert_eq!(rt; text.as_slice(), b" >1+2<3 +1<1+3<3".as_slice());
+    assert_eq!(rt; text.as_slice(), b">1+2<3;+1<1+3<3;".as_slice());
     assert_eq!(rt; cost, 5 + 7 + 4 + 5 + 5 + 4 + 4);
     Ok(())
 }
