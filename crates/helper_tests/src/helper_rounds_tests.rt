@@ -12,6 +12,7 @@ use helper_rounds::{Heard, ask_all, consult, dismiss};
 use plan_model::{JudgeRoom, Plan, Proposer, Step, Verdict, Walk, judge, verdicts_are_exact};
 use samples::street;
 use std::alloc::Global;
+use std::process::Abort;
 use std::test::Fail;
 use task_tours::{cost_distances, lawful_cost};
 
@@ -28,6 +29,22 @@ enum Part {
     Nothing,
     // It has no memory.
     NoMemory,
+}
+
+impl Part {
+    // The plan that is offered.
+    fn plan(self, alloc: Global, best: &Plan) -> Result<Option<Plan>, Memory> {
+        match self {
+            Part::TwiceOverOne => Ok(Some(plan_of(alloc, &[(1, true), (1, false)])?)),
+            Part::RoundTour => {
+                let services = [(1, true), (2, true), (3, false)];
+                Ok(Some(plan_of(alloc, &services)?))
+            }
+            Part::Copy => Ok(Some(best.copy(alloc)?)),
+            Part::Nothing => Ok(None),
+            Part::NoMemory => Err(Memory),
+        }
+    }
 }
 
 #[derive(Drop)]
@@ -94,12 +111,8 @@ impl Proposer for Actor {
         best: &Plan,
     ) -> Result<Option<Plan>, Memory> {
         self.standing.ask();
-        let plan = match self.part {
-            Part::TwiceOverOne => plan_of(alloc, &[(1, true), (1, false)])?,
-            Part::RoundTour => plan_of(alloc, &[(1, true), (2, true), (3, false)])?,
-            Part::Copy => best.copy(alloc)?,
-            Part::Nothing => return Ok(None),
-            Part::NoMemory => return Err(Memory),
+        let Some(plan) = self.part.plan(alloc, best)? else {
+            return Ok(None);
         };
         let mut room = JudgeRoom::new(alloc, inst)?;
         self.count(judge(inst, &plan, &mut room));
@@ -163,98 +176,150 @@ fn heard_of(
     ))
 }
 
-#[test]
-fn hears_what_an_offer_is(rt: HostRuntime) -> Result<(), Fail> {
-    let alloc = rt.alloc();
+// What is heard of an answer, the cost of the best plan after it, and the helper's fouls.
+fn expect_heard(
+    rt: &impl Abort,
+    alloc: Global,
+    part: Part,
+    heard: Result<Heard, Memory>,
+    cost: u128,
+    fouls: u64,
+) -> Result<(), Fail> {
     let inst = triangle(alloc)?;
-    assert_eq!(rt;
-        heard_of(alloc, &inst, Part::RoundTour)?,
-        (Ok(Heard::Better), 16, 0)
-    );
-    assert_eq!(rt;
-        heard_of(alloc, &inst, Part::Copy)?,
-        (Ok(Heard::Same), 34, 0)
-    );
-    assert_eq!(rt;
-        heard_of(alloc, &inst, Part::Nothing)?,
-        (Ok(Heard::Same), 34, 0)
-    );
-    assert_eq!(rt;
-        heard_of(alloc, &inst, Part::TwiceOverOne)?,
-        (Ok(Heard::Foul), 34, 1)
-    );
-    assert_eq!(rt;
-        heard_of(alloc, &inst, Part::NoMemory)?,
-        (Err(Memory), 34, 0)
-    );
+    let found = heard_of(alloc, &inst, part)?;
+    assert_eq!(rt; found, (heard, cost, fouls));
     Ok(())
 }
 
 #[test]
-fn a_foul_helper_is_asked_once_and_dismissed(rt: HostRuntime) -> Result<(), Fail> {
+fn hears_what_an_offer_is(rt: HostRuntime) -> Result<(), Fail> {
     let alloc = rt.alloc();
+    expect_heard(&rt, alloc, Part::RoundTour, Ok(Heard::Better), 16, 0)?;
+    expect_heard(&rt, alloc, Part::Copy, Ok(Heard::Same), 34, 0)?;
+    expect_heard(&rt, alloc, Part::Nothing, Ok(Heard::Same), 34, 0)?;
+    expect_heard(&rt, alloc, Part::TwiceOverOne, Ok(Heard::Foul), 34, 1)?;
+    expect_heard(&rt, alloc, Part::NoMemory, Err(Memory), 34, 0)
+}
+
+// What the best plan of the triangle costs after a list of helpers was asked.
+fn expect_cost<P: Proposer>(
+    rt: &impl Abort,
+    alloc: Global,
+    helpers: &mut Vec<P>,
+    word: u64,
+    want: u128,
+) -> Result<(), Fail> {
     let inst = triangle(alloc)?;
+    let cost = cost_after(alloc, &inst, helpers, word)?;
+    assert_eq!(rt; cost, want);
+    Ok(())
+}
+
+// The number, the seed, the calls and the fouls of a helper.
+fn numbers_at(helpers: &Vec<Actor>, i: usize) -> Option<(u64, u64, u64, u64)> {
+    if i >= helpers.len() {
+        return None;
+    }
+    let standing = &helpers[i].standing;
+    Some((standing.id, standing.seed, standing.asked, standing.fouls))
+}
+
+// A helper has these numbers.
+fn expect_numbers(rt: &impl Abort, helpers: &Vec<Actor>, i: usize, want: (u64, u64, u64, u64)) {
+    assert_eq!(rt; numbers_at(helpers, i), Some(want));
+}
+
+// A helper was asked so often.
+fn expect_asked(rt: &impl Abort, helpers: &Vec<Actor>, i: usize, want: u64) {
+    let asked = numbers_at(helpers, i).map(|numbers| numbers.2);
+    assert_eq!(rt; asked, Some(want));
+}
+
+// A foul helper and one that offers the best plan.
+fn foul_and_copy(alloc: Global) -> Result<Vec<Actor>, Fail> {
     let mut helpers: Vec<Actor> = Vec::new(alloc);
     helpers.push(Actor::new(11, Part::TwiceOverOne))?;
     helpers.push(Actor::new(12, Part::Copy))?;
-    assert_eq!(rt; cost_after(alloc, &inst, &mut helpers, u64::MAX)?, 34);
-    assert_eq!(rt; helpers.len(), 2);
-    let (first, second) = (&helpers[0].standing, &helpers[1].standing);
-    assert_eq!(rt;
-        (first.id, first.seed, first.asked, first.fouls),
-        (11, u64::MAX, 1, 1)
-    );
-    assert_eq!(rt;
-        (second.id, second.seed, second.asked, second.fouls),
-        (12, 0, 1, 0)
-    );
-    assert_eq!(rt; second.least, Some(34));
+    Ok(helpers)
+}
+
+// The least cost that the last of two helpers offered.
+fn least_of_second(helpers: &Vec<Actor>) -> Option<u128> {
+    if helpers.len() != 2 {
+        return None;
+    }
+    helpers[1].standing.least
+}
+
+#[test]
+fn a_foul_helper_is_asked_once_and_dismissed(rt: HostRuntime) -> Result<(), Fail> {
+    let mut helpers = foul_and_copy(rt.alloc())?;
+    expect_cost(&rt, rt.alloc(), &mut helpers, u64::MAX, 34)?;
+    expect_numbers(&rt, &helpers, 0, (11, u64::MAX, 1, 1));
+    expect_numbers(&rt, &helpers, 1, (12, 0, 1, 0));
+    assert_eq!(rt; least_of_second(&helpers), Some(34));
     dismiss(&mut helpers);
     assert_eq!(rt; helpers.len(), 1);
-    assert_eq!(rt; helpers[0].standing.id, 12);
+    expect_numbers(&rt, &helpers, 0, (12, 0, 1, 0));
     Ok(())
+}
+
+// A foul helper, one that offers a better plan, and one that offers nothing.
+fn three_helpers(alloc: Global) -> Result<Vec<Actor>, Fail> {
+    let mut helpers: Vec<Actor> = Vec::new(alloc);
+    helpers.push(Actor::new(1, Part::TwiceOverOne))?;
+    helpers.push(Actor::new(2, Part::RoundTour))?;
+    helpers.push(Actor::new(3, Part::Nothing))?;
+    Ok(helpers)
 }
 
 // The first round has a better plan and the second none, so that there is no third. A foul helper is asked once.
 #[test]
 fn rounds_end_with_the_first_that_is_no_better(rt: HostRuntime) -> Result<(), Fail> {
-    let alloc = rt.alloc();
-    let inst = triangle(alloc)?;
-    let mut helpers: Vec<Actor> = Vec::new(alloc);
-    helpers.push(Actor::new(1, Part::TwiceOverOne))?;
-    helpers.push(Actor::new(2, Part::RoundTour))?;
-    helpers.push(Actor::new(3, Part::Nothing))?;
-    assert_eq!(rt; cost_after(alloc, &inst, &mut helpers, 1)?, 16);
+    let mut helpers = three_helpers(rt.alloc())?;
+    expect_cost(&rt, rt.alloc(), &mut helpers, 1, 16)?;
     assert_eq!(rt; helpers.len(), 3);
-    let asked = [
-        helpers[0].standing.asked,
-        helpers[1].standing.asked,
-        helpers[2].standing.asked,
-    ];
-    assert_eq!(rt; asked, [1, 2, 2]);
+    expect_asked(&rt, &helpers, 0, 1);
+    expect_asked(&rt, &helpers, 1, 2);
+    expect_asked(&rt, &helpers, 2, 2);
     // What was counted before is forgotten when a list is asked again.
-    assert_eq!(rt; cost_after(alloc, &inst, &mut helpers, 7)?, 16);
+    expect_cost(&rt, rt.alloc(), &mut helpers, 7, 16)?;
     assert_eq!(rt; helpers.len(), 3);
-    assert_eq!(rt;
-        (helpers[0].standing.asked, helpers[0].standing.fouls),
-        (1, 1)
-    );
-    assert_eq!(rt; helpers[2].standing.seed, 9);
+    expect_numbers(&rt, &helpers, 0, (1, 7, 1, 1));
+    expect_numbers(&rt, &helpers, 2, (3, 9, 2, 0));
     Ok(())
+}
+
+// Two helpers behind boxes.
+fn boxes(alloc: Global) -> Result<Vec<Box<dyn Proposer>>, Fail> {
+    let mut helpers: Vec<Box<dyn Proposer>> = Vec::new(alloc);
+    helpers.push(Box::new(alloc, Actor::new(1, Part::TwiceOverOne))?)?;
+    helpers.push(Box::new(alloc, Actor::new(2, Part::RoundTour))?)?;
+    Ok(helpers)
+}
+
+// The number and the fouls of a helper behind a box.
+fn boxed_at(helpers: &Vec<Box<dyn Proposer>>, i: usize) -> Option<(u64, u64)> {
+    if i >= helpers.len() {
+        return None;
+    }
+    Some((helpers[i].id(), helpers[i].fouls()))
+}
+
+// A helper behind a box has this number and so many fouls.
+fn expect_boxed(rt: &impl Abort, helpers: &Vec<Box<dyn Proposer>>, i: usize, want: (u64, u64)) {
+    assert_eq!(rt; boxed_at(helpers, i), Some(want));
 }
 
 #[test]
 fn helpers_stand_behind_boxes(rt: HostRuntime) -> Result<(), Fail> {
-    let alloc = rt.alloc();
-    let inst = triangle(alloc)?;
-    let mut helpers: Vec<Box<dyn Proposer>> = Vec::new(alloc);
-    helpers.push(Box::new(alloc, Actor::new(1, Part::TwiceOverOne))?)?;
-    helpers.push(Box::new(alloc, Actor::new(2, Part::RoundTour))?)?;
-    assert_eq!(rt; cost_after(alloc, &inst, &mut helpers, 1)?, 16);
+    let mut helpers = boxes(rt.alloc())?;
+    expect_cost(&rt, rt.alloc(), &mut helpers, 1, 16)?;
     assert_eq!(rt; helpers.len(), 2);
-    assert_eq!(rt; (helpers[0].fouls(), helpers[1].fouls()), (1, 0));
+    expect_boxed(&rt, &helpers, 0, (1, 1));
+    expect_boxed(&rt, &helpers, 1, (2, 0));
     dismiss(&mut helpers);
     assert_eq!(rt; helpers.len(), 1);
-    assert_eq!(rt; helpers[0].id(), 2);
+    expect_boxed(&rt, &helpers, 0, (2, 0));
     Ok(())
 }
