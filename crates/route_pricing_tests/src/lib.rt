@@ -4,6 +4,8 @@
 #![tactic(auto)]
 
 #[cfg(test)]
+mod route_pricing_drawn_tests;
+#[cfg(test)]
 mod route_pricing_grid_tests;
 #[cfg(test)]
 mod route_pricing_surcharge_tests;

@@ -1,5 +1,5 @@
 // The rows of small grids.
-ghost use Rattle.std.specs.Prelude.{◌≡◌, ◌+◌, All, IfOk, IsTrue};
+ghost use Rattle.std.specs.Prelude.{◌≡◌, ◌+◌, length, All, IfOk, IsTrue};
 ghost use Rattle.route_pricing.specs.Partial.{AreFilled, IsGrid};
 ghost use Rattle.route_pricing.specs.Pricing.{IsGridRoom, IsServicePrice};
 
@@ -30,12 +30,20 @@ pub(crate) fn town(
     }
 }
 
-pub(crate) fn are_prices(services: &[i64]) -> bool
+fn are_small(services: &[i64]) -> bool
     ensures { IsTrue result → All IsServicePrice services.now }
 {
     services
         .iter()
         .all(|price| -LIMIT <= *price && *price <= LIMIT)
+}
+
+// Whether there is a price for each service.
+pub(crate) fn are_prices(inst: &Instance, services: &[i64]) -> bool
+    ensures one_each { IsTrue result → length services.now ≡ inst.now.required }
+    ensures small { IsTrue result → All IsServicePrice services.now }
+{
+    services.len() == inst.required() as usize && are_small(services)
 }
 
 // The distances of an instance, with costs as the prices of deadheads.
@@ -74,14 +82,14 @@ fn grid_of(
     ensures room { IfOk result (IsGridRoom inst.now) }
     ensures grid { IfOk result IsGrid }
 {
-    assert!(rt; services.len() == inst.required() as usize && are_prices(services));
+    assert!(rt; are_prices(inst, services));
     let dist = least_ways(alloc, inst)?;
     let mut grid = Grid::new(alloc, inst)?;
     if surcharges.is_empty() {
         grid.copy_from(inst, &dist, 1, services, allowed, &[]);
         return Ok(grid);
     }
-    assert!(rt; are_surcharges(inst.required() as usize, surcharges));
+    assert!(rt; are_surcharges(inst, surcharges));
     grid.copy_from(inst, &dist, 1, services, allowed, surcharges);
     Ok(grid)
 }

@@ -4,12 +4,12 @@ ghost use Rattle.route_pricing.specs.Pricing.{AreSurcharges, IsSurcharge};
 ghost use Rattle.route_pricing.specs.Tables.{IsReady, IsRoom};
 ghost use Rattle.route_pricing.specs.Values.{IsRate};
 
-use crate::route_pricing_grid_tests::{are_prices, least_ways, town};
-use crate::route_pricing_tests::{NOTHING, draw, drawn_price, drawn_street, judged, weighed};
+use crate::route_pricing_drawn_tests::{draw, drawn_prices, drawn_town, judged, weighed};
+use crate::route_pricing_grid_tests::{are_prices, least_ways};
+use crate::route_pricing_tests::NOTHING;
 use carp_base::{Allowed, Instance, Task};
 use deadhead_paths::Distances;
 use route_pricing::{Rate, Table};
-use samples::street;
 use std::alloc::Global;
 use std::process::Abort;
 use std::test::Fail;
@@ -40,12 +40,25 @@ fn surcharge(weights: &Weights, a: u32, b: u32) -> i64 {
 }
 
 // The surcharges of all pairs of four edges, in rows.
-fn table_of(alloc: Global, weights: &Weights) -> Result<Vec<i64>, Fail> {
-    let mut table = Vec::new(alloc);
-    for place in 0..16u32 {
-        table.push(surcharge(weights, place / 4 + 1, place % 4 + 1))?;
-    }
-    Ok(table)
+fn table_of(weights: &Weights) -> [i64; 16] {
+    [
+        surcharge(weights, 1, 1),
+        surcharge(weights, 1, 2),
+        surcharge(weights, 1, 3),
+        surcharge(weights, 1, 4),
+        surcharge(weights, 2, 1),
+        surcharge(weights, 2, 2),
+        surcharge(weights, 2, 3),
+        surcharge(weights, 2, 4),
+        surcharge(weights, 3, 1),
+        surcharge(weights, 3, 2),
+        surcharge(weights, 3, 3),
+        surcharge(weights, 3, 4),
+        surcharge(weights, 4, 1),
+        surcharge(weights, 4, 2),
+        surcharge(weights, 4, 3),
+        surcharge(weights, 4, 4),
+    ]
 }
 
 fn are_small(table: &[i64]) -> bool
@@ -69,7 +82,7 @@ fn is_row_column(required: usize, table: &[i64], row: usize) -> bool
     true
 }
 
-pub(crate) fn are_surcharges(required: usize, table: &[i64]) -> bool
+fn is_symmetric(required: usize, table: &[i64]) -> bool
     requires { required ≤ 600 }
     ensures { IsTrue result → AreSurcharges required table.now }
 {
@@ -82,6 +95,13 @@ pub(crate) fn are_surcharges(required: usize, table: &[i64]) -> bool
         }
     }
     true
+}
+
+// Whether there is a surcharge for each pair of required edges, in either order.
+pub(crate) fn are_surcharges(inst: &Instance, table: &[i64]) -> bool
+    ensures { IsTrue result → AreSurcharges inst.now.required table.now }
+{
+    is_symmetric(inst.required() as usize, table)
 }
 
 fn filled(
@@ -98,11 +118,19 @@ fn filled(
     ensures room { IfOk result (IsRoom inst.now) }
     ensures ready { IfOk result IsReady }
 {
-    assert!(rt; services.len() == inst.required() as usize && are_prices(services));
-    assert!(rt; are_surcharges(inst.required() as usize, surcharges));
+    assert!(rt; are_prices(inst, services));
+    assert!(rt; are_surcharges(inst, surcharges));
     let mut table = Table::new(alloc, inst)?;
     table.fill(inst, dist, 1, services, allowed, surcharges);
     Ok(table)
+}
+
+// The task of a digit: 1 and 2 are the first edge backward and forward, 3 and 4 the second one, and so on.
+fn task_of(digit: u32) -> Task {
+    Task {
+        edge: digit.saturating_add(1) / 2,
+        forward: digit % 2 == 0,
+    }
 }
 
 // The tasks of a number of four digits from 0 to 8, without those that are 0.
@@ -112,10 +140,7 @@ fn tasks_of(alloc: Global, number: u32) -> Result<Vec<Task>, Fail> {
     for _ in 0..4 {
         let digit = rest % 9;
         if 0 < digit {
-            tasks.push(Task {
-                edge: (digit + 1) / 2,
-                forward: digit % 2 == 0,
-            })?;
+            tasks.push(task_of(digit))?;
         }
         rest /= 9;
     }
@@ -236,7 +261,7 @@ fn expect_town(
 ) -> Result<(), Fail> {
     let dist = least_ways(alloc, inst)?;
     let allowed = Allowed::all(alloc, inst)?;
-    let surcharges = table_of(alloc, weights)?;
+    let surcharges = table_of(weights);
     let table = filled(rt, alloc, inst, &dist, services, &allowed, &surcharges)?;
     let least = least_weight(
         rt, alloc, inst, &dist, services, &allowed, weights, 0, &NOTHING,
@@ -268,27 +293,10 @@ fn drawn_weights(state: &mut u64) -> Weights {
 #[test]
 fn surcharges_of_drawn_towns(rt: HostRuntime) -> Result<(), Fail> {
     let alloc = rt.alloc();
-    let ring = [
-        street(1, 2, 3, 0),
-        street(2, 3, 0, 0),
-        street(3, 4, 2, 0),
-        street(4, 5, 1, 0),
-    ];
     let mut state = 7;
     for _ in 0..12 {
-        let required = [
-            drawn_street(&mut state),
-            drawn_street(&mut state),
-            drawn_street(&mut state),
-            drawn_street(&mut state),
-        ];
-        let inst = town(&rt, alloc, 5, 4, &required, &ring);
-        let prices = [
-            drawn_price(&mut state),
-            drawn_price(&mut state),
-            drawn_price(&mut state),
-            drawn_price(&mut state),
-        ];
+        let inst = drawn_town(&rt, alloc, 4, &mut state);
+        let prices = drawn_prices(&mut state);
         expect_town(&rt, alloc, &inst, &prices, &drawn_weights(&mut state))?;
     }
     Ok(())
