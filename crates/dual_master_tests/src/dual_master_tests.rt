@@ -1,6 +1,13 @@
 // The best floor of small towns, worked out by hand, and the pool that is left.
-ghost use Rattle.std.specs.Prelude.{◌≡◌, IfOk};
+ghost use Rattle.std.specs.Prelude.{◌≡◌, List, ℕ, [], length, All, IfOk, OnOk};
+ghost use Rattle.branch_rules.specs.Laws.{FitsBranch};
+ghost use Rattle.branch_rules.specs.Limits.{IsShoreOf};
+ghost use Rattle.carp_base.specs.Problem.{Problem};
+ghost use Rattle.cut_pool.specs.Shores.{Belongs};
 ghost use Rattle.deadhead_paths.specs.Prices.{costs_of};
+ghost use Rattle.decision_chains.specs.Pairs.{ArePairsIn};
+ghost use Rattle.dual_master.specs.Floors.{FitsAlways};
+ghost use Rattle.route_pricing.specs.Tables.{IsRoom};
 
 use branch_rules::{Branch, PriceSet};
 use carp_base::Instance;
@@ -26,7 +33,61 @@ fn ways(alloc: Global, inst: &Instance, net: &Network) -> Result<Distances, Fail
     Ok(dist)
 }
 
-// The best set without decisions has this value divided by its denominator. Gives the pool that is left.
+// A pool without shores.
+fn no_shores(alloc: Global) -> ShorePool
+    ensures empty { result ≡ [] }
+    ensures belong { (p : Problem) → All (Belongs p) result }
+{
+    ShorePool::new(alloc)
+}
+
+// A branch without decisions.
+fn no_decisions(alloc: Global) -> Branch
+    ensures none { result ≡ [] }
+    ensures pairs { (p : Problem) → ArePairsIn p result }
+{
+    Branch::new(alloc)
+}
+
+// The best set of the floors.
+fn best(
+    alloc: Global,
+    inst: &Instance,
+    net: &Network,
+    table: &mut Table,
+    pool: &mut ShorePool,
+) -> Result<PriceSet, Fail>
+    requires net { net.now ≡ inst.now }
+    requires room { IsRoom inst.now table.old }
+    requires empty { pool.old ≡ [] }
+    ensures fits { IfOk result (FitsAlways inst.now pool.new) }
+    ensures shores { IfOk result (λ set. All (λ w. IsShoreOf inst.now pool.new w.shore) set.weights) }
+    ensures belong { OnOk result (All (Belongs inst.now) pool.new) }
+    ensures room { OnOk result (IsRoom inst.now table.new) }
+{
+    let dist = ways(alloc, inst, net)?;
+    let set = floors(alloc, inst, net, &dist, table, pool)?;
+    Ok(set)
+}
+
+// The set without decisions has this value divided by its denominator.
+fn expect_value(
+    rt: &impl Abort,
+    alloc: Global,
+    inst: &Instance,
+    pool: &ShorePool,
+    set: &PriceSet,
+    expected: i128,
+) -> Result<(), Fail>
+    requires { All (λ w. IsShoreOf inst.now pool.now w.shore) set.now.weights }
+{
+    let value = Branch::new(alloc).value_at(inst, pool, set);
+    let whole = expected.saturating_mul(i128::from(set.unit()));
+    assert_eq!(rt; value, Ok(whole));
+    Ok(())
+}
+
+// The best set of the floors has this value. Gives the pool that is left.
 fn expect_floor(
     rt: &impl Abort,
     alloc: Global,
@@ -34,13 +95,10 @@ fn expect_floor(
     expected: i128,
 ) -> Result<ShorePool, Fail> {
     let net = Network::new(alloc, inst)?;
-    let dist = ways(alloc, inst, &net)?;
     let mut table = Table::new(alloc, inst)?;
-    let mut pool = ShorePool::new(alloc);
-    let set = floors(alloc, inst, &net, &dist, &mut table, &mut pool)?;
-    let value = Branch::new(alloc).value_at(inst, &pool, &set);
-    let whole = expected.saturating_mul(i128::from(set.unit()));
-    assert_eq!(rt; value, Ok(whole));
+    let mut pool = no_shores(alloc);
+    let set = best(alloc, inst, &net, &mut table, &mut pool)?;
+    expect_value(rt, alloc, inst, &pool, &set, expected)?;
     Ok(pool)
 }
 
@@ -131,7 +189,29 @@ fn nothing_to_serve(rt: HostRuntime) -> Result<(), Fail> {
     Ok(())
 }
 
-// The best set of the floors, raised, without decisions has this value divided by its denominator.
+// A set, raised without decisions.
+fn raised(
+    alloc: Global,
+    inst: &Instance,
+    net: &Network,
+    table: &mut Table,
+    pool: &mut ShorePool,
+    start: &PriceSet,
+    rounds: u32,
+) -> Result<PriceSet, Fail>
+    requires net { net.now ≡ inst.now }
+    requires room { IsRoom inst.now table.old }
+    requires belong { All (Belongs inst.now) pool.old }
+    requires shores { All (λ w. IsShoreOf inst.now pool.old w.shore) start.now.weights }
+    requires fits { FitsBranch inst.now pool.old [] start.now }
+    ensures { IfOk result (λ set. All (λ w. IsShoreOf inst.now pool.new w.shore) set.weights) }
+{
+    let root = no_decisions(alloc);
+    let set = raise(alloc, inst, net, table, pool, &root, start, rounds)?;
+    Ok(set)
+}
+
+// The best set of the floors, raised, has this value.
 fn expect_raised(
     rt: &impl Abort,
     alloc: Global,
@@ -140,18 +220,11 @@ fn expect_raised(
     expected: i128,
 ) -> Result<(), Fail> {
     let net = Network::new(alloc, inst)?;
-    let dist = ways(alloc, inst, &net)?;
     let mut table = Table::new(alloc, inst)?;
-    let mut pool = ShorePool::new(alloc);
-    let start = floors(alloc, inst, &net, &dist, &mut table, &mut pool)?;
-    let root = Branch::new(alloc);
-    let set = raise(
-        alloc, inst, &net, &mut table, &mut pool, &root, &start, rounds,
-    )?;
-    let value = root.value_at(inst, &pool, &set);
-    let whole = expected.saturating_mul(i128::from(set.unit()));
-    assert_eq!(rt; value, Ok(whole));
-    Ok(())
+    let mut pool = no_shores(alloc);
+    let start = best(alloc, inst, &net, &mut table, &mut pool)?;
+    let set = raised(alloc, inst, &net, &mut table, &mut pool, &start, rounds)?;
+    expect_value(rt, alloc, inst, &pool, &set, expected)
 }
 
 // Ratio is 66, since a vehicle that serves the street between the corners 3 and 4 drives one more than it says; its price can rise.
@@ -179,23 +252,57 @@ fn a_star_stays(rt: HostRuntime) -> Result<(), Fail> {
     expect_raised(&rt, alloc, &inst, 400, 510)
 }
 
+// A set of one price, without weights.
+fn priced(alloc: Global) -> Result<PriceSet, Fail>
+    ensures { IfOk result (λ set. (p : Problem) (pool : List (List ℕ)) → All (λ w. IsShoreOf p pool w.shore) set.weights) }
+{
+    let set = PriceSet::new(alloc, 1, &[5], &[])?;
+    Ok(set)
+}
+
+// The set fits without decisions.
+fn expect_fit(
+    rt: &impl Abort,
+    alloc: Global,
+    inst: &Instance,
+    net: &Network,
+    table: &mut Table,
+    pool: &ShorePool,
+    set: &PriceSet,
+) -> Result<(), Fail>
+    requires net { net.now ≡ inst.now }
+    requires room { IsRoom inst.now table.old }
+    requires shores { All (λ w. IsShoreOf inst.now pool.now w.shore) set.now.weights }
+    ensures fits { OnOk result (FitsBranch inst.now pool.now [] set.now) }
+    ensures room { OnOk result (IsRoom inst.now table.new) }
+{
+    let root = no_decisions(alloc);
+    assert!(rt; set.services() == inst.required() as usize);
+    assert!(rt; fits(alloc, inst, net, table, pool, &root, set)?);
+    Ok(())
+}
+
+// The price of one street of cost 5, raised from 5, is 10, and so is the value.
+fn expect_low_price(rt: &impl Abort, alloc: Global, inst: &Instance) -> Result<(), Fail> {
+    let net = Network::new(alloc, inst)?;
+    let mut table = Table::new(alloc, inst)?;
+    let mut pool = no_shores(alloc);
+    let start = priced(alloc)?;
+    expect_fit(rt, alloc, inst, &net, &mut table, &pool, &start)?;
+    let set = raised(alloc, inst, &net, &mut table, &mut pool, &start, 0)?;
+    assert!(rt; set.services() == 1);
+    let whole = 10_i128.saturating_mul(i128::from(set.unit()));
+    assert_eq!(rt; i128::from(set.service(1)), whole);
+    expect_value(rt, alloc, inst, &pool, &set, 10)
+}
+
 // The tour of the one street has room of 10 less 5 for its price, in units of the start; no shore is there whose weight
 // could rise.
 #[test]
 fn a_low_price_is_raised(rt: HostRuntime) -> Result<(), Fail> {
     let alloc = rt.alloc();
     let inst = Instance::build(alloc, 2, 1, 1, &[street(1, 2, 5, 1)], &[])?;
-    let net = Network::new(alloc, &inst)?;
-    let mut table = Table::new(alloc, &inst)?;
-    let mut pool = ShorePool::new(alloc);
-    let root = Branch::new(alloc);
-    let start = PriceSet::new(alloc, 1, &[5], &[])?;
-    assert!(rt; fits(alloc, &inst, &net, &mut table, &pool, &root, &start)?);
-    let set = raise(alloc, &inst, &net, &mut table, &mut pool, &root, &start, 0)?;
-    let whole = 10_i128.saturating_mul(i128::from(set.unit()));
-    assert_eq!(rt; i128::from(set.service(1)), whole);
-    assert_eq!(rt; root.value_at(&inst, &pool, &set), Ok(whole));
-    Ok(())
+    expect_low_price(&rt, alloc, &inst)
 }
 
 // No plan costs less than the start says.
