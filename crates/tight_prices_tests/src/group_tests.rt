@@ -1,25 +1,22 @@
 // Sets with a weight on the bonds of both streets of the row, with vehicles that carry both, worked out by hand. A tour there and back costs 6 over the first
 // street alone, 14 over the second one, and 14 over both.
-ghost use Rattle.std.specs.Prelude.{◌≡◌, ◌≢◌, IfOk, pos};
+ghost use Rattle.std.specs.Prelude.{◌≡◌, IfOk};
 ghost use Rattle.carp_base.specs.Problem.{Problem};
-ghost use Rattle.branch_rules.specs.Limits.{IsPriceNumber};
 ghost use Rattle.decision_chains.specs.Pairs.{ArePairsIn};
 
-use crate::set_tests::{expect_tight, fit, plain, row};
+use crate::set_tests::{expect_tight, fit, plain, price, row};
 use branch_rules::{Branch, Decision, PriceSet, WeightedGroup, surcharge_of};
 use std::alloc::Global;
 use std::process::Abort;
 use std::test::Fail;
 
 // The set of these prices and of this weight on both streets.
-fn grouped(alloc: Global, first: i64, second: i64, weight: i64) -> Result<PriceSet, Fail>
-    requires first { IsPriceNumber first }
-    requires second { IsPriceNumber second }
-    requires some { weight ≢ pos 0 }
-    requires weight { IsPriceNumber weight }
-{
+fn grouped(alloc: Global, first: i32, second: i32, weight: i32) -> Result<PriceSet, Fail> {
+    if weight == 0 {
+        return Err("no weight on a group")?;
+    }
     let mut groups = Vec::with_capacity(alloc, 1)?;
-    groups.push(WeightedGroup::new(alloc, &[1, 2], weight)?)?;
+    groups.push(WeightedGroup::new(alloc, &[1, 2], price(weight))?)?;
     let set = plain(alloc, first, second)?;
     Ok(set.with_groups(groups))
 }
@@ -41,15 +38,10 @@ fn fit_grouped(
     rt: &impl Abort,
     alloc: Global,
     yes: bool,
-    first: i64,
-    second: i64,
-    weight: i64,
-) -> Result<bool, Fail>
-    requires first { IsPriceNumber first }
-    requires second { IsPriceNumber second }
-    requires some { weight ≢ pos 0 }
-    requires weight { IsPriceNumber weight }
-{
+    first: i32,
+    second: i32,
+    weight: i32,
+) -> Result<bool, Fail> {
     let inst = row(alloc, 4)?;
     let branch = decided(alloc, yes)?;
     let set = grouped(alloc, first, second, weight)?;
@@ -82,19 +74,16 @@ fn expect_kept(
     rt: &impl Abort,
     alloc: Global,
     yes: bool,
-    weight: i64,
+    weight: i32,
     expected: [i64; 2],
-) -> Result<(), Fail>
-    requires some { weight ≢ pos 0 }
-    requires weight { IsPriceNumber weight }
-{
+) -> Result<(), Fail> {
     let inst = row(alloc, 4)?;
     let branch = decided(alloc, yes)?;
     let start = grouped(alloc, 3, 4, weight)?;
     let [first, second] = expected;
     let set = expect_tight(rt, alloc, &inst, &branch, &start, 0, [first, second, 0, 0])?;
     assert_eq!(rt; set.groups().len(), 1);
-    assert_eq!(rt; surcharge_of(set.groups(), 1, 2), weight);
+    assert_eq!(rt; surcharge_of(set.groups(), 1, 2), price(weight));
     Ok(())
 }
 

@@ -1,6 +1,6 @@
 // Sets over a row of two streets, from the depot 1 over 2 to 3, worked out by hand. Serving a street costs as much as crossing it: 3 and
 // 4. Each asks for 2, and the shores are those of the vertices 2 and 3.
-ghost use Rattle.std.specs.Prelude.{◌≡◌, ◌≢◌, ◌≤◌, ◌∷◌, [], All, IfOk, IsTrue, pos};
+ghost use Rattle.std.specs.Prelude.{◌≡◌, ◌<◌, ◌∷◌, ℕ, List, [], length, slice_index_or, All, IfOk, IsTrue};
 ghost use Rattle.carp_base.specs.Problem.{Problem};
 ghost use Rattle.branch_rules.specs.Limits.{IsPriceNumber, IsShoreOf};
 ghost use Rattle.cut_pool.specs.Shores.{Belongs};
@@ -27,19 +27,40 @@ pub(crate) fn row(alloc: Global, capacity: u64) -> Result<Instance, Fail>
     Ok(inst)
 }
 
+fn vertex(alloc: Global, number: u32) -> Result<Shore, Fail> {
+    let shore = Shore::from_list(alloc, &[number])?;
+    Ok(shore)
+}
+
+// Adds the shore of one vertex.
+fn add_vertex(alloc: Global, pool: &mut ShorePool, number: u32) -> Result<(), Fail> {
+    let shore = vertex(alloc, number)?;
+    pool.add(shore)?;
+    Ok(())
+}
+
 fn two_shores(alloc: Global) -> Result<ShorePool, Fail> {
     let mut pool = ShorePool::new(alloc);
-    pool.add(Shore::from_list(alloc, &[2])?)?;
-    pool.add(Shore::from_list(alloc, &[3])?)?;
+    add_vertex(alloc, &mut pool, 2)?;
+    add_vertex(alloc, &mut pool, 3)?;
     Ok(pool)
+}
+
+// Whether the shore at a place belongs to the instance.
+fn belongs_at(inst: &Instance, pool: &ShorePool, place: u32) -> bool
+    requires place { place < length pool.now }
+    requires few { place < 2000 }
+    ensures { IsTrue result → (d : List ℕ) → Belongs inst.now (slice_index_or pool.now place d) }
+{
+    pool.shore(place + 1).belongs(inst)
 }
 
 // Whether all shores belong to the instance.
 fn all_belong(inst: &Instance, pool: &ShorePool) -> bool
     ensures { IsTrue result → All (Belongs inst.now) pool.now }
 {
-    for number in 1..pool.len() + 1 {
-        if !pool.shore(number).belongs(inst) {
+    for place in 0..pool.len() {
+        if !belongs_at(inst, pool, place) {
             return false;
         }
     }
@@ -58,30 +79,36 @@ fn are_weights_on(inst: &Instance, pool: &ShorePool, set: &PriceSet) -> bool
     true
 }
 
-// The set of these prices, without weights.
-pub(crate) fn plain(alloc: Global, first: i64, second: i64) -> Result<PriceSet, Fail>
-    requires first { IsPriceNumber first }
-    requires second { IsPriceNumber second }
+// A price.
+pub(crate) fn price(number: i32) -> i64
+    ensures same { result ≡ number }
+    ensures within { IsPriceNumber result }
 {
-    let set = PriceSet::new(alloc, 1, &[first, second], &[])?;
+    i64::from(number)
+}
+
+// The set of these prices, without weights.
+pub(crate) fn plain(alloc: Global, first: i32, second: i32) -> Result<PriceSet, Fail> {
+    let set = PriceSet::new(alloc, 1, &[price(first), price(second)], &[])?;
     Ok(set)
 }
 
 // The set of these prices and a weight.
 fn weighted(
     alloc: Global,
-    first: i64,
-    second: i64,
+    first: i32,
+    second: i32,
     shore: u32,
-    weight: i64,
-) -> Result<PriceSet, Fail>
-    requires first { IsPriceNumber first }
-    requires second { IsPriceNumber second }
-    requires shore { 1 ≤ shore }
-    requires some { weight ≢ pos 0 }
-    requires weight { IsPriceNumber weight }
-{
-    let set = PriceSet::new(alloc, 1, &[first, second], &[Weight { shore, weight }])?;
+    weight: i32,
+) -> Result<PriceSet, Fail> {
+    if shore == 0 || weight == 0 {
+        return Err("no weight on a shore")?;
+    }
+    let weight = Weight {
+        shore,
+        weight: price(weight),
+    };
+    let set = PriceSet::new(alloc, 1, &[price(first), price(second)], &[weight])?;
     Ok(set)
 }
 
@@ -116,6 +143,41 @@ fn weight_on(set: &PriceSet, shore: u32) -> i64 {
     0
 }
 
+// A branch without decisions.
+fn no_decisions(alloc: Global) -> Branch
+    ensures { (p : Problem) → ArePairsIn p result }
+{
+    Branch::new(alloc)
+}
+
+// A set that fits, tightened over so many shores.
+fn tightened(
+    rt: &impl Abort,
+    alloc: Global,
+    inst: &Instance,
+    pool: &ShorePool,
+    branch: &Branch,
+    start: &PriceSet,
+    held: u32,
+) -> Result<PriceSet, Fail>
+    requires pairs { ArePairsIn inst.now branch.now }
+{
+    let known = are_weights_on(inst, pool, start);
+    assert!(rt; known);
+    let belong = all_belong(inst, pool);
+    assert!(rt; belong);
+    let whole = start.services() == inst.required() as usize;
+    assert!(rt; whole);
+    let there = held <= pool.len();
+    assert!(rt; there);
+    let net = Network::new(alloc, inst)?;
+    let mut table = Table::new(alloc, inst)?;
+    let fitting = fits(alloc, inst, &net, &mut table, pool, branch, start)?;
+    assert!(rt; fitting);
+    let set = tighten(alloc, inst, &net, &mut table, pool, branch, start, held)?;
+    Ok(set)
+}
+
 // The set fits, and tightened over so many shores it has these two prices and these weights on the two shores; it is answered.
 pub(crate) fn expect_tight(
     rt: &impl Abort,
@@ -127,22 +189,9 @@ pub(crate) fn expect_tight(
     expected: [i64; 4],
 ) -> Result<PriceSet, Fail>
     requires pairs { ArePairsIn inst.now branch.now }
-    requires held { held ≤ 2 }
 {
     let pool = two_shores(alloc)?;
-    let known = are_weights_on(inst, &pool, start);
-    assert!(rt; known);
-    let belong = all_belong(inst, &pool);
-    assert!(rt; belong);
-    let whole = start.services() == inst.required() as usize;
-    assert!(rt; whole);
-    let net = Network::new(alloc, inst)?;
-    let mut table = Table::new(alloc, inst)?;
-    let fitting = fits(alloc, inst, &net, &mut table, &pool, branch, start)?;
-    assert!(rt; fitting);
-    let both = pool.len() == 2;
-    assert!(rt; both);
-    let set = tighten(alloc, inst, &net, &mut table, &pool, branch, start, held)?;
+    let set = tightened(rt, alloc, inst, &pool, branch, start, held)?;
     let two = set.services() == 2;
     assert!(rt; two);
     assert_eq!(rt;
@@ -162,17 +211,13 @@ fn expect_rise(
     rt: &impl Abort,
     alloc: Global,
     capacity: u64,
-    first: i64,
-    second: i64,
+    first: i32,
+    second: i32,
     held: u32,
     expected: [i64; 4],
-) -> Result<(), Fail>
-    requires first { IsPriceNumber first }
-    requires second { IsPriceNumber second }
-    requires held { held ≤ 2 }
-{
+) -> Result<(), Fail> {
     let inst = row(alloc, capacity)?;
-    let branch = Branch::new(alloc);
+    let branch = no_decisions(alloc);
     let start = plain(alloc, first, second)?;
     expect_tight(rt, alloc, &inst, &branch, &start, held, expected)?;
     Ok(())
@@ -220,12 +265,9 @@ fn a_decision_lets_a_price_rise(rt: HostRuntime) -> Result<(), Fail> {
 }
 
 // Whether the set of these prices fits.
-fn fit_plain(rt: &impl Abort, alloc: Global, first: i64, second: i64) -> Result<bool, Fail>
-    requires first { IsPriceNumber first }
-    requires second { IsPriceNumber second }
-{
+fn fit_plain(rt: &impl Abort, alloc: Global, first: i32, second: i32) -> Result<bool, Fail> {
     let inst = row(alloc, 2)?;
-    let branch = Branch::new(alloc);
+    let branch = no_decisions(alloc);
     let set = plain(alloc, first, second)?;
     fit(rt, alloc, &inst, &branch, &set)
 }
@@ -235,15 +277,10 @@ fn fit_weighted(
     rt: &impl Abort,
     alloc: Global,
     bounded: bool,
-    first: i64,
+    first: i32,
     shore: u32,
-    weight: i64,
-) -> Result<bool, Fail>
-    requires first { IsPriceNumber first }
-    requires shore { 1 ≤ shore }
-    requires some { weight ≢ pos 0 }
-    requires weight { IsPriceNumber weight }
-{
+    weight: i32,
+) -> Result<bool, Fail> {
     let inst = row(alloc, 2)?;
     let branch = bound(alloc, bounded, shore)?;
     let set = weighted(alloc, first, 4, shore, weight)?;
@@ -274,24 +311,32 @@ fn sets_that_fit(rt: HostRuntime) -> Result<(), Fail> {
     Ok(())
 }
 
+// A street that need not be served.
+fn idle_street(alloc: Global) -> Result<Instance, Fail> {
+    let inst = Instance::build(alloc, 2, 1, 3, &[], &[street(1, 2, 4, 0)])?;
+    Ok(inst)
+}
+
+fn one_shore(alloc: Global) -> Result<ShorePool, Fail> {
+    let mut pool = ShorePool::new(alloc);
+    add_vertex(alloc, &mut pool, 2)?;
+    Ok(pool)
+}
+
+fn no_prices(alloc: Global) -> Result<PriceSet, Fail> {
+    let set = PriceSet::new(alloc, 1, &[], &[])?;
+    Ok(set)
+}
+
 // There is nothing to raise.
 #[test]
 fn nothing_to_serve(rt: HostRuntime) -> Result<(), Fail> {
     let alloc = rt.alloc();
-    let inst = Instance::build(alloc, 2, 1, 3, &[], &[street(1, 2, 4, 0)])?;
-    let net = Network::new(alloc, &inst)?;
-    let mut table = Table::new(alloc, &inst)?;
-    let mut pool = ShorePool::new(alloc);
-    pool.add(Shore::from_list(alloc, &[2])?)?;
-    let belong = all_belong(&inst, &pool);
-    assert!(&rt; belong);
-    let one = pool.len() == 1;
-    assert!(&rt; one);
-    let branch = Branch::new(alloc);
-    let start = PriceSet::new(alloc, 1, &[], &[])?;
-    let fitting = fits(alloc, &inst, &net, &mut table, &pool, &branch, &start)?;
-    assert!(&rt; fitting);
-    let set = tighten(alloc, &inst, &net, &mut table, &pool, &branch, &start, 1)?;
+    let inst = idle_street(alloc)?;
+    let pool = one_shore(alloc)?;
+    let branch = no_decisions(alloc);
+    let start = no_prices(alloc)?;
+    let set = tightened(&rt, alloc, &inst, &pool, &branch, &start, 1)?;
     assert_eq!(&rt; [set.services(), set.weights()], [0, 0]);
     Ok(())
 }
