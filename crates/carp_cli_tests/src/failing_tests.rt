@@ -231,8 +231,13 @@ fn a_drill_asks_for_no_file(rt: HostRuntime) -> Result<(), Fail> {
 }
 
 #[test]
-fn puts_of_a_drill_that_fail_are_answered(rt: HostRuntime) -> Result<(), Fail> {
+fn a_first_put_of_a_drill_that_fails_is_answered(rt: HostRuntime) -> Result<(), Fail> {
     assert!(rt; is_drill_cut(rt.alloc(), 1, 0)?);
+    Ok(())
+}
+
+#[test]
+fn a_later_put_of_a_drill_that_fails_is_answered(rt: HostRuntime) -> Result<(), Fail> {
     assert!(rt; is_drill_cut(rt.alloc(), 4, 48)?);
     Ok(())
 }
