@@ -6,8 +6,6 @@
 #![tactic(auto)]
 
 mod helping;
-#[cfg(test)]
-mod tests;
 
 use carp_base::Memory;
 use carp_cli::{DirShelf, Status, StdSink, TerminalWatch};

@@ -1,8 +1,9 @@
 // What an edit keeps, and what it leaves where its second file cannot be kept.
 use crate::failing_tests::store;
-use crate::runs::{REPORT_ROOM, run_words};
-use carp_outside::{MemShelf, MemSink};
+use crate::runs::expect_answers;
+use carp_outside::MemShelf;
 use std::alloc::Global;
+use std::process::Abort;
 use std::test::Fail;
 
 // Three streets around, the second of which costs 2 more to drive and as much as before to serve. `~` is a line feed.
@@ -15,44 +16,31 @@ const EDITED: &str =
 const CARRIED: &str =
     "carp-certificate 2~instance 3 3 3 3 3~cost 16~bound 16~tours 1~tour 3 +1 +2 -3~shores 0~sets 1~prices 1 3 5 7 4~weights 0~nodes 1~price 1~end~";
 
-// Whether an edit ends with this code, writes this, keeps the edited instance whole, and leaves this under the name of the carried certificate.
-fn is_edited(
+// An edit is answered so, keeps the edited instance whole, and leaves this under the name of the carried certificate.
+fn expect_edited(
+    rt: &impl Abort,
     alloc: Global,
     shelf: &mut MemShelf,
-    code: u8,
-    text: &str,
+    answer: &str,
     cert: &str,
-) -> Result<bool, Fail> {
-    let mut out = MemSink::new(alloc, REPORT_ROOM, 65_536, Vec::new(alloc))?;
-    let words = ["edit", "file", "cert", "edits", "newfile", "newcert"];
-    let status = run_words(alloc, &words, shelf, &mut out)?;
-    let written = out.written() == text.as_bytes();
-    Ok(
-        status.code() == code
-            && written
-            && holds(alloc, shelf, "newfile", EDITED)?
-            && holds(alloc, shelf, "newcert", cert)?,
-    )
-}
-
-fn holds(alloc: Global, shelf: &MemShelf, name: &str, text: &str) -> Result<bool, Fail> {
-    let text = text.replace(alloc, "~", "\n")?;
-    Ok(shelf.held(name).unwrap_or(b"not held") == text.as_bytes())
+) -> Result<(), Fail> {
+    let script = format!(in alloc;
+        "edit file cert edits newfile newcert => {answer}\nheld newfile => {EDITED}\nheld newcert => {cert}"
+    )?;
+    expect_answers(rt, alloc, shelf, script.as_str())
 }
 
 #[test]
 fn an_edited_instance_and_its_certificate_are_kept(rt: HostRuntime) -> Result<(), Fail> {
     let alloc = rt.alloc();
-    let text = "edited edges 3 closed 0\ncost 16\nbound 16\nproven\n";
-    assert!(rt; is_edited(alloc, &mut store(alloc, 0, 0)?, 0, text, CARRIED)?);
-    Ok(())
+    let text = "0 edited edges 3 closed 0~cost 16~bound 16~proven~";
+    expect_edited(&rt, alloc, &mut store(alloc, 0, 0)?, text, CARRIED)
 }
 
 #[test]
 fn a_second_keep_that_fails_leaves_the_first(rt: HostRuntime) -> Result<(), Fail> {
     let alloc = rt.alloc();
-    assert!(rt; is_edited(alloc, &mut store(alloc, 0, 2)?, 7, "", "not held")?);
-    Ok(())
+    expect_edited(&rt, alloc, &mut store(alloc, 0, 2)?, "7", "nothing")
 }
 
 #[test]
@@ -60,6 +48,5 @@ fn a_second_keep_that_is_torn_leaves_the_first(rt: HostRuntime) -> Result<(), Fa
     let alloc = rt.alloc();
     let mut shelf = store(alloc, 0, 2)?;
     shelf.tear(20);
-    assert!(rt; is_edited(alloc, &mut shelf, 7, "", "carp-certificate 2~i")?);
-    Ok(())
+    expect_edited(&rt, alloc, &mut shelf, "7", "carp-certificate 2~i")
 }

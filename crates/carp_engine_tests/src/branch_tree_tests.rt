@@ -7,25 +7,21 @@ use branch_tree::{Search, Turn};
 use carp_base::{Instance, Memory};
 use deadhead_paths::tidy;
 use plan_model::{JudgeRoom, Plan, Step, Verdict, Walk, judge, verdicts_are_exact};
-use samples::street;
+use samples::instance_of;
 use std::alloc::Global;
 use std::test::Fail;
 use task_tours::{cost_distances, short_plans_are_allowed};
 
 fn one_vertex(alloc: Global) -> Result<Instance, Fail> {
-    Ok(Instance::build(alloc, 1, 1, 1, &[], &[])?)
+    instance_of(alloc, "1 1 1")
 }
 
 // Five streets of cost 1 and demand 2 at vertex 2, to which a way of cost 100 leads; two of them fill a vehicle.
 fn star(alloc: Global) -> Result<Instance, Fail> {
-    let streets = [
-        street(2, 3, 1, 2),
-        street(2, 4, 1, 2),
-        street(2, 5, 1, 2),
-        street(2, 6, 1, 2),
-        street(2, 7, 1, 2),
-    ];
-    Ok(Instance::build(alloc, 7, 1, 5, &streets, &[street(1, 2, 100, 0)])?)
+    instance_of(
+        alloc,
+        "7 1 5 | 2 3 1 2, 2 4 1 2, 2 5 1 2, 2 6 1 2, 2 7 1 2 | 1 2 100",
+    )
 }
 
 // The walk of these steps: an edge, whether forward, whether served.
@@ -143,8 +139,7 @@ fn a_star_is_split(rt: HostRuntime) -> Result<(), Fail> {
 
 // Two streets of cost 1 at vertex 2, to which a way of cost 100 leads; both fit one vehicle.
 fn two_streets(alloc: Global) -> Result<Instance, Fail> {
-    let streets = [street(2, 3, 1, 1), street(2, 4, 1, 1)];
-    Ok(Instance::build(alloc, 4, 1, 2, &streets, &[street(1, 2, 100, 0)])?)
+    instance_of(alloc, "4 1 2 | 2 3 1 1, 2 4 1 1 | 1 2 100")
 }
 
 // Serves one of the two streets.

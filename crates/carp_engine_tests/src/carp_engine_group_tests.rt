@@ -11,14 +11,13 @@ use cert_format::{Cert, read_cert};
 use cert_lines::read_is_spelled;
 use plan_model::Proposer;
 use progress::Silent;
-use samples::street;
+use samples::instance_of;
 use std::alloc::Global;
 use std::test::Fail;
 
 // Three streets of demand 2 round a far corner, for vehicles of capacity 5.
 fn ring(alloc: Global) -> Result<Instance, Fail> {
-    let required = [street(2, 3, 1, 2), street(3, 4, 1, 2), street(4, 2, 1, 2)];
-    Ok(Instance::build(alloc, 4, 1, 5, &required, &[street(1, 2, 10, 0)])?)
+    instance_of(alloc, "4 1 5 | 2 3 1 2, 3 4 1 2, 4 2 1 2 | 1 2 10")
 }
 
 // One tour for each street, and one group of all three. The room of the group is 1, so the set shows 22 + 22 + 22 - 21 = 45, which is what the

@@ -8,21 +8,19 @@ use carp_base::Instance;
 use carp_engine::{Solved, improve, solve};
 use plan_model::Proposer;
 use progress::Silent;
-use samples::street;
+use samples::instance_of;
 use std::alloc::Global;
 use std::test::Fail;
 
 // The streets 1-2, 2-3 and 1-3 of costs 5, 7 and 4: single tours cost 34, and one tour round them 16.
 fn triangle(alloc: Global) -> Result<Instance, Fail> {
-    let required = [street(1, 2, 5, 1), street(2, 3, 7, 1), street(1, 3, 4, 1)];
-    Ok(Instance::build(alloc, 3, 1, 3, &required, &[])?)
+    instance_of(alloc, "3 1 3 | 1 2 5 1, 2 3 7 1, 1 3 4 1")
 }
 
 // The streets 1-2 and 2-3 of costs 3 and 4, each of which fills a vehicle: single tours cost 6 and 14, and each vehicle goes out
 // and comes back, so that no plan costs less.
 fn full_streets(alloc: Global) -> Result<Instance, Fail> {
-    let required = [street(1, 2, 3, 2), street(2, 3, 4, 2)];
-    Ok(Instance::build(alloc, 3, 1, 2, &required, &[])?)
+    instance_of(alloc, "3 1 2 | 1 2 3 2, 2 3 4 2")
 }
 
 // What is found by so many turns, without helpers.
@@ -62,14 +60,10 @@ fn one_price_set_proves_full_streets(rt: HostRuntime) -> Result<(), Fail> {
 
 // Five streets of cost 1 and demand 2 at the end of a way of cost 100, of which a vehicle serves two.
 pub(crate) fn star(alloc: Global) -> Result<Instance, Fail> {
-    let required = [
-        street(2, 3, 1, 2),
-        street(2, 4, 1, 2),
-        street(2, 5, 1, 2),
-        street(2, 6, 1, 2),
-        street(2, 7, 1, 2),
-    ];
-    Ok(Instance::build(alloc, 7, 1, 5, &required, &[street(1, 2, 100, 0)])?)
+    instance_of(
+        alloc,
+        "7 1 5 | 2 3 1 2, 2 4 1 2, 2 5 1 2, 2 6 1 2, 2 7 1 2 | 1 2 100",
+    )
 }
 
 // The cost and the bound of the star by so many turns, without helpers.

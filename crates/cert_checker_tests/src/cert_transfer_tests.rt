@@ -9,15 +9,14 @@ use cert_checker::{Answer, check};
 use cert_format::{Cert, read_cert};
 use cert_lines::read_is_spelled;
 use cert_transfer::{carry, edited, read_edits};
-use samples::street;
+use samples::instance_of;
 use std::alloc::Global;
 use std::process::Abort;
 use std::test::Fail;
 
 // Two streets in a row, each a load for a vehicle.
 fn row(alloc: Global) -> Result<Instance, Fail> {
-    let required = [street(1, 2, 3, 2), street(2, 3, 4, 2)];
-    Ok(Instance::build(alloc, 3, 1, 2, &required, &[])?)
+    instance_of(alloc, "3 1 2 | 1 2 3 2, 2 3 4 2")
 }
 
 const ROW: &str =
@@ -25,8 +24,7 @@ const ROW: &str =
 
 // Three streets round a far corner, for vehicles that carry two of them.
 fn ring(alloc: Global) -> Result<Instance, Fail> {
-    let required = [street(2, 3, 1, 2), street(3, 4, 1, 2), street(4, 2, 1, 2)];
-    Ok(Instance::build(alloc, 4, 1, 5, &required, &[street(1, 2, 10, 0)])?)
+    instance_of(alloc, "4 1 5 | 2 3 1 2, 3 4 1 2, 4 2 1 2 | 1 2 10")
 }
 
 const RING: &str =

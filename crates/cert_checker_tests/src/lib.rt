@@ -4,8 +4,6 @@
 #![tactic(auto)]
 
 #[cfg(test)]
-mod cert_checker_group_tests;
-#[cfg(test)]
 mod cert_checker_stream_tests;
 #[cfg(test)]
 mod cert_checker_tests;

@@ -3,7 +3,7 @@ use augment_merge::{Merger, augment_merge};
 use carp_base::Instance;
 use deadhead_paths::single_tours;
 use plan_model::Proposer;
-use samples::{plan_text, street};
+use samples::{instance_of, plan_text, street};
 use std::alloc::Global;
 use std::process::Abort;
 use std::test::Fail;
@@ -27,24 +27,21 @@ fn expect(
 #[test]
 fn absorbs_what_fits(rt: HostRuntime) -> Result<(), Fail> {
     let alloc = rt.alloc();
-    let required = [street(2, 3, 1, 2), street(3, 4, 1, 2), street(4, 2, 1, 2)];
-    let inst = Instance::build(alloc, 4, 1, 5, &required, &[street(1, 2, 10, 0)])?;
+    let inst = instance_of(alloc, "4 1 5 | 2 3 1 2, 3 4 1 2, 4 2 1 2 | 1 2 10")?;
     expect(&rt, alloc, &inst, ">4+1+2>3<4;>4<3+3<4;", 45)
 }
 
 #[test]
 fn absorbs_out_and_home(rt: HostRuntime) -> Result<(), Fail> {
     let alloc = rt.alloc();
-    let required = [street(1, 2, 5, 1), street(2, 3, 7, 1), street(1, 3, 4, 1)];
-    let inst = Instance::build(alloc, 3, 1, 3, &required, &[])?;
+    let inst = instance_of(alloc, "3 1 3 | 1 2 5 1, 2 3 7 1, 1 3 4 1")?;
     expect(&rt, alloc, &inst, "+1+2-3;", 16)
 }
 
 #[test]
 fn drops_the_tour_of_what_is_absorbed(rt: HostRuntime) -> Result<(), Fail> {
     let alloc = rt.alloc();
-    let required = [street(1, 2, 5, 1), street(2, 3, 7, 1)];
-    let inst = Instance::build(alloc, 3, 1, 2, &required, &[])?;
+    let inst = instance_of(alloc, "3 1 2 | 1 2 5 1, 2 3 7 1")?;
     expect(&rt, alloc, &inst, "+1+2<2<1;", 24)
 }
 
@@ -78,23 +75,21 @@ fn joins_no_more_than_a_load(rt: HostRuntime) -> Result<(), Fail> {
 #[test]
 fn joins_what_was_joined(rt: HostRuntime) -> Result<(), Fail> {
     let alloc = rt.alloc();
-    let required = [street(2, 3, 1, 1), street(4, 5, 1, 1), street(6, 7, 1, 1)];
-    let others = [
-        street(1, 2, 10, 0),
-        street(1, 4, 10, 0),
-        street(1, 6, 10, 0),
-        street(3, 4, 2, 0),
-        street(5, 6, 2, 0),
-    ];
-    let all = Instance::build(alloc, 7, 1, 3, &required, &others)?;
+    let all = instance_of(
+        alloc,
+        "7 1 3 | 2 3 1 1, 4 5 1 1, 6 7 1 1 | 1 2 10, 1 4 10, 1 6 10, 3 4 2, 5 6 2",
+    )?;
     expect(&rt, alloc, &all, ">4+1>7+2>8+3<3<6;", 28)?;
-    let two = Instance::build(alloc, 7, 1, 2, &required, &others)?;
+    let two = instance_of(
+        alloc,
+        "7 1 2 | 2 3 1 1, 4 5 1 1, 6 7 1 1 | 1 2 10, 1 4 10, 1 6 10, 3 4 2, 5 6 2",
+    )?;
     expect(&rt, alloc, &two, ">4+1>7+2<2<5;>6+3<3<6;", 47)
 }
 
 #[test]
 fn has_no_tour_where_nothing_is_to_be_served(rt: HostRuntime) -> Result<(), Fail> {
-    let inst = Instance::build(rt.alloc(), 1, 1, 1, &[], &[])?;
+    let inst = instance_of(rt.alloc(), "1 1 1")?;
     expect(&rt, rt.alloc(), &inst, "", 0)
 }
 

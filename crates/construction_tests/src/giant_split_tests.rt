@@ -5,7 +5,7 @@ use carp_base::{Instance, Memory};
 use deadhead_paths::single_tours;
 use giant_split::{Splitter, order_of, split};
 use plan_model::{JudgeRoom, Plan, Proposer, Verdict, judge};
-use samples::street;
+use samples::instance_of;
 use std::alloc::Global;
 use std::test::Fail;
 use task_tours::{cost_distances, lawful_cost, plans_are_tours};
@@ -22,8 +22,7 @@ fn split_by_numbers(alloc: Global, inst: &Instance) -> Result<(usize, u128), Mem
 
 // A triangle of three streets, far from the depot, of which two fit one vehicle.
 fn far_triangle(alloc: Global) -> Result<Instance, Fail> {
-    let required = [street(2, 3, 1, 2), street(3, 4, 1, 2), street(4, 2, 1, 2)];
-    Ok(Instance::build(alloc, 4, 1, 5, &required, &[street(1, 2, 10, 0)])?)
+    instance_of(alloc, "4 1 5 | 2 3 1 2, 3 4 1 2, 4 2 1 2 | 1 2 10")
 }
 
 #[test]
@@ -36,8 +35,7 @@ fn cuts_a_triangle(rt: HostRuntime) -> Result<(), Fail> {
 
 #[test]
 fn leaves_room_where_that_is_cheaper(rt: HostRuntime) -> Result<(), Fail> {
-    let required = [street(1, 2, 1, 1), street(1, 3, 5, 1), street(3, 4, 5, 1)];
-    let inst = Instance::build(rt.alloc(), 4, 1, 2, &required, &[])?;
+    let inst = instance_of(rt.alloc(), "4 1 2 | 1 2 1 1, 1 3 5 1, 3 4 5 1")?;
     let (tours, cost) = split_by_numbers(rt.alloc(), &inst)?;
     assert!(rt; tours == 2 && cost == 22);
     Ok(())
@@ -45,7 +43,7 @@ fn leaves_room_where_that_is_cheaper(rt: HostRuntime) -> Result<(), Fail> {
 
 #[test]
 fn serves_nothing_by_no_tour(rt: HostRuntime) -> Result<(), Fail> {
-    let inst = Instance::build(rt.alloc(), 1, 1, 1, &[], &[])?;
+    let inst = instance_of(rt.alloc(), "1 1 1")?;
     let (tours, cost) = split_by_numbers(rt.alloc(), &inst)?;
     assert!(rt; tours == 0 && cost == 0);
     Ok(())
@@ -75,8 +73,7 @@ fn offers_a_split(rt: HostRuntime) -> Result<(), Fail> {
 // A triangle at the depot, whose second street is against the way round.
 #[test]
 fn turns_services_by_draws(rt: HostRuntime) -> Result<(), Fail> {
-    let required = [street(1, 2, 1, 1), street(3, 2, 1, 1), street(3, 1, 1, 1)];
-    let inst = Instance::build(rt.alloc(), 3, 1, 3, &required, &[])?;
+    let inst = instance_of(rt.alloc(), "3 1 3 | 1 2 1 1, 3 2 1 1, 3 1 1 1")?;
     let (_, cost) = split_by_numbers(rt.alloc(), &inst)?;
     assert!(rt; cost == 5);
     let dist = cost_distances(rt.alloc(), &inst)?;

@@ -3,7 +3,7 @@ use carp_base::{Instance, RawEdge};
 use deadhead_paths::single_tours;
 use path_scanning::{Rule, Scanner, scan};
 use plan_model::{JudgeRoom, Plan, Proposer, Verdict, judge};
-use samples::{plan_text, street};
+use samples::{instance_of, plan_text, street};
 use std::alloc::Global;
 use std::process::Abort;
 use std::test::Fail;
@@ -40,8 +40,7 @@ fn cost(rt: &impl Abort, alloc: Global, inst: &Instance, plan: &Plan) -> Result<
 #[test]
 fn goes_round_a_triangle(rt: HostRuntime) -> Result<(), Fail> {
     let alloc = rt.alloc();
-    let required = [street(1, 2, 5, 1), street(2, 3, 7, 1), street(1, 3, 4, 1)];
-    let inst = Instance::build(alloc, 3, 1, 3, &required, &[])?;
+    let inst = instance_of(alloc, "3 1 3 | 1 2 5 1, 2 3 7 1, 1 3 4 1")?;
     let wants = [
         (Rule::Far, "+1+2-3;"),
         (Rule::Near, "+3-2-1;"),
@@ -105,15 +104,13 @@ fn goes_far_with_just_half_a_load(rt: HostRuntime) -> Result<(), Fail> {
 
 #[test]
 fn passes_over_what_is_too_heavy(rt: HostRuntime) -> Result<(), Fail> {
-    let required = [street(1, 2, 5, 2), street(2, 3, 5, 2), street(1, 4, 3, 1)];
-    let inst = Instance::build(rt.alloc(), 4, 1, 3, &required, &[])?;
+    let inst = instance_of(rt.alloc(), "4 1 3 | 1 2 5 2, 2 3 5 2, 1 4 3 1")?;
     expect_scans(&rt, rt.alloc(), &inst, &[(Rule::Far, "+1<1+3<3;>1+2<2<1;")])
 }
 
 #[test]
 fn takes_the_least_number_first(rt: HostRuntime) -> Result<(), Fail> {
-    let required = [street(1, 2, 3, 1), street(1, 2, 4, 1)];
-    let inst = Instance::build(rt.alloc(), 2, 1, 2, &required, &[])?;
+    let inst = instance_of(rt.alloc(), "2 1 2 | 1 2 3 1, 1 2 4 1")?;
     expect_scans(
         &rt,
         rt.alloc(),
@@ -124,8 +121,7 @@ fn takes_the_least_number_first(rt: HostRuntime) -> Result<(), Fail> {
 
 #[test]
 fn takes_the_forward_way_first(rt: HostRuntime) -> Result<(), Fail> {
-    let others = [street(1, 2, 5, 0), street(1, 3, 5, 0)];
-    let inst = Instance::build(rt.alloc(), 3, 1, 1, &[street(2, 3, 4, 1)], &others)?;
+    let inst = instance_of(rt.alloc(), "3 1 1 | 2 3 4 1 | 1 2 5, 1 3 5")?;
     expect_scans(
         &rt,
         rt.alloc(),
@@ -136,15 +132,14 @@ fn takes_the_forward_way_first(rt: HostRuntime) -> Result<(), Fail> {
 
 #[test]
 fn has_no_tour_where_nothing_is_to_be_served(rt: HostRuntime) -> Result<(), Fail> {
-    let inst = Instance::build(rt.alloc(), 1, 1, 1, &[], &[])?;
+    let inst = instance_of(rt.alloc(), "1 1 1")?;
     expect_scans(&rt, rt.alloc(), &inst, &[(Rule::Half, "")])
 }
 
 #[test]
 fn offers_the_cheapest_scan(rt: HostRuntime) -> Result<(), Fail> {
     let alloc = rt.alloc();
-    let required = [street(1, 2, 4, 1), street(2, 3, 4, 1), street(1, 4, 6, 1)];
-    let inst = Instance::build(alloc, 4, 1, 2, &required, &[])?;
+    let inst = instance_of(alloc, "4 1 2 | 1 2 4 1, 2 3 4 1, 1 4 6 1")?;
     let best = single_tours(alloc, &inst, &cost_distances(alloc, &inst)?)?;
     let mut helper = Scanner::new(5);
     assert_eq!(rt; (helper.id(), helper.fouls()), (5, 0));

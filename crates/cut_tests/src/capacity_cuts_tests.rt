@@ -5,7 +5,7 @@ use cut_pool::Shore;
 use deadhead_paths::{cost_prices, distances};
 use edge_components::are_parts;
 use road_network::Network;
-use samples::street;
+use samples::instance_of;
 use std::alloc::Global;
 use std::process::Abort;
 use std::test::Fail;
@@ -44,8 +44,7 @@ fn expect_shells(
 
 // Two streets of cost 3 and 4 in a row, of demand 2 each, and vehicles for one of them.
 fn row(alloc: Global) -> Result<Instance, Fail> {
-    let streets = [street(1, 2, 3, 2), street(2, 3, 4, 2)];
-    Ok(Instance::build(alloc, 3, 1, 2, &streets, &[])?)
+    instance_of(alloc, "3 1 2 | 1 2 3 2, 2 3 4 2")
 }
 
 #[test]
@@ -59,10 +58,9 @@ fn level_sets_of_a_row(rt: HostRuntime) -> Result<(), Fail> {
 #[test]
 fn level_sets_of_equal_distances(rt: HostRuntime) -> Result<(), Fail> {
     let alloc = rt.alloc();
-    let streets = [street(1, 2, 3, 1), street(1, 4, 3, 1), street(1, 3, 0, 1)];
-    let inst = Instance::build(alloc, 6, 1, 2, &streets, &[street(4, 6, 2, 0)])?;
+    let inst = instance_of(alloc, "6 1 2 | 1 2 3 1, 1 4 3 1, 1 3 0 1 | 4 6 2")?;
     expect_shells(&rt, alloc, &inst, &[(&[2, 4, 6], 3), (&[6], 2)])?;
-    let alone = Instance::build(alloc, 1, 1, 1, &[], &[])?;
+    let alone = instance_of(alloc, "1 1 1")?;
     expect_shells(&rt, alloc, &alone, &[])
 }
 
@@ -88,12 +86,11 @@ fn expect_fractional(
 #[test]
 fn a_ring_is_violated_as_a_whole(rt: HostRuntime) -> Result<(), Fail> {
     let alloc = rt.alloc();
-    let ring = [street(2, 3, 1, 2), street(3, 4, 1, 2), street(4, 2, 1, 2)];
-    let inst = Instance::build(alloc, 4, 1, 5, &ring, &[street(1, 2, 10, 0)])?;
+    let inst = instance_of(alloc, "4 1 5 | 2 3 1 2, 3 4 1 2, 4 2 1 2 | 1 2 10")?;
     expect_fractional(&rt, alloc, &inst, &[0, 0, 0, 0], &[2, 3, 4])?;
     expect_fractional(&rt, alloc, &inst, &[0, 0, 0, 3], &[3, 4])?;
     expect_fractional(&rt, alloc, &inst, &[1, 0, 0, 3], &[])?;
-    let alone = Instance::build(alloc, 1, 1, 1, &[], &[])?;
+    let alone = instance_of(alloc, "1 1 1")?;
     expect_fractional(&rt, alloc, &alone, &[], &[])
 }
 

@@ -2,7 +2,7 @@ ghost use Rattle.cut_pool.specs.Shores.{IsShore};
 
 use carp_base::{Fail as Refusal, Instance};
 use cut_pool::{PoolFull, Shore, ShorePool, need, required_crossings, touched};
-use samples::street;
+use samples::instance_of;
 use std::alloc::Global;
 use std::process::Abort;
 use std::test::Fail;
@@ -29,12 +29,10 @@ fn expect_border(
 #[test]
 fn borders_need_vehicles_and_parity(rt: HostRuntime) -> Result<(), Fail> {
     let alloc = rt.alloc();
-    let side_by_side = [street(1, 2, 5, 3), street(1, 2, 8, 3)];
-    let inst = Instance::build(alloc, 2, 1, 5, &side_by_side, &[])?;
+    let inst = instance_of(alloc, "2 1 5 | 1 2 5 3, 1 2 8 3")?;
     expect_border(&rt, alloc, &inst, &[2], (2, 6, 2))?;
 
-    let row = [street(1, 2, 3, 2), street(2, 3, 4, 2)];
-    let inst = Instance::build(alloc, 3, 1, 2, &row, &[])?;
+    let inst = instance_of(alloc, "3 1 2 | 1 2 3 2, 2 3 4 2")?;
     expect_border(&rt, alloc, &inst, &[2, 3], (1, 4, 3))?;
     expect_border(&rt, alloc, &inst, &[3], (1, 2, 1))?;
     expect_border(&rt, alloc, &inst, &[2], (2, 4, 2))
@@ -43,19 +41,14 @@ fn borders_need_vehicles_and_parity(rt: HostRuntime) -> Result<(), Fail> {
 #[test]
 fn borders_of_other_edges_need_vehicles(rt: HostRuntime) -> Result<(), Fail> {
     let alloc = rt.alloc();
-    let ring = [street(2, 3, 1, 2), street(3, 4, 1, 2), street(4, 2, 1, 2)];
-    let inst = Instance::build(alloc, 4, 1, 5, &ring, &[street(1, 2, 10, 0)])?;
+    let inst = instance_of(alloc, "4 1 5 | 2 3 1 2, 3 4 1 2, 4 2 1 2 | 1 2 10")?;
     expect_border(&rt, alloc, &inst, &[2, 3, 4], (0, 6, 4))?;
     expect_border(&rt, alloc, &inst, &[3, 4], (2, 6, 2))?;
 
-    let star = [
-        street(2, 3, 1, 2),
-        street(2, 4, 1, 2),
-        street(2, 5, 1, 2),
-        street(2, 6, 1, 2),
-        street(2, 7, 1, 2),
-    ];
-    let inst = Instance::build(alloc, 7, 1, 5, &star, &[street(1, 2, 100, 0)])?;
+    let inst = instance_of(
+        alloc,
+        "7 1 5 | 2 3 1 2, 2 4 1 2, 2 5 1 2, 2 6 1 2, 2 7 1 2 | 1 2 100",
+    )?;
     expect_border(&rt, alloc, &inst, &[2, 3, 4, 5, 6, 7], (0, 10, 4))?;
     expect_border(&rt, alloc, &inst, &[3], (1, 2, 1))
 }
@@ -96,8 +89,7 @@ fn a_pool_numbers_in_the_order_of_discovery(rt: HostRuntime) -> Result<(), Fail>
 #[test]
 fn a_set_crosses_and_belongs(rt: HostRuntime) -> Result<(), Fail> {
     let alloc = rt.alloc();
-    let row = [street(1, 2, 3, 2), street(2, 3, 4, 2)];
-    let inst = Instance::build(alloc, 3, 1, 2, &row, &[])?;
+    let inst = instance_of(alloc, "3 1 2 | 1 2 3 2, 2 3 4 2")?;
     let shore = Shore::from_list(alloc, &[2, 3])?;
     let crossing = [shore.crosses(&inst.edge(1)), shore.crosses(&inst.edge(2))];
     assert_eq!(rt; crossing, [true, false]);

@@ -1,27 +1,16 @@
 // Components of a small instance, and their borders.
-use carp_base::{Instance, RawEdge};
 use edge_components::{
     are_parts, crossings_by_label, demand_by_label, label_components, parts_by_label,
 };
 use road_network::Network;
+use samples::instance_of;
 use std::test::Fail;
-
-fn edge(u: u64, v: u64, demand: u64) -> RawEdge {
-    RawEdge {
-        u,
-        v,
-        cost: 1,
-        demand,
-        service: 1,
-    }
-}
 
 // Vertices 2 and 3 are joined by two parallel edges, 4 and 5 by an edge that need not be served, and 6 is by itself.
 #[test]
 fn components_and_what_lies_at_their_borders(rt: HostRuntime) -> Result<(), Fail> {
     let alloc = rt.alloc();
-    let required = [edge(1, 2, 2), edge(2, 3, 1), edge(2, 3, 2), edge(3, 4, 3)];
-    let inst = Instance::build(alloc, 6, 1, 5, &required, &[edge(4, 5, 0)])?;
+    let inst = instance_of(alloc, "6 1 5 | 1 2 1 2, 2 3 1 1, 2 3 1 2, 3 4 1 3 | 4 5 1")?;
     let net = Network::new(alloc, &inst)?;
     let x = [4, 9, 5, 0, 6];
     let fits = are_parts(&inst, &x);
@@ -39,7 +28,7 @@ fn components_and_what_lies_at_their_borders(rt: HostRuntime) -> Result<(), Fail
 
 #[test]
 fn parts_that_do_not_fit(rt: HostRuntime) -> Result<(), Fail> {
-    let inst = Instance::build(rt.alloc(), 2, 1, 5, &[edge(1, 2, 2)], &[])?;
+    let inst = instance_of(rt.alloc(), "2 1 5 | 1 2 1 2")?;
     let fit = [
         are_parts(&inst, &[1_000_000_000_000]),
         are_parts(&inst, &[1_000_000_000_001]),

@@ -1,21 +1,12 @@
 // Odd components of small instances.
 use crate::capacity_cuts_tests::is_shore;
-use carp_base::{Instance, RawEdge};
+use carp_base::Instance;
 use parity_cuts::find;
 use road_network::Network;
+use samples::instance_of;
 use std::alloc::Global;
 use std::process::Abort;
 use std::test::Fail;
-
-fn edge(u: u64, v: u64) -> RawEdge {
-    RawEdge {
-        u,
-        v,
-        cost: 5,
-        demand: 1,
-        service: 5,
-    }
-}
 
 // The odd components of the edges with positive x are just these.
 fn expect_found(
@@ -39,7 +30,7 @@ fn expect_found(
 #[test]
 fn a_street_without_a_way_back(rt: HostRuntime) -> Result<(), Fail> {
     let alloc = rt.alloc();
-    let inst = Instance::build(alloc, 2, 1, 1, &[edge(1, 2)], &[])?;
+    let inst = instance_of(alloc, "2 1 1 | 1 2 5 1")?;
     expect_found(&rt, alloc, &inst, &[0], &[&[2]])?;
     expect_found(&rt, alloc, &inst, &[1], &[])
 }
@@ -48,17 +39,10 @@ fn a_street_without_a_way_back(rt: HostRuntime) -> Result<(), Fail> {
 #[test]
 fn odd_ones_alone(rt: HostRuntime) -> Result<(), Fail> {
     let alloc = rt.alloc();
-    let required = [
-        edge(1, 2),
-        edge(2, 3),
-        edge(2, 3),
-        edge(3, 4),
-        edge(3, 5),
-        edge(5, 6),
-        edge(4, 6),
-        edge(5, 6),
-    ];
-    let inst = Instance::build(alloc, 6, 1, 9, &required, &[edge(4, 5)])?;
+    let inst = instance_of(
+        alloc,
+        "6 1 9 | 1 2 5 1, 2 3 5 1, 2 3 5 1, 3 4 5 1, 3 5 5 1, 5 6 5 1, 4 6 5 1, 5 6 5 1 | 4 5 5",
+    )?;
     let x = [0, 2, 1, 0, 0, 0, 0, 0, 3];
     expect_found(&rt, alloc, &inst, &x, &[&[2, 3], &[4, 5], &[6]])?;
     let x = [1, 0, 0, 0, 0, 0, 0, 0, 3];
@@ -72,6 +56,6 @@ fn odd_ones_alone(rt: HostRuntime) -> Result<(), Fail> {
 #[test]
 fn no_vertex_but_the_depot(rt: HostRuntime) -> Result<(), Fail> {
     let alloc = rt.alloc();
-    let inst = Instance::build(alloc, 1, 1, 1, &[], &[])?;
+    let inst = instance_of(alloc, "1 1 1")?;
     expect_found(&rt, alloc, &inst, &[], &[])
 }

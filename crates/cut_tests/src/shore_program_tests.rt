@@ -3,8 +3,9 @@ ghost use Rattle.std.specs.Prelude.{◌≡◌};
 ghost use Rattle.cut_pool.specs.Shores.{IsShore};
 
 use crate::capacity_cuts_tests::is_shore;
-use carp_base::{Instance, Memory, RawEdge};
+use carp_base::{Instance, Memory};
 use cut_pool::Shore;
+use samples::instance_of;
 use shore_program::Program;
 use std::alloc::Global;
 use std::process::Abort;
@@ -13,20 +14,9 @@ use std::test::Fail;
 // Enough steps for each town here.
 const STEPS: u32 = 100;
 
-fn street(u: u64, v: u64, cost: u64) -> RawEdge {
-    RawEdge {
-        u,
-        v,
-        cost,
-        demand: 1,
-        service: cost,
-    }
-}
-
 // Two streets of cost 3 and 4 in a row.
 fn row(alloc: Global) -> Result<Instance, Fail> {
-    let streets = [street(1, 2, 3), street(2, 3, 4)];
-    Ok(Instance::build(alloc, 3, 1, 1, &streets, &[])?)
+    instance_of(alloc, "3 1 1 | 1 2 3 1, 2 3 4 1")
 }
 
 // Offers a shore over which so many deadheads are demanded.
@@ -104,13 +94,7 @@ fn a_row(rt: HostRuntime) -> Result<(), Fail> {
 #[test]
 fn a_ring(rt: HostRuntime) -> Result<(), Fail> {
     let alloc = rt.alloc();
-    let streets = [
-        street(2, 3, 1),
-        street(3, 4, 1),
-        street(2, 4, 1),
-        street(1, 2, 9),
-    ];
-    let inst = Instance::build(alloc, 4, 1, 1, &streets, &[])?;
+    let inst = instance_of(alloc, "4 1 1 | 2 3 1 1, 3 4 1 1, 2 4 1 1, 1 2 9 1")?;
     let mut program = Program::new(alloc, &inst)?;
     offer(alloc, &inst, &mut program, &[2], 1)?;
     offer(alloc, &inst, &mut program, &[3], 1)?;

@@ -1,24 +1,15 @@
 // Small towns whose shores are worked out by hand.
-use carp_base::{Instance, Memory, RawEdge};
+use carp_base::{Instance, Memory};
 use cut_pool::Shore;
 use edge_components::are_parts;
 use road_network::Network;
+use samples::instance_of;
 use shore_search::{Effort, ShoreSearch, shortfall};
 use std::alloc::Global;
 use std::test::Fail;
 
 // One deadhead, in parts.
 const UNIT: u64 = 1_048_576;
-
-fn street(u: u64, v: u64, demand: u64) -> RawEdge {
-    RawEdge {
-        u,
-        v,
-        cost: 1,
-        demand,
-        service: 1,
-    }
-}
 
 // What a new search finds.
 fn find(
@@ -80,8 +71,7 @@ fn short(alloc: Global, inst: &Instance, x: &[u64], v: u32) -> Result<u64, Memor
 
 // Three streets of demand 1 from the depot 1, which one vehicle can serve.
 fn star(alloc: Global) -> Result<Instance, Fail> {
-    let required = [street(1, 2, 1), street(1, 3, 1), street(1, 4, 1)];
-    Ok(Instance::build(alloc, 4, 1, 3, &required, &[])?)
+    instance_of(alloc, "4 1 3 | 1 2 1 1, 1 3 1 1, 1 4 1 1")
 }
 
 // Each end needs a deadhead, since one street is odd, and so do all three. Two ends have two streets for one vehicle.
@@ -131,8 +121,7 @@ fn small_shortfalls_do_not_count(rt: HostRuntime) -> Result<(), Fail> {
 #[test]
 fn a_ring_far_away_needs_more(rt: HostRuntime) -> Result<(), Fail> {
     let alloc = rt.alloc();
-    let required = [street(2, 3, 2), street(3, 4, 2), street(2, 4, 2)];
-    let inst = Instance::build(alloc, 4, 1, 4, &required, &[street(1, 2, 0)])?;
+    let inst = instance_of(alloc, "4 1 4 | 2 3 1 2, 3 4 1 2, 2 4 1 2 | 1 2 1")?;
     let x = [UNIT, 0, UNIT, 2 * UNIT];
     let found = find(alloc, &inst, &x, Effort::Quick, 10)?;
     assert_eq!(rt; listed(alloc, &found)?.as_slice(), [2, 3, 4, 0].as_slice());
@@ -144,21 +133,10 @@ fn a_ring_far_away_needs_more(rt: HostRuntime) -> Result<(), Fail> {
 #[test]
 fn new_searches_find_the_same(rt: HostRuntime) -> Result<(), Fail> {
     let alloc = rt.alloc();
-    let required = [
-        street(1, 2, 3),
-        street(2, 3, 2),
-        street(4, 5, 3),
-        street(5, 6, 1),
-        street(7, 8, 2),
-        street(8, 9, 3),
-        street(1, 4, 1),
-        street(4, 7, 2),
-        street(2, 5, 3),
-        street(5, 8, 2),
-        street(3, 6, 1),
-        street(6, 9, 2),
-    ];
-    let inst = Instance::build(alloc, 9, 5, 5, &required, &[])?;
+    let inst = instance_of(
+        alloc,
+        "9 5 5 | 1 2 1 3, 2 3 1 2, 4 5 1 3, 5 6 1 1, 7 8 1 2, 8 9 1 3, 1 4 1 1, 4 7 1 2, 2 5 1 3, 5 8 1 2, 3 6 1 1, 6 9 1 2",
+    )?;
     let x = [0; 12];
     let first = find(alloc, &inst, &x, Effort::Quick, 20)?;
     assert_eq!(rt; first.len(), 20);

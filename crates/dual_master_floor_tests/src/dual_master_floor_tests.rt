@@ -9,7 +9,7 @@ use deadhead_paths::{Distances, cost_prices, distances};
 use dual_master::{join_prices, ratio_prices, shell_prices};
 use road_network::Network;
 use route_pricing::Table;
-use samples::street;
+use samples::{instance_of, street};
 use std::alloc::Global;
 use std::process::Abort;
 use std::test::Fail;
@@ -53,7 +53,7 @@ fn expect_shell(
 #[test]
 fn shell_of_one_street(rt: HostRuntime) -> Result<(), Fail> {
     let alloc = rt.alloc();
-    let inst = Instance::build(alloc, 2, 1, 1, &[street(1, 2, 5, 1)], &[])?;
+    let inst = instance_of(alloc, "2 1 1 | 1 2 5 1")?;
     expect_shell(&rt, alloc, &inst, 1, 10)
 }
 
@@ -69,8 +69,7 @@ fn shell_of_a_star(rt: HostRuntime) -> Result<(), Fail> {
 #[test]
 fn shell_of_two_streets_in_a_row(rt: HostRuntime) -> Result<(), Fail> {
     let alloc = rt.alloc();
-    let streets = [street(1, 2, 3, 2), street(2, 3, 4, 2)];
-    let inst = Instance::build(alloc, 3, 1, 2, &streets, &[])?;
+    let inst = instance_of(alloc, "3 1 2 | 1 2 3 2, 2 3 4 2")?;
     expect_shell(&rt, alloc, &inst, 2, 20)
 }
 
@@ -101,8 +100,7 @@ fn ratio_of_a_star(rt: HostRuntime) -> Result<(), Fail> {
 #[test]
 fn ratio_that_is_no_whole_number(rt: HostRuntime) -> Result<(), Fail> {
     let alloc = rt.alloc();
-    let streets = [street(1, 2, 3, 2), street(2, 3, 4, 3), street(1, 4, 4, 2)];
-    let inst = Instance::build(alloc, 4, 1, 5, &streets, &[])?;
+    let inst = instance_of(alloc, "4 1 5 | 1 2 3 2, 2 3 4 3, 1 4 4 2")?;
     expect_ratio(&rt, alloc, &inst, 5, 104)
 }
 
@@ -127,7 +125,7 @@ fn expect_join(
 #[test]
 fn join_of_streets_and_stars(rt: HostRuntime) -> Result<(), Fail> {
     let alloc = rt.alloc();
-    let inst = Instance::build(alloc, 2, 1, 1, &[street(1, 2, 5, 1)], &[])?;
+    let inst = instance_of(alloc, "2 1 1 | 1 2 5 1")?;
     expect_join(&rt, alloc, &inst, 20)?;
     expect_join(&rt, alloc, &star(alloc, 3)?, 60)
 }
@@ -135,7 +133,7 @@ fn join_of_streets_and_stars(rt: HostRuntime) -> Result<(), Fail> {
 #[test]
 fn floors_where_nothing_is_required(rt: HostRuntime) -> Result<(), Fail> {
     let alloc = rt.alloc();
-    let inst = Instance::build(alloc, 2, 1, 3, &[], &[street(1, 2, 4, 0)])?;
+    let inst = instance_of(alloc, "2 1 3 | | 1 2 4")?;
     expect_shell(&rt, alloc, &inst, 1, 0)?;
     expect_join(&rt, alloc, &inst, 0)?;
     expect_ratio(&rt, alloc, &inst, 1, 0)

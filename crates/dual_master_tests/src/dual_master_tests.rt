@@ -16,7 +16,7 @@ use deadhead_paths::{Distances, cost_prices, distances};
 use dual_master::{floors, raise};
 use road_network::Network;
 use route_pricing::Table;
-use samples::street;
+use samples::instance_of;
 use std::alloc::Global;
 use std::process::Abort;
 use std::test::Fail;
@@ -127,7 +127,7 @@ fn expect_shore(rt: &impl Abort, pool: &ShorePool, number: u32, expected: &[u32]
 #[test]
 fn one_street(rt: HostRuntime) -> Result<(), Fail> {
     let alloc = rt.alloc();
-    let inst = Instance::build(alloc, 2, 1, 1, &[street(1, 2, 5, 1)], &[])?;
+    let inst = instance_of(alloc, "2 1 1 | 1 2 5 1")?;
     let pool = expect_floor(&rt, alloc, &inst, 10)?;
     assert_eq!(rt; pool.len(), 1);
     expect_shore(&rt, &pool, 1, &[2]);
@@ -138,8 +138,7 @@ fn one_street(rt: HostRuntime) -> Result<(), Fail> {
 #[test]
 fn two_streets_in_a_row(rt: HostRuntime) -> Result<(), Fail> {
     let alloc = rt.alloc();
-    let streets = [street(1, 2, 3, 2), street(2, 3, 4, 2)];
-    let inst = Instance::build(alloc, 3, 1, 2, &streets, &[])?;
+    let inst = instance_of(alloc, "3 1 2 | 1 2 3 2, 2 3 4 2")?;
     let pool = expect_floor(&rt, alloc, &inst, 20)?;
     assert_eq!(rt; pool.len(), 3);
     expect_shore(&rt, &pool, 1, &[2, 3]);
@@ -152,8 +151,7 @@ fn two_streets_in_a_row(rt: HostRuntime) -> Result<(), Fail> {
 #[test]
 fn a_ring_far_away(rt: HostRuntime) -> Result<(), Fail> {
     let alloc = rt.alloc();
-    let ring = [street(2, 3, 1, 2), street(3, 4, 1, 2), street(4, 2, 1, 2)];
-    let inst = Instance::build(alloc, 4, 1, 3, &ring, &[street(1, 2, 10, 0)])?;
+    let inst = instance_of(alloc, "4 1 3 | 2 3 1 2, 3 4 1 2, 4 2 1 2 | 1 2 10")?;
     let pool = expect_floor(&rt, alloc, &inst, 66)?;
     assert_eq!(rt; pool.len(), 3);
     expect_shore(&rt, &pool, 1, &[2]);
@@ -166,14 +164,7 @@ fn a_ring_far_away(rt: HostRuntime) -> Result<(), Fail> {
 #[test]
 fn a_ring_with_two_dead_ends(rt: HostRuntime) -> Result<(), Fail> {
     let alloc = rt.alloc();
-    let streets = [
-        street(1, 2, 1, 1),
-        street(2, 3, 1, 1),
-        street(1, 3, 1, 1),
-        street(2, 4, 6, 1),
-        street(3, 5, 6, 1),
-    ];
-    let inst = Instance::build(alloc, 5, 1, 5, &streets, &[])?;
+    let inst = instance_of(alloc, "5 1 5 | 1 2 1 1, 2 3 1 1, 1 3 1 1, 2 4 6 1, 3 5 6 1")?;
     let pool = expect_floor(&rt, alloc, &inst, 27)?;
     assert_eq!(rt; pool.len(), 4);
     Ok(())
@@ -183,7 +174,7 @@ fn a_ring_with_two_dead_ends(rt: HostRuntime) -> Result<(), Fail> {
 #[test]
 fn nothing_to_serve(rt: HostRuntime) -> Result<(), Fail> {
     let alloc = rt.alloc();
-    let inst = Instance::build(alloc, 2, 1, 3, &[], &[street(1, 2, 4, 0)])?;
+    let inst = instance_of(alloc, "2 1 3 | | 1 2 4")?;
     let pool = expect_floor(&rt, alloc, &inst, 0)?;
     assert_eq!(rt; pool.len(), 1);
     Ok(())
@@ -231,8 +222,7 @@ fn expect_raised(
 #[test]
 fn a_ring_far_away_is_raised(rt: HostRuntime) -> Result<(), Fail> {
     let alloc = rt.alloc();
-    let ring = [street(2, 3, 1, 2), street(3, 4, 1, 2), street(4, 2, 1, 2)];
-    let inst = Instance::build(alloc, 4, 1, 3, &ring, &[street(1, 2, 10, 0)])?;
+    let inst = instance_of(alloc, "4 1 3 | 2 3 1 2, 3 4 1 2, 4 2 1 2 | 1 2 10")?;
     expect_raised(&rt, alloc, &inst, 0, 67)?;
     expect_raised(&rt, alloc, &inst, 400, 67)
 }
@@ -241,14 +231,10 @@ fn a_ring_far_away_is_raised(rt: HostRuntime) -> Result<(), Fail> {
 #[test]
 fn a_star_stays(rt: HostRuntime) -> Result<(), Fail> {
     let alloc = rt.alloc();
-    let star = [
-        street(2, 3, 1, 2),
-        street(2, 4, 1, 2),
-        street(2, 5, 1, 2),
-        street(2, 6, 1, 2),
-        street(2, 7, 1, 2),
-    ];
-    let inst = Instance::build(alloc, 7, 1, 5, &star, &[street(1, 2, 100, 0)])?;
+    let inst = instance_of(
+        alloc,
+        "7 1 5 | 2 3 1 2, 2 4 1 2, 2 5 1 2, 2 6 1 2, 2 7 1 2 | 1 2 100",
+    )?;
     expect_raised(&rt, alloc, &inst, 400, 510)
 }
 
@@ -301,7 +287,7 @@ fn expect_low_price(rt: &impl Abort, alloc: Global, inst: &Instance) -> Result<(
 #[test]
 fn a_low_price_is_raised(rt: HostRuntime) -> Result<(), Fail> {
     let alloc = rt.alloc();
-    let inst = Instance::build(alloc, 2, 1, 1, &[street(1, 2, 5, 1)], &[])?;
+    let inst = instance_of(alloc, "2 1 1 | 1 2 5 1")?;
     expect_low_price(&rt, alloc, &inst)
 }
 
@@ -309,7 +295,6 @@ fn a_low_price_is_raised(rt: HostRuntime) -> Result<(), Fail> {
 #[test]
 fn two_streets_in_a_row_stay(rt: HostRuntime) -> Result<(), Fail> {
     let alloc = rt.alloc();
-    let streets = [street(1, 2, 3, 2), street(2, 3, 4, 2)];
-    let inst = Instance::build(alloc, 3, 1, 2, &streets, &[])?;
+    let inst = instance_of(alloc, "3 1 2 | 1 2 3 2, 2 3 4 2")?;
     expect_raised(&rt, alloc, &inst, 400, 20)
 }

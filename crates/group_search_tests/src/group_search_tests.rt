@@ -1,9 +1,9 @@
 // Small flows whose groups are worked out by hand.
 ghost use Rattle.std.specs.Prelude.{◌≡◌, IfOk};
 
-use carp_base::{Instance, Memory, RawEdge};
+use carp_base::{Instance, Memory};
 use group_search::{Effort, Flow, Group, GroupSearch, violation};
-use samples::street;
+use samples::{instance_of, street};
 use std::alloc::Global;
 use std::test::Fail;
 
@@ -191,7 +191,7 @@ fn small_violations_do_not_count(rt: HostRuntime) -> Result<(), Fail> {
 #[test]
 fn few_streets_have_no_groups(rt: HostRuntime) -> Result<(), Fail> {
     let alloc = rt.alloc();
-    let none = Instance::build(alloc, 1, 1, 1, &[], &[])?;
+    let none = instance_of(alloc, "1 1 1")?;
     assert_eq!(rt;
         found(alloc, &none, &[(0, 0, UNIT)], Effort::Full, 9)?.len(),
         0

@@ -13,7 +13,7 @@ use cut_pool::ShorePool;
 use leaf_programs::{Leaf, LeafPrograms};
 use road_network::Network;
 use route_pricing::Table;
-use samples::street;
+use samples::{instance_of, street};
 use shore_prices::shore_prices;
 use std::alloc::Global;
 use std::test::Fail;
@@ -114,7 +114,7 @@ fn a_pair_to_be_served_together(rt: HostRuntime) -> Result<(), Fail> {
 #[test]
 fn nothing_is_proposed_if_no_edge_is_required(rt: HostRuntime) -> Result<(), Fail> {
     let alloc = rt.alloc();
-    let idle = Instance::build(alloc, 2, 1, 3, &[], &[street(1, 2, 4, 0)])?;
+    let idle = instance_of(alloc, "2 1 3 | | 1 2 4")?;
     assert_eq!(rt; offered_freely(alloc, &idle, 40)?, Some(0));
     Ok(())
 }

@@ -5,7 +5,7 @@ use carp_base::{Instance, Memory};
 use deadhead_paths::single_tours;
 use local_moves::{Mover, settle};
 use plan_model::{JudgeRoom, Plan, Proposer, Step, Verdict, Walk, judge, verdicts_are_exact};
-use samples::street;
+use samples::{instance_of, street};
 use std::alloc::Global;
 use std::mem;
 use std::process::Abort;
@@ -69,8 +69,7 @@ fn expect_settled(rt: &impl Abort, alloc: Global, inst: &Instance, rows: &str) -
 
 #[test]
 fn settles_tours_of_a_triangle(rt: HostRuntime) -> Result<(), Fail> {
-    let required = [street(1, 2, 5, 1), street(2, 3, 7, 1), street(1, 3, 4, 1)];
-    let inst = Instance::build(rt.alloc(), 3, 1, 3, &required, &[])?;
+    let inst = instance_of(rt.alloc(), "3 1 3 | 1 2 5 1, 2 3 7 1, 1 3 4 1")?;
     // The best tour; three tours; two neighbours in the wrong order; and one service in the wrong direction.
     let rows = "\
 +1+2-3; 16
@@ -82,43 +81,34 @@ fn settles_tours_of_a_triangle(rt: HostRuntime) -> Result<(), Fail> {
 
 #[test]
 fn turns_a_service(rt: HostRuntime) -> Result<(), Fail> {
-    let required = [street(1, 2, 5, 1), street(2, 3, 7, 1)];
-    let inst = Instance::build(rt.alloc(), 3, 1, 2, &required, &[street(1, 3, 4, 1)])?;
+    let inst = instance_of(rt.alloc(), "3 1 2 | 1 2 5 1, 2 3 7 1 | 1 3 4")?;
     expect_settled(&rt, rt.alloc(), &inst, "+1>2-2<1; 16")
 }
 
 #[test]
 fn moves_a_service_where_it_fits(rt: HostRuntime) -> Result<(), Fail> {
-    let required = [street(1, 2, 5, 1), street(2, 3, 5, 1)];
-    let wide = Instance::build(rt.alloc(), 3, 1, 2, &required, &[])?;
+    let wide = instance_of(rt.alloc(), "3 1 2 | 1 2 5 1, 2 3 5 1")?;
     expect_settled(&rt, rt.alloc(), &wide, "+1<1;>1+2<2<1; 20")?;
-    let narrow = Instance::build(rt.alloc(), 3, 1, 1, &required, &[])?;
+    let narrow = instance_of(rt.alloc(), "3 1 1 | 1 2 5 1, 2 3 5 1")?;
     expect_settled(&rt, rt.alloc(), &narrow, "+1<1;>1+2<2<1; 30")
 }
 
 #[test]
 fn swaps_services_of_full_tours(rt: HostRuntime) -> Result<(), Fail> {
-    let required = [
-        street(1, 2, 5, 1),
-        street(2, 3, 5, 1),
-        street(1, 4, 5, 1),
-        street(4, 5, 5, 1),
-    ];
-    let inst = Instance::build(rt.alloc(), 5, 1, 2, &required, &[])?;
+    let inst = instance_of(rt.alloc(), "5 1 2 | 1 2 5 1, 2 3 5 1, 1 4 5 1, 4 5 5 1")?;
     expect_settled(&rt, rt.alloc(), &inst, "+1<1>3+4<4<3;+3<3>1+2<2<1; 40")
 }
 
 #[test]
 fn settles_a_plan_of_nothing(rt: HostRuntime) -> Result<(), Fail> {
-    let inst = Instance::build(rt.alloc(), 1, 1, 1, &[], &[])?;
+    let inst = instance_of(rt.alloc(), "1 1 1")?;
     expect_settled(&rt, rt.alloc(), &inst, " 0\n; 0")
 }
 
 #[test]
 fn offers_a_settled_plan(rt: HostRuntime) -> Result<(), Fail> {
     let alloc = rt.alloc();
-    let required = [street(1, 2, 5, 1), street(2, 3, 7, 1), street(1, 3, 4, 1)];
-    let inst = Instance::build(alloc, 3, 1, 3, &required, &[])?;
+    let inst = instance_of(alloc, "3 1 3 | 1 2 5 1, 2 3 7 1, 1 3 4 1")?;
     let best = plan_of(&rt, alloc, "+1<1;>1+2<3;+3<3;")?;
     verdicts_are_exact();
     let mut room = JudgeRoom::new(alloc, &inst)?;
@@ -146,16 +136,10 @@ fn offers_a_settled_plan(rt: HostRuntime) -> Result<(), Fail> {
 #[test]
 fn recreates_what_is_settled(rt: HostRuntime) -> Result<(), Fail> {
     let alloc = rt.alloc();
-    let required = [
-        street(2, 4, 1, 2),
-        street(2, 5, 1, 1),
-        street(2, 6, 1, 1),
-        street(3, 7, 1, 1),
-        street(3, 8, 1, 1),
-        street(3, 9, 1, 2),
-    ];
-    let ways = [street(1, 2, 100, 0), street(1, 3, 100, 0)];
-    let inst = Instance::build(alloc, 9, 1, 4, &required, &ways)?;
+    let inst = instance_of(
+        alloc,
+        "9 1 4 | 2 4 1 2, 2 5 1 1, 2 6 1 1, 3 7 1 1, 3 8 1 1, 3 9 1 2 | 1 2 100, 1 3 100",
+    )?;
     let text = ">7+1<1<7>8+6<6<8;>7+2<2+3<3<7>8+4<4+5<5<8;";
     let best = plan_of(&rt, alloc, text)?;
     let settled = settled_cost(&rt, alloc, &inst, &best)?;

@@ -3,23 +3,14 @@ ghost use Rattle.std.specs.Prelude.{◌<◌, IfOk};
 ghost use Rattle.std.specs.List.{All};
 ghost use Rattle.ruin_recreate.specs.Boards.{IsBoard};
 
-use carp_base::{Instance, Memory, RawEdge};
+use carp_base::{Instance, Memory};
 use rand_pcg::Lcg64Xsh32;
 use ruin_recreate::{Board, board_of, ruin_and_recreate};
+use samples::instance_of;
 use std::alloc::{AllocError, Global};
 use std::process::Abort;
 use std::test::Fail;
 use task_tours::cost_distances;
-
-fn street(u: u64, v: u64, cost: u64, demand: u64) -> RawEdge {
-    RawEdge {
-        u,
-        v,
-        cost,
-        demand,
-        service: 50,
-    }
-}
 
 fn numbers(alloc: Global, text: &str) -> Result<Vec<u32>, AllocError> {
     let mut numbers = Vec::new(alloc);
@@ -49,8 +40,7 @@ const TRIANGLE: &str = "
 fn makes_the_board_of_a_triangle(rt: HostRuntime) -> Result<(), Fail> {
     let alloc = rt.alloc();
     // From the depot 1 to 2, from 2 to 3, and from 1 to 3.
-    let required = [street(1, 2, 5, 1), street(2, 3, 7, 2), street(1, 3, 4, 3)];
-    let inst = Instance::build(alloc, 3, 1, 3, &required, &[])?;
+    let inst = instance_of(alloc, "3 1 3 | 1 2 5 1 50, 2 3 7 2 50, 1 3 4 3 50")?;
     let board = board_of(alloc, &inst, &cost_distances(alloc, &inst)?)?;
     assert_eq!(rt; (board.width, board.room), (8, 3));
     expect_numbers(&rt, alloc, &board.links, TRIANGLE)?;
@@ -65,17 +55,10 @@ fn makes_the_board_of_a_triangle(rt: HostRuntime) -> Result<(), Fail> {
 
 // Streets round a square with two streets a side, from the depot 1 and back.
 fn ring(alloc: Global) -> Result<Instance, Fail> {
-    let required = [
-        street(1, 2, 3, 1),
-        street(2, 3, 3, 1),
-        street(3, 4, 3, 1),
-        street(5, 4, 3, 1),
-        street(6, 5, 3, 1),
-        street(6, 7, 3, 1),
-        street(7, 8, 3, 1),
-        street(8, 1, 3, 1),
-    ];
-    Ok(Instance::build(alloc, 8, 1, 8, &required, &[])?)
+    instance_of(
+        alloc,
+        "8 1 8 | 1 2 3 1 50, 2 3 3 1 50, 3 4 3 1 50, 5 4 3 1 50, 6 5 3 1 50, 6 7 3 1 50, 7 8 3 1 50, 8 1 3 1 50",
+    )
 }
 
 // A tour for each service.
@@ -133,7 +116,7 @@ fn goes_round_a_ring_without_deadheads(rt: HostRuntime) -> Result<(), Fail> {
 #[test]
 fn leaves_one_service_as_it_is(rt: HostRuntime) -> Result<(), Fail> {
     let alloc = rt.alloc();
-    let inst = Instance::build(alloc, 2, 1, 3, &[street(1, 2, 3, 1)], &[])?;
+    let inst = instance_of(alloc, "2 1 3 | 1 2 3 1 50")?;
     let board = board_of(alloc, &inst, &cost_distances(alloc, &inst)?)?;
     let found = search(alloc, &board, 7)?;
     expect_numbers(&rt, alloc, &found, "0 2 0")

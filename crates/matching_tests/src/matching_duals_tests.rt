@@ -4,7 +4,7 @@ use cut_pool::required_crossings;
 use deadhead_paths::{cost_prices, distances};
 use matching_duals::{JoinBound, join_bound};
 use road_network::Network;
-use samples::draw;
+use samples::{draw, instance_of};
 use std::alloc::Global;
 use std::process::Abort;
 use std::test::Fail;
@@ -161,8 +161,7 @@ fn expect(
 #[test]
 fn a_ring_is_even(rt: HostRuntime) -> Result<(), Fail> {
     let alloc = rt.alloc();
-    let ring = [street(1, 2, 4), street(2, 3, 5), street(3, 1, 6)];
-    let inst = Instance::build(alloc, 3, 1, 9, &ring, &[])?;
+    let inst = instance_of(alloc, "3 1 9 | 1 2 4 1, 2 3 5 1, 3 1 6 1")?;
     let bound = bound_of(alloc, &inst)?;
     assert!(rt; bound.shores.len() == 0);
     expect(&rt, alloc, &inst, &[0, 0, 0], 0)
@@ -171,7 +170,7 @@ fn a_ring_is_even(rt: HostRuntime) -> Result<(), Fail> {
 #[test]
 fn a_street_is_gone_back(rt: HostRuntime) -> Result<(), Fail> {
     let alloc = rt.alloc();
-    let inst = Instance::build(alloc, 2, 1, 9, &[street(1, 2, 5)], &[])?;
+    let inst = instance_of(alloc, "2 1 9 | 1 2 5 1")?;
     let bound = bound_of(alloc, &inst)?;
     let halves = halves_over(&inst, &bound, 1);
     assert!(rt; halves == 10 && bound.shores.len() == 1);
@@ -182,8 +181,7 @@ fn a_street_is_gone_back(rt: HostRuntime) -> Result<(), Fail> {
 #[test]
 fn a_set_of_three_goes_through_a_junction(rt: HostRuntime) -> Result<(), Fail> {
     let alloc = rt.alloc();
-    let required = [street(2, 3, 1), street(2, 4, 3), street(1, 5, 4)];
-    let inst = Instance::build(alloc, 6, 1, 9, &required, &[street(1, 2, 3)])?;
+    let inst = instance_of(alloc, "6 1 9 | 2 3 1 1, 2 4 3 1, 1 5 4 1 | 1 2 3")?;
     expect(&rt, alloc, &inst, &[1, 1, 1, 0], 8)
 }
 
@@ -191,8 +189,7 @@ fn a_set_of_three_goes_through_a_junction(rt: HostRuntime) -> Result<(), Fail> {
 #[test]
 fn a_row_of_odd_vertices(rt: HostRuntime) -> Result<(), Fail> {
     let alloc = rt.alloc();
-    let required = [street(1, 3, 3), street(2, 4, 4)];
-    let inst = Instance::build(alloc, 4, 1, 9, &required, &[street(1, 2, 3)])?;
+    let inst = instance_of(alloc, "4 1 9 | 1 3 3 1, 2 4 4 1 | 1 2 3")?;
     expect(&rt, alloc, &inst, &[1, 1, 0], 7)
 }
 
@@ -200,14 +197,7 @@ fn a_row_of_odd_vertices(rt: HostRuntime) -> Result<(), Fail> {
 #[test]
 fn a_ring_with_two_dead_ends(rt: HostRuntime) -> Result<(), Fail> {
     let alloc = rt.alloc();
-    let required = [
-        street(1, 2, 1),
-        street(2, 3, 1),
-        street(1, 3, 1),
-        street(2, 4, 6),
-        street(3, 5, 6),
-    ];
-    let inst = Instance::build(alloc, 5, 1, 5, &required, &[])?;
+    let inst = instance_of(alloc, "5 1 5 | 1 2 1 1, 2 3 1 1, 1 3 1 1, 2 4 6 1, 3 5 6 1")?;
     expect(&rt, alloc, &inst, &[0, 0, 0, 1, 1], 12)
 }
 

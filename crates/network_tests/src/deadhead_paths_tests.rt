@@ -6,7 +6,7 @@ use carp_base::{Instance, Memory, RawEdge};
 use deadhead_paths::{Distances, cost_prices, distances, single_tours, tidy};
 use plan_model::{JudgeRoom, Plan, Step, Verdict, Walk, judge};
 use road_network::Network;
-use samples::plan_text;
+use samples::{instance_of, plan_text};
 use std::alloc::{AllocError, Global};
 use std::process::Abort;
 use std::test::Fail;
@@ -316,8 +316,7 @@ fn step_of(sign: u8, edge: u8) -> Step {
 
 // Three edges to serve, round a triangle, and a dead end.
 fn triangle(alloc: Global) -> Result<Instance, Fail> {
-    let required = [street(1, 2, 5), street(2, 3, 7), street(1, 3, 4)];
-    Ok(Instance::build(alloc, 4, 1, 3, &required, &[street(3, 4, 1)])?)
+    instance_of(alloc, "4 1 3 | 1 2 5 1, 2 3 7 1, 1 3 4 1 | 3 4 1")
 }
 
 // A plan is lawful, and costs this much.

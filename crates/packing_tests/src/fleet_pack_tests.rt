@@ -4,7 +4,7 @@ ghost use Rattle.std.specs.Prelude.{◌≡◌, ◌≤◌, length};
 use carp_base::Instance;
 use fleet_pack::pack;
 use packing_trees::{PackAnswer, Packing, check_pack};
-use samples::street;
+use samples::{instance_of, street};
 use std::alloc::Global;
 use std::process::Abort;
 use std::test::Fail;
@@ -34,14 +34,10 @@ fn finds(alloc: Global, inst: &Instance, turns: u64, count: u32, bound: u32) -> 
 #[test]
 fn two_of_five_fit_together(rt: HostRuntime) -> Result<(), Fail> {
     let alloc = rt.alloc();
-    let required = [
-        street(2, 3, 1, 2),
-        street(2, 4, 1, 2),
-        street(2, 5, 1, 2),
-        street(2, 6, 1, 2),
-        street(2, 7, 1, 2),
-    ];
-    let inst = Instance::build(alloc, 7, 1, 5, &required, &[street(1, 2, 100, 0)])?;
+    let inst = instance_of(
+        alloc,
+        "7 1 5 | 2 3 1 2, 2 4 1 2, 2 5 1 2, 2 6 1 2, 2 7 1 2 | 1 2 100",
+    )?;
     assert!(&rt; finds(alloc, &inst, 2048, 3, 3)?);
     assert!(&rt; finds(alloc, &inst, 1, 3, 2)?);
     Ok(())
@@ -50,8 +46,7 @@ fn two_of_five_fit_together(rt: HostRuntime) -> Result<(), Fail> {
 #[test]
 fn no_two_of_three_fit_together(rt: HostRuntime) -> Result<(), Fail> {
     let alloc = rt.alloc();
-    let required = [street(2, 3, 1, 2), street(3, 4, 1, 2), street(4, 2, 1, 2)];
-    let inst = Instance::build(alloc, 4, 1, 3, &required, &[street(1, 2, 10, 0)])?;
+    let inst = instance_of(alloc, "4 1 3 | 2 3 1 2, 3 4 1 2, 4 2 1 2 | 1 2 10")?;
     let found = accepted(alloc, &inst, 64)?;
     assert!(&rt; found.count == 3 && found.bound == 3 && found.turns == 1);
     Ok(())
@@ -60,8 +55,7 @@ fn no_two_of_three_fit_together(rt: HostRuntime) -> Result<(), Fail> {
 #[test]
 fn one_group_takes_a_triangle(rt: HostRuntime) -> Result<(), Fail> {
     let alloc = rt.alloc();
-    let required = [street(1, 2, 5, 1), street(2, 3, 7, 1), street(1, 3, 4, 1)];
-    let inst = Instance::build(alloc, 3, 1, 3, &required, &[])?;
+    let inst = instance_of(alloc, "3 1 3 | 1 2 5 1, 2 3 7 1, 1 3 4 1")?;
     assert!(&rt; finds(alloc, &inst, 64, 1, 1)?);
     Ok(())
 }
@@ -69,7 +63,7 @@ fn one_group_takes_a_triangle(rt: HostRuntime) -> Result<(), Fail> {
 #[test]
 fn nothing_takes_no_group(rt: HostRuntime) -> Result<(), Fail> {
     let alloc = rt.alloc();
-    let inst = Instance::build(alloc, 1, 1, 1, &[], &[])?;
+    let inst = instance_of(alloc, "1 1 1")?;
     let found = accepted(alloc, &inst, 1)?;
     assert!(&rt; found.count == 0 && found.bound == 0 && found.turns == 1);
     Ok(())

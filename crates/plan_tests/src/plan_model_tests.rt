@@ -3,7 +3,7 @@ ghost use Rattle.plan_model.specs.Plans.{IsOnEdges};
 
 use carp_base::{Instance, Memory, RawEdge};
 use plan_model::{JudgeRoom, Plan, Step, Verdict, Walk, cost_of, judge, load_of};
-use samples::street;
+use samples::{instance_of, street};
 use std::alloc::Global;
 use std::process::Abort;
 use std::test::Fail;
@@ -56,8 +56,7 @@ fn expect_verdicts(
 #[test]
 fn plans_have_their_verdicts(rt: HostRuntime) -> Result<(), Fail> {
     let alloc = rt.alloc();
-    let triangle = [street(1, 2, 5, 1), street(2, 3, 7, 1), street(1, 3, 4, 1)];
-    let inst = Instance::build(alloc, 3, 1, 3, &triangle, &[])?;
+    let inst = instance_of(alloc, "3 1 3 | 1 2 5 1, 2 3 7 1, 1 3 4 1")?;
     expect_verdicts(
         &rt,
         alloc,
@@ -72,8 +71,7 @@ fn plans_have_their_verdicts(rt: HostRuntime) -> Result<(), Fail> {
         ],
     )?;
 
-    let row = [street(1, 2, 3, 2), street(2, 3, 4, 2)];
-    let inst = Instance::build(alloc, 3, 1, 2, &row, &[])?;
+    let inst = instance_of(alloc, "3 1 2 | 1 2 3 2, 2 3 4 2")?;
     expect_verdicts(
         &rt,
         alloc,
@@ -99,13 +97,7 @@ fn plans_have_their_verdicts(rt: HostRuntime) -> Result<(), Fail> {
         ],
     )?;
 
-    let parallel = [
-        street(1, 2, 3, 1),
-        street(1, 2, 3, 1),
-        street(1, 2, 3, 1),
-        street(1, 2, 3, 1),
-    ];
-    let inst = Instance::build(alloc, 2, 1, 1, &parallel, &[])?;
+    let inst = instance_of(alloc, "2 1 1 | 1 2 3 1, 1 2 3 1, 1 2 3 1, 1 2 3 1")?;
     expect_verdicts(
         &rt,
         alloc,
@@ -122,8 +114,7 @@ fn plans_have_their_verdicts(rt: HostRuntime) -> Result<(), Fail> {
 #[test]
 fn other_edges_are_crossed_and_not_served(rt: HostRuntime) -> Result<(), Fail> {
     let alloc = rt.alloc();
-    let ring = [street(2, 3, 1, 2), street(3, 4, 1, 2), street(4, 2, 1, 2)];
-    let inst = Instance::build(alloc, 4, 1, 5, &ring, &[street(1, 2, 10, 0)])?;
+    let inst = instance_of(alloc, "4 1 5 | 2 3 1 2, 3 4 1 2, 4 2 1 2 | 1 2 10")?;
     expect_verdicts(
         &rt,
         alloc,
@@ -135,7 +126,7 @@ fn other_edges_are_crossed_and_not_served(rt: HostRuntime) -> Result<(), Fail> {
         ],
     )?;
 
-    let inst = Instance::build(alloc, 4, 1, 3, &ring, &[street(1, 2, 10, 0)])?;
+    let inst = instance_of(alloc, "4 1 3 | 2 3 1 2, 3 4 1 2, 4 2 1 2 | 1 2 10")?;
     expect_verdicts(
         &rt,
         alloc,
@@ -153,8 +144,7 @@ fn other_edges_are_crossed_and_not_served(rt: HostRuntime) -> Result<(), Fail> {
         ],
     )?;
 
-    let others = [street(1, 3, 1, 0), street(2, 3, 1, 0)];
-    let inst = Instance::build(alloc, 3, 1, 1, &[street(1, 2, 1, 1)], &others)?;
+    let inst = instance_of(alloc, "3 1 1 | 1 2 1 1 | 1 3 1, 2 3 1")?;
     expect_verdicts(
         &rt,
         alloc,
@@ -170,7 +160,7 @@ fn other_edges_are_crossed_and_not_served(rt: HostRuntime) -> Result<(), Fail> {
 #[test]
 fn nothing_need_be_served(rt: HostRuntime) -> Result<(), Fail> {
     let alloc = rt.alloc();
-    let inst = Instance::build(alloc, 1, 1, 1, &[], &[])?;
+    let inst = instance_of(alloc, "1 1 1")?;
     expect_verdicts(
         &rt,
         alloc,

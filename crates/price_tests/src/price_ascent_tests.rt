@@ -11,7 +11,7 @@ use cut_pool::ShorePool;
 use price_ascent::ascend;
 use road_network::Network;
 use route_pricing::Table;
-use samples::street;
+use samples::instance_of;
 use std::alloc::Global;
 use std::test::Fail;
 use tight_prices::fits;
@@ -90,15 +90,10 @@ fn is_within(found: Option<(i128, u32)>, least: i128, most: i128, shores: u32) -
 
 // Five streets of cost 1 and demand 2 at the end of a free street of cost 100, and vehicles of capacity 5.
 fn star(alloc: Global) -> Result<Instance, Fail> {
-    let streets = [
-        street(2, 3, 1, 2),
-        street(2, 4, 1, 2),
-        street(2, 5, 1, 2),
-        street(2, 6, 1, 2),
-        street(2, 7, 1, 2),
-    ];
-    let ways = [street(1, 2, 100, 0)];
-    Ok(Instance::build(alloc, 7, 1, 5, &streets, &ways)?)
+    instance_of(
+        alloc,
+        "7 1 5 | 2 3 1 2, 2 4 1 2, 2 5 1 2, 2 6 1 2, 2 7 1 2 | 1 2 100",
+    )
 }
 
 // A vehicle serves two of the streets and drives 202 for it, so that each street pays 1 and 101. From prices of 1 one fill shows it.
@@ -116,14 +111,7 @@ fn a_star_far_away(rt: HostRuntime) -> Result<(), Fail> {
 #[test]
 fn two_streets_in_a_row(rt: HostRuntime) -> Result<(), Fail> {
     let alloc = rt.alloc();
-    let inst = Instance::build(
-        alloc,
-        3,
-        1,
-        4,
-        &[street(1, 2, 3, 2), street(2, 3, 4, 2)],
-        &[],
-    )?;
+    let inst = instance_of(alloc, "3 1 4 | 1 2 3 2, 2 3 4 2")?;
     assert_eq!(rt; offered(alloc, &inst, 1)?, Some((13_000, 0)));
     assert!(rt; is_within(offered(alloc, &inst, 400)?, 13_900, 14_000, 0));
     Ok(())
@@ -133,8 +121,7 @@ fn two_streets_in_a_row(rt: HostRuntime) -> Result<(), Fail> {
 #[test]
 fn three_streets_side_by_side(rt: HostRuntime) -> Result<(), Fail> {
     let alloc = rt.alloc();
-    let streets = [street(1, 2, 5, 1), street(1, 2, 5, 1), street(1, 2, 5, 1)];
-    let inst = Instance::build(alloc, 2, 1, 4, &streets, &[])?;
+    let inst = instance_of(alloc, "2 1 4 | 1 2 5 1, 1 2 5 1, 1 2 5 1")?;
     assert_eq!(rt; offered(alloc, &inst, 1)?, Some((15_000, 0)));
     assert!(rt; is_within(offered(alloc, &inst, 400)?, 19_900, 20_000, 1));
     Ok(())
@@ -145,7 +132,7 @@ fn no_rounds_and_no_required_edges(rt: HostRuntime) -> Result<(), Fail> {
     let alloc = rt.alloc();
     let inst = star(alloc)?;
     assert_eq!(rt; offered(alloc, &inst, 0)?, None);
-    let idle = Instance::build(alloc, 2, 1, 3, &[], &[street(1, 2, 4, 0)])?;
+    let idle = instance_of(alloc, "2 1 3 | | 1 2 4")?;
     assert_eq!(rt; offered(alloc, &idle, 400)?, None);
     Ok(())
 }

@@ -7,7 +7,7 @@ use branch_rules::{Branch, Decision};
 use carp_base::Instance;
 use cut_pool::{Shore, ShorePool};
 use road_network::Network;
-use samples::street;
+use samples::instance_of;
 use shore_prices::{list_weights, place_weight, shore_prices};
 use std::alloc::Global;
 use std::process::Abort;
@@ -37,8 +37,7 @@ fn expect_value(
 #[test]
 fn two_streets_in_a_row(rt: HostRuntime) -> Result<(), Fail> {
     let alloc = rt.alloc();
-    let streets = [street(1, 2, 3, 2), street(2, 3, 4, 2)];
-    let inst = Instance::build(alloc, 3, 1, 2, &streets, &[])?;
+    let inst = instance_of(alloc, "3 1 2 | 1 2 3 2, 2 3 4 2")?;
     expect_value(&rt, alloc, &inst, 400, 20, 2)
 }
 
@@ -46,15 +45,14 @@ fn two_streets_in_a_row(rt: HostRuntime) -> Result<(), Fail> {
 #[test]
 fn a_ring_far_away(rt: HostRuntime) -> Result<(), Fail> {
     let alloc = rt.alloc();
-    let ring = [street(2, 3, 1, 2), street(3, 4, 1, 2), street(4, 2, 1, 2)];
-    let inst = Instance::build(alloc, 4, 1, 3, &ring, &[street(1, 2, 10, 0)])?;
+    let inst = instance_of(alloc, "4 1 3 | 2 3 1 2, 3 4 1 2, 4 2 1 2 | 1 2 10")?;
     expect_value(&rt, alloc, &inst, 400, 46, 4)
 }
 
 #[test]
 fn nothing_to_serve(rt: HostRuntime) -> Result<(), Fail> {
     let alloc = rt.alloc();
-    let inst = Instance::build(alloc, 2, 1, 3, &[], &[street(1, 2, 4, 0)])?;
+    let inst = instance_of(alloc, "2 1 3 | | 1 2 4")?;
     expect_value(&rt, alloc, &inst, 400, 0, 0)
 }
 
@@ -62,7 +60,7 @@ fn nothing_to_serve(rt: HostRuntime) -> Result<(), Fail> {
 #[test]
 fn a_decision_demands_more(rt: HostRuntime) -> Result<(), Fail> {
     let alloc = rt.alloc();
-    let inst = Instance::build(alloc, 2, 1, 1, &[street(1, 2, 5, 1)], &[])?;
+    let inst = instance_of(alloc, "2 1 1 | 1 2 5 1")?;
     let net = Network::new(alloc, &inst)?;
     let mut pool = ShorePool::new(alloc);
     let shore = Shore::from_list(alloc, &[2])?;
@@ -104,8 +102,7 @@ fn place(
 #[test]
 fn weights_are_placed_and_listed(rt: HostRuntime) -> Result<(), Fail> {
     let alloc = rt.alloc();
-    let streets = [street(1, 2, 3, 2), street(2, 3, 4, 2), street(3, 4, 1, 2)];
-    let inst = Instance::build(alloc, 4, 1, 2, &streets, &[])?;
+    let inst = instance_of(alloc, "4 1 2 | 1 2 3 2, 2 3 4 2, 3 4 1 2")?;
     let mut pool = ShorePool::new(alloc);
     let mut placed = vec![in alloc; 0; 2001]?;
     place(&rt, alloc, &inst, &mut pool, &mut placed, 3, 7)?;

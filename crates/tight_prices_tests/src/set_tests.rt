@@ -12,7 +12,7 @@ use carp_base::Instance;
 use cut_pool::{Shore, ShorePool};
 use road_network::Network;
 use route_pricing::Table;
-use samples::street;
+use samples::{instance_of, street};
 use std::alloc::Global;
 use std::process::Abort;
 use std::test::Fail;
@@ -313,7 +313,7 @@ fn sets_that_fit(rt: HostRuntime) -> Result<(), Fail> {
 
 // A street that need not be served.
 fn idle_street(alloc: Global) -> Result<Instance, Fail> {
-    let inst = Instance::build(alloc, 2, 1, 3, &[], &[street(1, 2, 4, 0)])?;
+    let inst = instance_of(alloc, "2 1 3 | | 1 2 4")?;
     Ok(inst)
 }
 

@@ -2,7 +2,7 @@
 use carp_base::{Instance, Memory};
 use cert_transfer::carry_plan;
 use plan_model::{JudgeRoom, Plan, Step, Verdict, Walk, judge, verdicts_are_exact};
-use samples::{plan_text, street};
+use samples::{instance_of, plan_text};
 use std::alloc::Global;
 use std::mem;
 use std::process::Abort;
@@ -75,8 +75,7 @@ fn expect_carried(
 
 #[test]
 fn keeps_tours_that_fit(rt: HostRuntime) -> Result<(), Fail> {
-    let required = [street(1, 2, 5, 2), street(2, 3, 7, 2)];
-    let inst = Instance::build(rt.alloc(), 3, 1, 4, &required, &[street(1, 3, 4, 0)])?;
+    let inst = instance_of(rt.alloc(), "3 1 4 | 1 2 5 2, 2 3 7 2 | 1 3 4")?;
     // As it is; a way home of 12 though there is one of 4; two tours that would fit one; and walks without service.
     let rows = "\
 +1+2<3; +1+2<3;
@@ -89,11 +88,8 @@ fn keeps_tours_that_fit(rt: HostRuntime) -> Result<(), Fail> {
 #[test]
 fn cuts_where_a_demand_rose(rt: HostRuntime) -> Result<(), Fail> {
     let alloc = rt.alloc();
-    let ways = [street(1, 3, 4, 0)];
-    let light = [street(1, 2, 5, 2), street(2, 3, 7, 2)];
-    let heavy = [street(1, 2, 5, 2), street(2, 3, 7, 3)];
-    let older = Instance::build(alloc, 3, 1, 4, &light, &ways)?;
-    let newer = Instance::build(alloc, 3, 1, 4, &heavy, &ways)?;
+    let older = instance_of(alloc, "3 1 4 | 1 2 5 2, 2 3 7 2 | 1 3 4")?;
+    let newer = instance_of(alloc, "3 1 4 | 1 2 5 2, 2 3 7 3 | 1 3 4")?;
     let rows = "\
 +1+2<3; +1<1;>1+2<3;
 >3-2-1; >3-2<1;>1-1;";
@@ -103,23 +99,16 @@ fn cuts_where_a_demand_rose(rt: HostRuntime) -> Result<(), Fail> {
 #[test]
 fn fills_each_vehicle(rt: HostRuntime) -> Result<(), Fail> {
     let alloc = rt.alloc();
-    let triangle = [street(1, 2, 5, 2), street(2, 3, 7, 2), street(1, 3, 4, 2)];
-    let older = Instance::build(alloc, 3, 1, 6, &triangle, &[])?;
-    let newer = Instance::build(alloc, 3, 1, 4, &triangle, &[])?;
+    let older = instance_of(alloc, "3 1 6 | 1 2 5 2, 2 3 7 2, 1 3 4 2")?;
+    let newer = instance_of(alloc, "3 1 4 | 1 2 5 2, 2 3 7 2, 1 3 4 2")?;
     expect_carried(&rt, alloc, &older, &newer, "+1+2-3; +1+2<3;>3-3;")
 }
 
 #[test]
 fn starts_each_tour_empty(rt: HostRuntime) -> Result<(), Fail> {
     let alloc = rt.alloc();
-    let star = [
-        street(1, 2, 1, 2),
-        street(1, 3, 1, 2),
-        street(1, 4, 1, 2),
-        street(1, 5, 1, 2),
-    ];
-    let older = Instance::build(alloc, 5, 1, 8, &star, &[])?;
-    let newer = Instance::build(alloc, 5, 1, 4, &star, &[])?;
+    let older = instance_of(alloc, "5 1 8 | 1 2 1 2, 1 3 1 2, 1 4 1 2, 1 5 1 2")?;
+    let newer = instance_of(alloc, "5 1 4 | 1 2 1 2, 1 3 1 2, 1 4 1 2, 1 5 1 2")?;
     let rows = "+1<1+2<2+3<3+4<4; +1<1+2<2;+3<3+4<4;";
     expect_carried(&rt, alloc, &older, &newer, rows)
 }
@@ -127,8 +116,7 @@ fn starts_each_tour_empty(rt: HostRuntime) -> Result<(), Fail> {
 #[test]
 fn goes_around_a_closed_street(rt: HostRuntime) -> Result<(), Fail> {
     let alloc = rt.alloc();
-    let required = [street(1, 2, 5, 2), street(2, 3, 7, 2)];
-    let older = Instance::build(alloc, 3, 1, 4, &required, &[street(1, 3, 4, 0)])?;
-    let newer = Instance::build(alloc, 3, 1, 4, &required, &[])?;
+    let older = instance_of(alloc, "3 1 4 | 1 2 5 2, 2 3 7 2 | 1 3 4")?;
+    let newer = instance_of(alloc, "3 1 4 | 1 2 5 2, 2 3 7 2")?;
     expect_carried(&rt, alloc, &older, &newer, "+1+2<3; +1+2<2<1;")
 }

@@ -2,24 +2,15 @@
 ghost use Rattle.std.specs.Prelude.{All, IsTrue};
 ghost use Rattle.carp_base.specs.Problem.{IsRequired};
 
-use carp_base::{Instance, RawEdge};
+use carp_base::Instance;
 use decision_chains::direct;
+use samples::instance_of;
 use std::alloc::Global;
 use std::process::Abort;
 use std::test::Fail;
 use task_tours::cost_distances;
 
 // A street whose service costs as much as a crossing.
-fn street(u: u64, v: u64, cost: u64) -> RawEdge {
-    RawEdge {
-        u,
-        v,
-        cost,
-        demand: 1,
-        service: cost,
-    }
-}
-
 // Whether the numbers are of required edges.
 fn are_required(inst: &Instance, edges: &[u32]) -> bool
     ensures { IsTrue result → All (IsRequired inst.now) edges.now }
@@ -52,8 +43,7 @@ fn expect_directions(
 #[test]
 fn a_street_is_taken_backward_where_that_is_cheaper(rt: HostRuntime) -> Result<(), Fail> {
     let alloc = rt.alloc();
-    let required = [street(1, 2, 5), street(3, 2, 7), street(3, 1, 4)];
-    let inst = Instance::build(alloc, 3, 1, 3, &required, &[])?;
+    let inst = instance_of(alloc, "3 1 3 | 1 2 5 1, 3 2 7 1, 3 1 4 1")?;
     expect_directions(&rt, alloc, &inst, &[1, 2, 3], "+-+")?;
     expect_directions(&rt, alloc, &inst, &[3, 2, 1], "-+-")?;
     expect_directions(&rt, alloc, &inst, &[], "")
@@ -63,8 +53,6 @@ fn a_street_is_taken_backward_where_that_is_cheaper(rt: HostRuntime) -> Result<(
 #[test]
 fn what_is_left_counts(rt: HostRuntime) -> Result<(), Fail> {
     let alloc = rt.alloc();
-    let required = [street(3, 2, 2), street(3, 4, 9)];
-    let others = [street(1, 2, 4), street(1, 3, 3)];
-    let inst = Instance::build(alloc, 4, 1, 3, &required, &others)?;
+    let inst = instance_of(alloc, "4 1 3 | 3 2 2 1, 3 4 9 1 | 1 2 4, 1 3 3")?;
     expect_directions(&rt, alloc, &inst, &[1, 2], "-+")
 }
