@@ -91,6 +91,8 @@ fn a_set_crosses_and_belongs(rt: HostRuntime) -> Result<(), Fail> {
     let alloc = rt.alloc();
     let inst = instance_of(alloc, "3 1 2 | 1 2 3 2, 2 3 4 2")?;
     let shore = Shore::from_list(alloc, &[2, 3])?;
+    let edges = inst.edge_count();
+    assert_eq!(rt; edges, 2);
     let crossing = [shore.crosses(&inst.edge(1)), shore.crosses(&inst.edge(2))];
     assert_eq!(rt; crossing, [true, false]);
     let with_depot = Shore::from_list(alloc, &[1, 2])?;
