@@ -125,6 +125,11 @@ CERTIFICATES = {
         "carp-certificate 4~instance 4 4 3 5 6~cost 45~bound 45~tours 2~tour 5 >4 +1 +2 >3 <4~tour 4 >4 -3 >3 <4~shores 0~sets 1~prices 1 3 22 22 22~"
         "weights 0~bonds 1 21 3 1 2 3~nodes 1~price 1~end~"
     ),
+    # A tour for each street, and one group of all three. The set shows 22 + 22 + 22 - 21 = 45, which is what the cheapest plan costs.
+    "single_tours": (
+        "carp-certificate 4~instance 4 4 3 5 6~cost 67~bound 40~tours 3~tour 4 >4 +1 <1 <4~tour 5 >4 >1 +2 >3 <4~tour 4 >4 -3 >3 <4~shores 0~sets 1~"
+        "prices 1 3 22 22 22~weights 0~bonds 1 21 3 1 2 3~nodes 1~price 1~end~"
+    ),
     # A second set with a yes weight of 1 on the pair at the root, below which its value is 21 + 22 + 22 - 21 + 1.
     "yes_ring": (
         "carp-certificate 4~instance 4 4 3 5 6~cost 45~bound 45~tours 2~tour 5 >4 +1 +2 >3 <4~tour 4 >4 -3 >3 <4~shores 0~sets 2~prices 1 3 22 22 22~"

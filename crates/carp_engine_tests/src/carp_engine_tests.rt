@@ -59,7 +59,7 @@ fn one_price_set_proves_full_streets(rt: HostRuntime) -> Result<(), Fail> {
 }
 
 // Five streets of cost 1 and demand 2 at the end of a way of cost 100, of which a vehicle serves two.
-pub(crate) fn star(alloc: Global) -> Result<Instance, Fail> {
+fn star(alloc: Global) -> Result<Instance, Fail> {
     instance_of(
         alloc,
         "7 1 5 | 2 3 1 2, 2 4 1 2, 2 5 1 2, 2 6 1 2, 2 7 1 2 | 1 2 100",

@@ -6,8 +6,4 @@
 #[cfg(test)]
 mod branch_tree_tests;
 #[cfg(test)]
-mod carp_engine_group_tests;
-#[cfg(test)]
-mod carp_engine_set_tests;
-#[cfg(test)]
 mod carp_engine_tests;
