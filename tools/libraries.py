@@ -24,7 +24,8 @@ def words_over(crate, folder):
     """Returns the words that check a crate in its own folder, over the libraries of a folder: FOLDER/NAME/out/rlib/NAME.rlib for each crate below it."""
     found, folder = dependencies(), os.path.realpath(folder)
     kit = os.path.dirname(subprocess.run(["rt", "doc"], capture_output=True, text=True, check=True).stdout.strip())
-    words = [f"{kit}/bin/rattle", "check", "--crate-name", crate, "src/lib.rt"]
+    root = "src/lib.rt" if os.path.exists(f"crates/{crate}/src/lib.rt") else "src/main.rt"
+    words = [f"{kit}/bin/rattle", "check", "--crate-name", crate, root]
     words += ["--antt-project", f"{kit}/rattle/logic/antt-project.json", "--logic-built", f"{kit}/logic_built"]
     words += ["--extern", f"std={kit}/rlibs/std.rlib", "-L", f"dependency={kit}/rlibs"]
     for name in found[crate]:

@@ -1,4 +1,6 @@
 // The four helpers of the program.
+ghost use Rattle.std.specs.Prelude.{◌≡◌};
+
 use augment_merge::Merger;
 use carp_cli::{Status, run_watched};
 use carp_outside::{Shelf, Sink};
@@ -9,6 +11,22 @@ use plan_model::Proposer;
 use progress::Watch;
 use std::alloc::Global;
 
+// Path scanning, augment-merge, splitting of one order of all tasks, and ruin and recreate with small changes. No two
+// have one id.
+fn four_helpers() -> (Scanner, Merger, Splitter, Mover)
+    ensures scanner { ⟦<Scanner as Proposer>⟧.id result.0 ≡ 1 }
+    ensures merger { ⟦<Merger as Proposer>⟧.id result.1 ≡ 2 }
+    ensures splitter { ⟦<Splitter as Proposer>⟧.id result.2 ≡ 3 }
+    ensures mover { ⟦<Mover as Proposer>⟧.id result.3 ≡ 4 }
+{
+    (
+        Scanner::new(1),
+        Merger::new(2),
+        Splitter::new(3),
+        Mover::new(4),
+    )
+}
+
 /// Runs the command that the words name ([`carp_cli::run_watched`]) with the aid of four helpers: path scanning, augment-merge,
 /// splitting of one order of all tasks, and ruin and recreate with small changes, of ids 1 to 4.
 pub(crate) fn run_with_helpers<H: Shelf, O: Sink, W: Watch>(
@@ -18,11 +36,12 @@ pub(crate) fn run_with_helpers<H: Shelf, O: Sink, W: Watch>(
     out: &mut O,
     watch: &mut W,
 ) -> Status {
+    let (scanner, merger, splitter, mover) = four_helpers();
     let (Ok(scanner), Ok(merger), Ok(splitter), Ok(mover)) = (
-        Box::new(alloc, Scanner::new(1)),
-        Box::new(alloc, Merger::new(2)),
-        Box::new(alloc, Splitter::new(3)),
-        Box::new(alloc, Mover::new(4)),
+        Box::new(alloc, scanner),
+        Box::new(alloc, merger),
+        Box::new(alloc, splitter),
+        Box::new(alloc, mover),
     ) else {
         return Status::Memory;
     };

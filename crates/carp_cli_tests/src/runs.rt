@@ -71,30 +71,18 @@ pub fn words_in(alloc: Global, text: &str) -> Result<Vec<&str>, Fail> {
     Ok(words)
 }
 
-/// Returns the code of the answer to the words of a line, a blank, and what is written, with `~` for each line feed.
-pub fn answer(alloc: Global, shelf: &mut MemShelf, line: &str) -> Result<String, Fail> {
+// The code of the answer to the words of a line, a blank, and what is written, with `~` for each line feed.
+fn answer(alloc: Global, shelf: &mut MemShelf, line: &str) -> Result<String, Fail> {
     let mut out = MemSink::new(alloc, REPORT_ROOM, 65_536, Vec::new(alloc))?;
     let status = run_words(alloc, &words_in(alloc, line)?, shelf, &mut out)?;
     let text = str::from_utf8(out.written()).unwrap_or("no text");
     Ok(format!(in alloc; "{} {text}", status.code())?.replace(alloc, "\n", "~")?)
 }
 
-/// Returns what a file holds, with `~` for each line feed.
-pub fn contents(alloc: Global, shelf: &MemShelf, name: &str) -> Result<String, Fail> {
+// What a file holds, with `~` for each line feed.
+fn contents(alloc: Global, shelf: &MemShelf, name: &str) -> Result<String, Fail> {
     let text = str::from_utf8(shelf.held(name).unwrap_or(b"nothing")).unwrap_or("no text");
     Ok(text.replace(alloc, "\n", "~")?)
-}
-
-/// Whether a text is as wanted: the whole of it, or its front and some parts of it, with ` .. ` between.
-pub fn is_as(text: &str, wanted: &str) -> bool {
-    let Some((front, parts)) = wanted.split_once(" .. ") else {
-        return text == wanted;
-    };
-    let mut is = text.starts_with(front);
-    for part in parts.split(" .. ") {
-        is = is && text.contains(part);
-    }
-    is
 }
 
 // What a line of a script gives.
@@ -106,7 +94,7 @@ fn given(alloc: Global, shelf: &mut MemShelf, line: &str) -> Result<String, Fail
 }
 
 /// Runs a script over the files of a store. A line has the words of a command, or `held` and the name of a file. Behind `=>` stands what it
-/// is answered, or what the file holds, in the form of [`is_as`].
+/// is answered, or what the file holds.
 pub fn expect_answers(
     rt: &impl Abort,
     alloc: Global,
@@ -116,10 +104,7 @@ pub fn expect_answers(
     for line in script.split('\n') {
         let (words, wanted) = line.split_once("=>").unwrap_or((line, "?"));
         let text = given(alloc, shelf, words.trim_ascii())?;
-        assert!(rt;
-            is_as(text.as_str().trim_ascii(), wanted.trim_ascii()),
-            "{line}"
-        );
+        assert!(rt; text.as_str().trim_ascii() == wanted.trim_ascii(), "{line}");
     }
     Ok(())
 }
