@@ -1,125 +1,79 @@
-// Violated sets of small instances, and the level sets of their distances.
+// Answers of level sets and of the searches for violated sets, for the cases of `data/capacity_cuts`.
+ghost use Rattle.std.specs.Prelude.{◌≤◌};
+ghost use Rattle.edge_components.specs.Parts.{AreParts};
+
+use crate::capacity_cuts_drawn::count_violated;
 use capacity_cuts::{find_components, find_fractional, shells};
 use carp_base::Instance;
-use cut_pool::Shore;
 use deadhead_paths::{cost_prices, distances};
 use edge_components::are_parts;
 use road_network::Network;
-use samples::instance_of;
+use samples::{instance_of, number, numbers, part, shores, vertices, weighted};
 use std::alloc::Global;
-use std::process::Abort;
 use std::test::Fail;
 
-// Whether the shore has just these vertices.
-pub(crate) fn is_shore(shore: &Shore, vertices: &[u32]) -> bool {
-    if shore.len() != vertices.len() {
-        return false;
+pub fn answer(alloc: Global, over: &str, call: &str, input: &str) -> Result<String, Fail> {
+    match call {
+        "drawn" => drawn(alloc, input),
+        "shells" => level_sets(alloc, over),
+        _ => violated(alloc, over, call, input),
     }
-    for i in 0..shore.len() {
-        if shore.vertex(i) != vertices[i] {
-            return false;
-        }
-    }
-    true
 }
 
-// The level sets are these, each with so many levels.
-fn expect_shells(
-    rt: &impl Abort,
-    alloc: Global,
-    inst: &Instance,
-    expected: &[(&[u32], i64)],
-) -> Result<(), Fail> {
-    let prices = cost_prices(alloc, inst)?;
+// The level sets of the distances by cost.
+fn level_sets(alloc: Global, over: &str) -> Result<String, Fail> {
+    let inst = instance_of(alloc, over)?;
+    let prices = cost_prices(alloc, &inst)?;
+    let net = Network::new(alloc, &inst)?;
+    let dist = distances(alloc, &inst, &net, &prices)?;
+    Ok(weighted(alloc, &shells(alloc, &inst, &dist)?)?)
+}
+
+fn violated(alloc: Global, over: &str, call: &str, input: &str) -> Result<String, Fail> {
+    let inst = instance_of(alloc, over)?;
+    let x = numbers(alloc, part(input, 0))?;
+    let unit = number(part(input, 1))?;
+    if !are_parts(&inst, &x) || unit < 1 || 1_000_000 < unit {
+        Err("the parts do not fit")?
+    }
+    match call {
+        "greatest" => greatest(alloc, &inst, &x, unit),
+        "components" => components(alloc, &inst, &x, unit),
+        _ => Err("no such call")?,
+    }
+}
+
+// A set of greatest violation.
+fn greatest(alloc: Global, inst: &Instance, x: &[u64], unit: u64) -> Result<String, Fail>
+    requires parts { AreParts inst.now x.now }
+    requires some { 1 ≤ unit }
+    requires small { unit ≤ 1000000 }
+{
+    match find_fractional(alloc, inst, x, unit)? {
+        None => Ok(String::from_str(alloc, "none")?),
+        Some(shore) => Ok(vertices(alloc, &shore)?),
+    }
+}
+
+// The violated components.
+fn components(alloc: Global, inst: &Instance, x: &[u64], unit: u64) -> Result<String, Fail>
+    requires parts { AreParts inst.now x.now }
+    requires some { 1 ≤ unit }
+    requires small { unit ≤ 1000000 }
+{
     let net = Network::new(alloc, inst)?;
-    let dist = distances(alloc, inst, &net, &prices)?;
-    let found = shells(alloc, inst, &dist)?;
-    assert!(rt; found.len() == expected.len());
-    for i in 0..found.len() {
-        let same = is_shore(&found[i].shore, expected[i].0) && found[i].weight == expected[i].1;
-        assert!(rt; same);
-    }
-    Ok(())
+    Ok(shores(alloc, &find_components(alloc, inst, &net, x, unit)?)?)
 }
 
-// Two streets of cost 3 and 4 in a row, of demand 2 each, and vehicles for one of them.
-fn row(alloc: Global) -> Result<Instance, Fail> {
-    instance_of(alloc, "3 1 2 | 1 2 3 2, 2 3 4 2")
-}
-
-#[test]
-fn level_sets_of_a_row(rt: HostRuntime) -> Result<(), Fail> {
-    let alloc = rt.alloc();
-    let inst = row(alloc)?;
-    expect_shells(&rt, alloc, &inst, &[(&[2, 3], 3), (&[3], 4)])
-}
-
-// Vertices 2 and 4 are as far as each other, 3 is at the depot's place, and 5 is not reached.
-#[test]
-fn level_sets_of_equal_distances(rt: HostRuntime) -> Result<(), Fail> {
-    let alloc = rt.alloc();
-    let inst = instance_of(alloc, "6 1 2 | 1 2 3 1, 1 4 3 1, 1 3 0 1 | 4 6 2")?;
-    expect_shells(&rt, alloc, &inst, &[(&[2, 4, 6], 3), (&[6], 2)])?;
-    let alone = instance_of(alloc, "1 1 1")?;
-    expect_shells(&rt, alloc, &alone, &[])
-}
-
-// A shore of greatest violation has just these vertices; where there are none, no set is violated.
-fn expect_fractional(
-    rt: &impl Abort,
-    alloc: Global,
-    inst: &Instance,
-    x: &[u64],
-    expected: &[u32],
-) -> Result<(), Fail> {
-    let fit = are_parts(inst, x);
-    assert!(rt; fit);
-    let same = match find_fractional(alloc, inst, x, 1)? {
-        None => expected.len() == 0,
-        Some(shore) => is_shore(&shore, expected),
+// Whether the flow finds as much as a look at each set in so many drawn instances, and the number of those with a violated set is between two.
+fn drawn(alloc: Global, input: &str) -> Result<String, Fail> {
+    let draws = part(input, 0).parse::<u32>()?;
+    let (least, most) = part(input, 1).split_once("..").unwrap_or(("", ""));
+    let (least, most) = (least.parse::<u32>()?, most.parse::<u32>()?);
+    let text = match count_violated(alloc, draws)? {
+        None => "another set is violated more",
+        Some(violated) if least <= violated && violated <= most => "agrees",
+        Some(_) => "another number of instances",
     };
-    assert!(rt; same);
-    Ok(())
-}
-
-// Three streets in a ring, and a way there of cost 10.
-#[test]
-fn a_ring_is_violated_as_a_whole(rt: HostRuntime) -> Result<(), Fail> {
-    let alloc = rt.alloc();
-    let inst = instance_of(alloc, "4 1 5 | 2 3 1 2, 3 4 1 2, 4 2 1 2 | 1 2 10")?;
-    expect_fractional(&rt, alloc, &inst, &[0, 0, 0, 0], &[2, 3, 4])?;
-    expect_fractional(&rt, alloc, &inst, &[0, 0, 0, 3], &[3, 4])?;
-    expect_fractional(&rt, alloc, &inst, &[1, 0, 0, 3], &[])?;
-    let alone = instance_of(alloc, "1 1 1")?;
-    expect_fractional(&rt, alloc, &alone, &[], &[])
-}
-
-// The violated components are these.
-fn expect_components(
-    rt: &impl Abort,
-    alloc: Global,
-    inst: &Instance,
-    x: &[u64],
-    expected: &[&[u32]],
-) -> Result<(), Fail> {
-    let fit = are_parts(inst, x);
-    assert!(rt; fit);
-    let net = Network::new(alloc, inst)?;
-    let shores = find_components(alloc, inst, &net, x, 2)?;
-    assert!(rt; shores.len() == expected.len());
-    for i in 0..shores.len() {
-        let same = is_shore(&shores[i], expected[i]);
-        assert!(rt; same);
-    }
-    Ok(())
-}
-
-#[test]
-fn components_of_a_row(rt: HostRuntime) -> Result<(), Fail> {
-    let alloc = rt.alloc();
-    let inst = row(alloc)?;
-    expect_components(&rt, alloc, &inst, &[0, 0], &[&[2], &[3]])?;
-    expect_components(&rt, alloc, &inst, &[1, 2], &[&[2, 3]])?;
-    expect_components(&rt, alloc, &inst, &[1, 1], &[&[2], &[3]])?;
-    expect_components(&rt, alloc, &inst, &[6, 2], &[])
+    Ok(String::from_str(alloc, text)?)
 }

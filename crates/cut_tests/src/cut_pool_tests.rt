@@ -1,107 +1,119 @@
-ghost use Rattle.cut_pool.specs.Shores.{IsShore};
+// Answers of shores and pools, for the cases of `data/cut_pool`.
 
-use carp_base::{Fail as Refusal, Instance};
+use carp_base::Fail as Refusal;
 use cut_pool::{PoolFull, Shore, ShorePool, need, required_crossings, touched};
-use samples::instance_of;
-use std::alloc::Global;
-use std::process::Abort;
+use samples::{instance_of, listed, numbers32, part, shore_of, vertices, yes_or_no};
+use std::alloc::{AllocError, Global};
 use std::test::Fail;
 
-// So many required edges have one end among the vertices, and so much demand an end; so many deadheads are needed there.
-fn expect_border(
-    rt: &impl Abort,
-    alloc: Global,
-    inst: &Instance,
-    vertices: &[u32],
-    expected: (u64, u64, u64),
-) -> Result<(), Fail>
-    requires { IsShore vertices.now }
-{
-    let shore = Shore::from_list(alloc, vertices)?;
-    let belongs = shore.belongs(inst);
-    assert!(rt; belongs);
-    assert_eq!(rt; required_crossings(inst, &shore), expected.0);
-    assert_eq!(rt; touched(inst, &shore), expected.1);
-    assert_eq!(rt; need(inst, &shore), expected.2);
-    Ok(())
+pub fn answer(alloc: Global, over: &str, call: &str, input: &str) -> Result<String, Fail> {
+    match call {
+        "border" => border(alloc, over, input),
+        "belongs" => belongs(alloc, over, input),
+        "crosses" => crosses(alloc, over, input),
+        "pool" => pool(alloc, input),
+        _ => Err("no such call")?,
+    }
 }
 
-#[test]
-fn borders_need_vehicles_and_parity(rt: HostRuntime) -> Result<(), Fail> {
-    let alloc = rt.alloc();
-    let inst = instance_of(alloc, "2 1 5 | 1 2 5 3, 1 2 8 3")?;
-    expect_border(&rt, alloc, &inst, &[2], (2, 6, 2))?;
-
-    let inst = instance_of(alloc, "3 1 2 | 1 2 3 2, 2 3 4 2")?;
-    expect_border(&rt, alloc, &inst, &[2, 3], (1, 4, 3))?;
-    expect_border(&rt, alloc, &inst, &[3], (1, 2, 1))?;
-    expect_border(&rt, alloc, &inst, &[2], (2, 4, 2))
-}
-
-#[test]
-fn borders_of_other_edges_need_vehicles(rt: HostRuntime) -> Result<(), Fail> {
-    let alloc = rt.alloc();
-    let inst = instance_of(alloc, "4 1 5 | 2 3 1 2, 3 4 1 2, 4 2 1 2 | 1 2 10")?;
-    expect_border(&rt, alloc, &inst, &[2, 3, 4], (0, 6, 4))?;
-    expect_border(&rt, alloc, &inst, &[3, 4], (2, 6, 2))?;
-
-    let inst = instance_of(
+fn border(alloc: Global, over: &str, input: &str) -> Result<String, Fail> {
+    let inst = instance_of(alloc, over)?;
+    let shore = shore_of(alloc, input)?;
+    if !shore.belongs(&inst) {
+        Err("the shore does not belong")?
+    }
+    border_text(
         alloc,
-        "7 1 5 | 2 3 1 2, 2 4 1 2, 2 5 1 2, 2 6 1 2, 2 7 1 2 | 1 2 100",
-    )?;
-    expect_border(&rt, alloc, &inst, &[2, 3, 4, 5, 6, 7], (0, 10, 4))?;
-    expect_border(&rt, alloc, &inst, &[3], (1, 2, 1))
+        [
+            required_crossings(&inst, &shore),
+            touched(&inst, &shore),
+            need(&inst, &shore),
+        ],
+    )
 }
 
-// Adding the set of one vertex gives this number.
-fn expect_number(
-    rt: &impl Abort,
+fn border_text(alloc: Global, numbers: [u64; 3]) -> Result<String, Fail> {
+    Ok(listed(alloc, &numbers)?)
+}
+
+// Whether the set is one of vertices of the instance without the depot.
+fn belongs(alloc: Global, over: &str, input: &str) -> Result<String, Fail> {
+    let inst = instance_of(alloc, over)?;
+    let shore = shore_of(alloc, input)?;
+    Ok(yes_or_no(alloc, shore.belongs(&inst))?)
+}
+
+// The numbers of the edges that cross the set.
+fn crosses(alloc: Global, over: &str, input: &str) -> Result<String, Fail> {
+    let inst = instance_of(alloc, over)?;
+    let shore = shore_of(alloc, input)?;
+    let mut crossing = Vec::new(alloc);
+    for e in 1..inst.edge_count() + 1 {
+        if shore.crosses(&inst.edge(e)) {
+            crossing.push(e)?;
+        }
+    }
+    Ok(listed(alloc, &crossing)?)
+}
+
+// The number that the set of one vertex gets, or 0 where the pool is full.
+fn add_vertex(alloc: Global, pool: &mut ShorePool, vertex: u32) -> Result<u32, Fail> {
+    let shore = Shore::from_list(alloc, &[vertex])?;
+    match pool.add(shore) {
+        Ok(number) => Ok(number),
+        Err(Refusal::Refused(PoolFull)) => Ok(0),
+        Err(Refusal::Memory) => Err(AllocError)?,
+    }
+}
+
+// Adds the sets of one vertex from `first` down to `last`, and answers whether each gets the next number.
+fn are_numbered_in_order(
     alloc: Global,
     pool: &mut ShorePool,
-    vertex: u32,
-    expected: u32,
-) -> Result<(), Fail> {
-    match pool.add(Shore::from_list(alloc, &[vertex])?) {
-        Ok(number) => assert_eq!(rt; number, expected),
-        Err(_) => panic!(rt; "{vertex} is refused"),
+    first: u32,
+    last: u32,
+) -> Result<bool, Fail> {
+    let mut in_order = true;
+    for place in 0..first.saturating_sub(last).saturating_add(1) {
+        let number = add_vertex(alloc, pool, first.saturating_sub(place))?;
+        in_order &= number == place.saturating_add(1);
     }
-    Ok(())
+    Ok(in_order)
 }
 
-#[test]
-fn a_pool_numbers_in_the_order_of_discovery(rt: HostRuntime) -> Result<(), Fail> {
-    let alloc = rt.alloc();
+// The numbers of a pool to which sets of one vertex are added: from the first of two vertices down to the second, which is `in order` or not,
+// and then these; how many sets it holds; and the set of number 2.
+fn pool(alloc: Global, input: &str) -> Result<String, Fail> {
+    let (first, last) = part(input, 0).split_once("..").unwrap_or(("", ""));
     let mut pool = ShorePool::new(alloc);
-    for place in 0..2000 {
-        expect_number(&rt, alloc, &mut pool, 3000 - place, place + 1)?;
-    }
-    expect_number(&rt, alloc, &mut pool, 2999, 2)?;
-    expect_number(&rt, alloc, &mut pool, 1001, 2000)?;
-    let refusal = pool.add(Shore::from_list(alloc, &[1000])?);
-    let full = matches!(refusal, Err(Refusal::Refused(PoolFull)));
-    assert!(rt; full);
-    assert_eq!(rt; pool.len(), 2000);
-    assert_eq!(rt; pool.shore(2).len(), 1);
-    assert_eq!(rt; pool.shore(2).vertex(0), 2999);
-    Ok(())
+    let in_order = are_numbered_in_order(
+        alloc,
+        &mut pool,
+        first.parse::<u32>()?,
+        last.parse::<u32>()?,
+    )?;
+    let others = add_vertices(alloc, &mut pool, part(input, 1))?;
+    let second = second_of(alloc, &pool)?;
+    let (order, len) = (
+        if in_order { "in order" } else { "not in order" },
+        pool.len(),
+    );
+    Ok(format!(in alloc; "{order}; {others}; {len}; {second}")?)
 }
 
-#[test]
-fn a_set_crosses_and_belongs(rt: HostRuntime) -> Result<(), Fail> {
-    let alloc = rt.alloc();
-    let inst = instance_of(alloc, "3 1 2 | 1 2 3 2, 2 3 4 2")?;
-    let shore = Shore::from_list(alloc, &[2, 3])?;
-    let edges = inst.edge_count();
-    assert_eq!(rt; edges, 2);
-    let crossing = [shore.crosses(&inst.edge(1)), shore.crosses(&inst.edge(2))];
-    assert_eq!(rt; crossing, [true, false]);
-    let with_depot = Shore::from_list(alloc, &[1, 2])?;
-    let past_the_last = Shore::from_list(alloc, &[3, 4])?;
-    let belong = [
-        shore.belongs(&inst),
-        with_depot.belongs(&inst),
-        past_the_last.belongs(&inst),
-    ];
-    assert_eq!(rt; belong, [true, false, false]);
-    Ok(())
+// The numbers that the sets of these single vertices get.
+fn add_vertices(alloc: Global, pool: &mut ShorePool, vertices: &str) -> Result<String, Fail> {
+    let mut numbers = Vec::new(alloc);
+    for &vertex in numbers32(alloc, vertices)?.as_slice() {
+        let number = add_vertex(alloc, pool, vertex)?;
+        numbers.push(number)?;
+    }
+    Ok(listed(alloc, &numbers)?)
+}
+
+fn second_of(alloc: Global, pool: &ShorePool) -> Result<String, Fail> {
+    if pool.len() < 2 {
+        Err("there is no second set")?
+    }
+    Ok(vertices(alloc, pool.shore(2))?)
 }

@@ -1,8 +1,17 @@
-//! What tests of many crates share: streets, texts of walks and plans, and numbers that a seed determines.
+//! What tests of many crates share: cases that are lines of a file, instances, walks, plans and shores as text, and numbers that a seed
+//! determines.
 #![tactic(auto)]
 
+mod cases;
+mod plans;
+mod shores;
+
 use carp_base::{Instance, RawEdge};
-use plan_model::{Plan, Step, Walk};
+pub use cases::{
+    listed, number, numbers, numbers32, part, push_listed, signed_numbers, try_cases, yes_or_no,
+};
+pub use plans::{plan_of, plan_text, step_of, walk_of, walk_text};
+pub use shores::{shore_of, shores, vertices, weighted};
 use std::alloc::{AllocError, Global};
 use std::test::Fail;
 
@@ -54,42 +63,6 @@ pub fn instance_of(alloc: Global, text: &str) -> Result<Instance, Fail> {
         }
         _ => Err("three numbers come first")?,
     }
-}
-
-fn sign_of(step: Step) -> u8 {
-    match (step.served, step.forward) {
-        (true, true) => b'+',
-        (true, false) => b'-',
-        (false, true) => b'>',
-        (false, false) => b'<',
-    }
-}
-
-fn push_walk(text: &mut Vec<u8>, walk: &Walk) -> Result<(), AllocError> {
-    for i in 0..walk.len() {
-        let step = walk.step(i);
-        text.push(sign_of(step))?;
-        text.push(b'0' + (step.edge % 10) as u8)?;
-    }
-    Ok(())
-}
-
-/// A walk as text. A sign and a digit are a step on the edge of that number: `+` serves it forward, `-` serves it backward,
-/// `>` crosses it forward and `<` backward. Of a number above 9 the last digit stands there.
-pub fn walk_text(alloc: Global, walk: &Walk) -> Result<Vec<u8>, AllocError> {
-    let mut text = Vec::new(alloc);
-    push_walk(&mut text, walk)?;
-    Ok(text)
-}
-
-/// A plan as text: its walks, each with a semicolon behind it.
-pub fn plan_text(alloc: Global, plan: &Plan) -> Result<Vec<u8>, AllocError> {
-    let mut text = Vec::new(alloc);
-    for i in 0..plan.len() {
-        push_walk(&mut text, plan.walk(i))?;
-        text.push(b';')?;
-    }
-    Ok(text)
 }
 
 /// The next number of a generator (Knuth's MMIX: a linear congruence, of which the upper bits are taken), below a bound.
