@@ -1,8 +1,9 @@
-//! The program: the files of the system, its standard output, the words of the command line and four helpers, given to
-//! the top call ([`carp_cli::run_watched`]).
+//! The program: the files of the system, its standard output, the words of the command line, four helpers and three
+//! advisers, given to the top call ([`carp_cli::run_with`]).
 //!
 //! In the field: four heuristics, path scanning, augment-merge, route first and cluster second, and ruin and recreate
-//! with local search. `helping` makes them.
+//! with local search; and three bounds, a cutting plane method, a subgradient method and column generation. `helping` makes
+//! them.
 #![tactic(auto)]
 
 mod helping;

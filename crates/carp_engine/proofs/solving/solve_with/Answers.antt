@@ -3,7 +3,7 @@ use Rattle.std.proofs.lemmas.Result.{IfOk-weaker}
 use Rattle.plan_model.specs.Plans.{plan_cost}
 use Rattle.carp_engine.specs.Solutions.{IsAtMostSingles}
 use Rattle.carp_engine.proofs.Sound.{ended, no_dearer, sound, whole}
-use Rattle.carp_engine.proofs.solving.solve.Goals as goal
+use Rattle.carp_engine.proofs.solving.solve_with.Goals as goal
 
 pub search-requires-clause-allowed : goal.search-requires-clause-allowed
 search-requires-clause-allowed g c = c.known_laws.ensures.allowed c.args.inst.now c.ask_all.new.best c.validity.ensures c.ask_all.ensures.short

@@ -3,7 +3,7 @@ use Rattle.carp_cli.specs.Runs.{IsHelped}
 use Rattle.command_works.specs.Outputs.{output_in}
 use Rattle.command_words.specs.Words.{command_of, texts_of}
 use Rattle.carp_cli.proofs.Delivered.{cut_is_not_helped, delivered, memory_is_not_helped}
-use Rattle.carp_cli.proofs.running.run_watched.Goals as goal
+use Rattle.carp_cli.proofs.running.run_with.Goals as goal
 
 pub returns-in-Ok-clause-leaves : goal.returns-in-Ok-clause-leaves
 returns-in-Ok-clause-leaves g c =
