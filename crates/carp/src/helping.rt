@@ -4,6 +4,7 @@ ghost use Rattle.std.specs.Prelude.{◌≡◌};
 use augment_merge::Merger;
 use carp_base::Memory;
 use carp_cli::{Status, run_with};
+use carp_engine::dismiss;
 use carp_outside::{Shelf, Sink};
 use giant_split::Splitter;
 use leaf_adviser::Adviser;
@@ -34,7 +35,8 @@ fn four_helpers() -> (Scanner, Merger, Splitter, Mover)
 
 /// Runs the command that the words name ([`carp_cli::run_with`]) with the aid of four helpers: path scanning, augment-merge,
 /// splitting of one order of all tasks, and ruin and recreate with small changes, of ids 1 to 4. Three advisers are asked
-/// at each leaf, in this order: the program over shores, the ascent, and the programs over tours, shores and groups.
+/// at each leaf, in this order: the program over shores, the ascent, and the programs over tours, shores and groups. Helpers
+/// that offered an unlawful plan are dismissed at the end.
 pub(crate) fn run_with_helpers<H: Shelf, O: Sink, W: Watch>(
     alloc: Global,
     words: &[String],
@@ -62,7 +64,9 @@ pub(crate) fn run_with_helpers<H: Shelf, O: Sink, W: Watch>(
     if push_advisers(alloc, &mut advisers).is_err() {
         return Status::Memory;
     }
-    run_with(alloc, words, shelf, out, &mut helpers, &mut advisers, watch)
+    let status = run_with(alloc, words, shelf, out, &mut helpers, &mut advisers, watch);
+    dismiss(&mut helpers);
+    status
 }
 
 // Puts the three advisers behind those of the list.

@@ -24,7 +24,7 @@ fn main(rt: HostRuntime) -> ExitCode {
     let mut out = StdSink::new(io::writer(&rt));
     let error = rt.stderr().lock();
     let is_terminal = error.is_terminal();
-    let mut watch = TerminalWatch::new(alloc, error, is_terminal);
+    let mut watch = TerminalWatch::new(error, is_terminal);
     let status = helping::run_with_helpers(alloc, &words, &mut shelf, &mut out, &mut watch);
     ExitCode::from(status.code())
 }
