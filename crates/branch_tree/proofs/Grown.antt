@@ -1,5 +1,5 @@
 -- A branch whose shores are in a pool, when the pool has grown.
-use Rattle.std.proofs.Common.{◌≡◌, ap, ◌∙◌, append_assoc, ℕ, List, ◌++◌, subst, sym}
+use Rattle.std.proofs.Common.{ap, ◌∙◌, append_assoc, ℕ, List, ◌++◌, subst, sym}
 use Rattle.std.proofs.lemmas.List.Elements.{All-weaker}
 use Rattle.carp_base.specs.Problem.{Problem}
 use Rattle.cut_pool.specs.Pools.{IsGrown}
