@@ -13,7 +13,8 @@ use Rattle.cert_lines.specs.Certificates.{Certificate}
 use Rattle.cert_format.specs.Good.{support_of}
 use Rattle.carp_engine.specs.Certifying.{IsSearched, certificate_by}
 use Rattle.carp_engine.specs.Improved.{HaveTurns, IsImproved}
-use Rattle.carp_engine.proofs.Certified.{Laws, bounds, is_fine, is_good}
+use Rattle.carp_engine.specs.Known.{Known}
+use Rattle.carp_engine.proofs.Certified.{bounds, is_fine, is_good}
 
 one_more : (less more shows : ℕ) → less ≤ more → cond (nat_le more shows) 1 0 ≤ cond (nat_le less shows) 1 0
 one_more less more shows within = grind (arith, nat_tests)
@@ -23,7 +24,7 @@ no_fewer : (less more : ℕ) (entries : List GrowingNode) → less ≤ more → 
 no_fewer less more entries within =
     sum_by-le-sum_by (λ (entry : GrowingNode). cond (nat_le more entry.shows) 1 0) (λ (entry : GrowingNode). cond (nat_le less entry.shows) 1 0) entries (λ entry. one_more less more entry.shows within)
 
-module _ (laws : Laws) (p : Problem) (old : Certificate) (entries : List GrowingNode) (asked : ℕ) (plan : List (List Step)) (short : IsShortPlan p plan) (cheap : plan_cost p plan ≤ old.cost)
+module _ (laws : Known) (p : Problem) (old : Certificate) (entries : List GrowingNode) (asked : ℕ) (plan : List (List Step)) (short : IsShortPlan p plan) (cheap : plan_cost p plan ≤ old.cost)
     (had : HaveTurns (support_of p old) old.nodes old.cost (turns_in old.cost entries)) (c : Certificate) (turns : ℕ)
     (s : IsSearched p old.bound (min (turns_in (plan_cost p plan) entries + asked) 1048576) plan c turns) where
   went_on : (s.found.bound ≡ plan_cost p s.found.plan) ⊎ (min (turns_in old.cost entries + asked) 1048576 ≤ turns)

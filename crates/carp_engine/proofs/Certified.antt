@@ -10,7 +10,7 @@ use Rattle.plan_model.specs.Plans.{plan_cost}
 use Rattle.plan_model.specs.Laws.{IsLowerBound}
 use Rattle.cut_pool.specs.Pools.{IsShoreNumber}
 use Rattle.cut_pool.specs.Shores.{Belongs, IsShore}
-use Rattle.branch_rules.specs.Laws.{NoDepot, TreeBounds}
+use Rattle.branch_rules.specs.Laws.{NoDepot}
 use Rattle.branch_rules.specs.Limits.{IsNodeIn, IsPriceSet, IsShoreOf}
 use Rattle.branch_rules.specs.Prices.{Prices}
 use Rattle.branch_rules.specs.Refusals.{NoneTooHeavy}
@@ -21,23 +21,13 @@ use Rattle.branch_rules.specs.declared.weight.Weight.{Weight}
 use Rattle.grown_trees.specs.Growth.{IsSpelledNode}
 use Rattle.branch_tree.specs.Founds.{Findings, IsFound, support_found}
 use Rattle.branch_tree.specs.Values.{IsFloored}
-use Rattle.task_tours.specs.ShortLaws.{ShortPlansCostLittle}
 use Rattle.branch_tree.specs.Searches.{IsHeldSet}
-use Rattle.cert_lines.specs.Laws.{FineIsSpellable, ShoreIsFine}
 use Rattle.cert_lines.specs.Spelling.{IsFine, IsFineNode, IsFineSet, IsFineShore}
-use Rattle.cert_format.specs.Good.{CountsAreInRange, HasPriceEach, IsGood, PlansAreOnEdges}
+use Rattle.cert_format.specs.Good.{HasPriceEach, IsGood}
 use Rattle.carp_engine.specs.Certifying.{AreWithinLimits, certificate_by}
+use Rattle.carp_engine.specs.Known.{Known}
 use Rattle.carp_engine.specs.Solutions.{IsAboveFloors}
 use Rattle.carp_engine.proofs.Groups.{in_range_spelled}
-
--- the laws that a certificate rests on
-pub record Laws : Type 0 where
-  pub trees : TreeBounds
-  pub counts : CountsAreInRange
-  pub spelled : FineIsSpellable
-  pub shores : ShoreIsFine
-  pub costs : ShortPlansCostLittle
-  pub edges : PlansAreOnEdges
 
 both_all : {X : Type 0} (P Q R : X → Type 0) → ((x : X) → P x → Q x → R x) → (xs : List X) → All P xs → All Q xs → All R xs
 both_all P Q R gives xs one other = λ k d less. gives (get_or xs k d) (one k d less) (other k d less)
@@ -46,7 +36,7 @@ no_depot : (p : Problem) (pool : List (List ℕ)) → All (Belongs p) pool → N
 no_depot p [] all = tt
 no_depot p (shore ∷ pool) all = ((All-head (Belongs p) shore pool all).no_depot, no_depot p pool (All-tail (Belongs p) shore pool all))
 
-module _ (laws : Laws) (p : Problem) (f : Findings) (turns : ℕ) (found : IsFound p f turns) where
+module _ (laws : Known) (p : Problem) (f : Findings) (turns : ℕ) (found : IsFound p f turns) where
   pub small : plan_cost p f.plan < 10 ^ 18
   small =
       let little = laws.costs p f.plan found.valid found.allowed.lawful found.allowed.few_steps in

@@ -10,9 +10,10 @@ use Rattle.cert_lines.specs.Certificates.{Certificate}
 use Rattle.branch_tree.specs.Values.{IsFloored}
 use Rattle.carp_engine.specs.Certifying.{IsSearched, IsSearchedAnew, certificate_by}
 use Rattle.carp_engine.specs.Solutions.{IsAtMostSingles, IsSound}
-use Rattle.carp_engine.proofs.Certified.{Laws, above_floors, bounds, floored_more, is_fine, is_good, reached}
+use Rattle.carp_engine.specs.Known.{Known}
+use Rattle.carp_engine.proofs.Certified.{above_floors, bounds, floored_more, is_fine, is_good, reached}
 
-module _ (laws : Laws) (p : Problem) (budget : ℕ) (plan : List (List Step)) (short : IsShortPlan p plan) (cheap : IsAtMostSingles p (plan_cost p plan)) (c : Certificate) (turns : ℕ)
+module _ (laws : Known) (p : Problem) (budget : ℕ) (plan : List (List Step)) (short : IsShortPlan p plan) (cheap : IsAtMostSingles p (plan_cost p plan)) (c : Certificate) (turns : ℕ)
     (anew : IsSearchedAnew p budget plan c turns) where
   abbrev s : IsSearched p anew.least budget plan c turns
   s = anew.searched

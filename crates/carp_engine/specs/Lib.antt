@@ -3,3 +3,5 @@ pub mod Improved
 pub mod Certifying
 pub mod Turns
 pub mod Asked
+pub mod Known
+pub mod Starts

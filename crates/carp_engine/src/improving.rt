@@ -1,5 +1,8 @@
 // Goes on from a certificate.
 ghost use Rattle.std.specs.Prelude.{◌≡◌, ◌⊎◌, ◌+◌, ◌%◌, ◌^◌, ◌≤◌, All, EachIndex, IfOk, OnOk, length, map, slice_index};
+ghost use Rattle.deadhead_paths.specs.Prices.{costs_of};
+ghost use Rattle.plan_model.specs.Plans.{IsLawful, plan_cost};
+ghost use Rattle.task_tours.specs.Shorts.{IsShortPlan};
 ghost use Rattle.helper_rounds.specs.Asking.{standings};
 ghost use Rattle.helper_rounds.specs.Helpers.{IsAtMost};
 ghost use Rattle.cert_lines.specs.Spelling.{IsSpellable};
@@ -9,20 +12,17 @@ ghost use Rattle.carp_engine.specs.Asked.{AreAskedFrom};
 ghost use Rattle.carp_engine.specs.Improved.{IsImproved};
 
 use crate::Solved;
+use crate::laws::known_laws;
 use crate::searching::search_on;
-use branch_rules::tree_bounds;
-use branch_tree::resumed_trees_have_turns;
 use carp_base::{Instance, Memory};
-use cert_format::{Cert, counts_are_in_range, good_is_proof, plans_are_on_edges};
-use cert_lines::{fine_is_spellable, shores_are_fine, spellable_is_fine};
-use deadhead_paths::tidy;
-use decision_chains::fixed_values_compare;
+use cert_format::Cert;
+use deadhead_paths::{Distances, tidy};
 use helper_rounds::ask_all;
-use plan_model::Proposer;
+use plan_model::{Plan, Proposer};
 use progress::Watch;
 use std::alloc::Global;
-use task_tours::{cost_distances, short_plans_are_allowed, short_plans_cost_little};
-use tree_transfer::{keep_named_sets, named_sets_suffice, note_nodes};
+use task_tours::cost_distances;
+use tree_transfer::{keep_named_sets, note_nodes};
 
 /// The best plan that the helpers find from that of a good certificate on, whoever made it, and what a search shows
 /// that goes on from its tree. The plan costs no more than the old one, and the bound is no lower.
@@ -60,30 +60,82 @@ pub fn improve<P: Proposer, W: Watch>(
     ensures improved { IfOk result (λ solved. IsImproved inst.now (certificate_in cert) (certificate_in solved.cert) turns solved.turns) }
     ensures ended { IfOk result (λ solved. (solved.cert.bound ≡ solved.cert.cost) ⊎ (turns ≤ solved.turns)) }
 {
-    tree_bounds();
-    short_plans_cost_little();
-    short_plans_are_allowed();
-    counts_are_in_range();
-    fine_is_spellable();
-    spellable_is_fine();
-    shores_are_fine();
-    plans_are_on_edges();
-    good_is_proof();
-    fixed_values_compare();
-    resumed_trees_have_turns();
-    named_sets_suffice();
-    inst.validity();
+    let helped = help(alloc, inst, &cert.plan, seed, helpers, watch)?;
+    take_up(alloc, inst, cert, turns, helped, watch)
+}
+
+// A plan that helpers found, and the distances by cost.
+#[derive(Drop)]
+struct Helped {
+    dist: Distances,
+    plan: Plan,
+}
+
+// The best plan that the helpers find from a lawful plan on.
+fn help<P: Proposer, W: Watch>(
+    alloc: Global,
+    inst: &Instance,
+    start: &Plan,
+    seed: u64,
+    helpers: &mut Vec<P>,
+    watch: &mut W,
+) -> Result<Helped, Memory>
+    requires { IsLawful inst.now start.now }
+    ensures same { map P.id helpers.new.items ≡ map P.id helpers.old.items }
+    ensures seeds { OnOk result (EachIndex helpers.new.items (λ k. slice_index (map P.seed helpers.new.items) k ≡ (seed + k) % 2 ^ 64)) }
+    ensures asked { OnOk result (All (λ helper. 1 ≤ P.asked helper) helpers.new.items) }
+    ensures few_rounds { OnOk result (All (λ helper. P.asked helper ≤ 4) helpers.new.items) }
+    ensures fouls { OnOk result (All (λ helper. (P.tally helper).fouls ≤ 1) helpers.new.items) }
+    ensures least { IfOk result (λ helped. All (λ helper. IsAtMost (plan_cost inst.now helped.plan) (P.tally helper).least) helpers.new.items) }
+    ensures rounds { IfOk result (λ helped. AreAskedFrom inst.now start.now (length helpers.old.items) (standings P.asked P.tally helpers.new.items) (plan_cost inst.now helped.plan)) }
+    ensures problem { IfOk result (λ helped. helped.dist.problem ≡ inst.now) }
+    ensures prices { IfOk result (λ helped. helped.dist.prices ≡ costs_of inst.now) }
+    ensures short { IfOk result (λ helped. IsShortPlan inst.now helped.plan) }
+    ensures no_dearer { IfOk result (λ helped. plan_cost inst.now helped.plan ≤ plan_cost inst.now start.now) }
+{
     let dist = cost_distances(alloc, inst)?;
-    let mut plan = tidy(alloc, inst, &dist, &cert.plan)?;
+    let mut plan = tidy(alloc, inst, &dist, start)?;
     watch.asks();
     ask_all(alloc, inst, &dist, &mut plan, helpers, seed)?;
-    let mut nodes = note_nodes(alloc, inst, &cert.shores, &cert.sets, &dist, &cert.tree)?;
+    Ok(Helped { dist, plan })
+}
+
+// What a search shows that takes up the tree of a good certificate, with a plan that costs no more.
+fn take_up<W: Watch>(
+    alloc: Global,
+    inst: &Instance,
+    cert: Cert,
+    turns: u64,
+    helped: Helped,
+    watch: &mut W,
+) -> Result<Solved, Memory>
+    requires some_turns { 1 ≤ turns }
+    requires turns_in_range { turns ≤ 1048576 }
+    requires spellable { IsSpellable (certificate_in cert) }
+    requires good { IsGood inst.now (certificate_in cert) }
+    requires problem { helped.dist.problem ≡ inst.now }
+    requires prices { helped.dist.prices ≡ costs_of inst.now }
+    requires short { IsShortPlan inst.now helped.plan }
+    requires cheap { plan_cost inst.now helped.plan ≤ cert.cost }
+    ensures improved { IfOk result (λ solved. IsImproved inst.now (certificate_in cert) (certificate_in solved.cert) turns solved.turns) }
+    ensures no_dearer { IfOk result (λ solved. solved.cert.cost ≤ plan_cost inst.now helped.plan) }
+{
+    known_laws();
+    inst.validity();
+    let mut nodes = note_nodes(
+        alloc,
+        inst,
+        &cert.shores,
+        &cert.sets,
+        &helped.dist,
+        &cert.tree,
+    )?;
     let sets = keep_named_sets(alloc, cert.sets, &mut nodes)?;
     search_on(
         alloc,
         inst,
         turns,
-        plan,
+        helped.plan,
         &nodes,
         sets,
         cert.shores,

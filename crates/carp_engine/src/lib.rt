@@ -9,10 +9,12 @@
 //!
 //! - `solving`, `improving`: [`solve`] and [`improve`].
 //! - `searching`, `certifying`: the search within a budget of turns, and the certificate of what it found.
+//! - `laws`: the laws of crates below that both rest on.
 #![tactic(auto)]
 
 mod certifying;
 mod improving;
+mod laws;
 mod searching;
 mod solving;
 

@@ -65,17 +65,32 @@ pub(crate) fn search_on<W: Watch>(
 fn go_on<W: Watch>(
     alloc: Global,
     inst: &Instance,
-    search: Search,
+    mut search: Search,
     watch: &mut W,
 ) -> Result<Solved, Memory>
     requires { IsSearch inst.now search }
     ensures { IfOk result (λ solved. IsSearched inst.now search.least search.turns search.best (certificate_in solved.cert) solved.turns) }
 {
-    let mut search = search;
     let turns = search.budget();
-    take_turns(inst, turns, &mut search, watch)?;
+    let taken = take_turns(inst, turns, &mut search, watch);
+    sum_up(alloc, inst, search, taken)
+}
+
+// What a search has found that is done, if it did not want for memory, and its certificate. A `?` at which a search is
+// owned would drop it there.
+fn sum_up(
+    alloc: Global,
+    inst: &Instance,
+    search: Search,
+    taken: Result<(), Memory>,
+) -> Result<Solved, Memory>
+    requires search { IsSearch inst.now search }
+    requires ended { OnOk taken (AreClosed (state_of search) ⊎ (search.turns ≤ search.done)) }
+    ensures { IfOk result (λ solved. IsSearched inst.now search.least search.turns search.best (certificate_in solved.cert) solved.turns) }
+{
     let done = search.done();
     let found = search.finish(alloc, inst)?;
+    taken?;
     let solved = certify(alloc, inst, found, done)?;
     Ok(solved)
 }
@@ -103,6 +118,7 @@ fn take_turns<W: Watch>(
     requires search { IsSearch inst.now search.old }
     requires turns { search.old.turns ≡ turns }
     ensures search { IsSearch inst.now search.new }
+    ensures turns { search.new.turns ≡ search.old.turns }
     ensures no_dearer { search.new.cost ≤ search.old.cost }
     ensures short { IsShortPlan inst.now search.old.best → IsShortPlan inst.now search.new.best }
     ensures least { search.new.least ≡ search.old.least }

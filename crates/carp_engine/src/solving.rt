@@ -1,22 +1,23 @@
 // Finds a plan of an instance, and a bound on all its plans.
 ghost use Rattle.std.specs.Prelude.{◌≡◌, ◌⊎◌, ◌+◌, ◌-◌, ◌*◌, ◌/◌, ◌%◌, ◌^◌, ◌≤◌, All, EachIndex, IfOk, OnOk, length, map, slice_index};
+ghost use Rattle.deadhead_paths.specs.Prices.{costs_of};
 ghost use Rattle.helper_rounds.specs.Asking.{standings};
 ghost use Rattle.helper_rounds.specs.Helpers.{IsAtMost};
 ghost use Rattle.cert_format.specs.Certs.{certificate_in};
 ghost use Rattle.carp_engine.specs.Asked.{AreAskedFromSingles};
 ghost use Rattle.carp_engine.specs.Solutions.{IsSound};
+ghost use Rattle.carp_engine.specs.Starts.{IsFirstPlan};
 
+use crate::laws::known_laws;
 use crate::searching::search;
-use branch_rules::{lean_trees_are_small, tree_bounds};
 use carp_base::{Instance, Memory};
-use cert_format::{Cert, counts_are_in_range, plans_are_on_edges};
-use cert_lines::{fine_is_spellable, shores_are_fine};
-use deadhead_paths::{single_tours, tidy};
+use cert_format::Cert;
+use deadhead_paths::{Distances, single_tours, tidy};
 use helper_rounds::ask_all;
-use plan_model::Proposer;
+use plan_model::{Plan, Proposer};
 use progress::Watch;
 use std::alloc::Global;
-use task_tours::{cost_distances, short_plans_are_allowed, short_plans_cost_little};
+use task_tours::cost_distances;
 
 /// A certificate, and the turns of its tree: its inner nodes, and its leaves that show the cost by themselves.
 #[derive(Drop)]
@@ -72,18 +73,21 @@ pub fn solve<P: Proposer, W: Watch>(
     ensures ended { IfOk result (λ solved. (solved.cert.bound ≡ solved.cert.cost) ⊎ (turns ≤ solved.turns)) }
     ensures whole { 2 ^ (inst.now.required * (inst.now.required - 1) / 2 + 5) ≤ turns → IfOk result (λ solved. solved.cert.bound ≡ solved.cert.cost) }
 {
-    tree_bounds();
-    lean_trees_are_small();
-    short_plans_cost_little();
-    short_plans_are_allowed();
-    counts_are_in_range();
-    fine_is_spellable();
-    shores_are_fine();
-    plans_are_on_edges();
+    known_laws();
     inst.validity();
     let dist = cost_distances(alloc, inst)?;
-    let mut plan = tidy(alloc, inst, &dist, &single_tours(alloc, inst, &dist)?)?;
+    let mut plan = first_plan(alloc, inst, &dist)?;
     watch.asks();
     ask_all(alloc, inst, &dist, &mut plan, helpers, seed)?;
     search(alloc, inst, turns, plan, watch)
+}
+
+// One tour for each required edge, tidied.
+fn first_plan(alloc: Global, inst: &Instance, dist: &Distances) -> Result<Plan, Memory>
+    requires problem { dist.now.problem ≡ inst.now }
+    requires prices { dist.now.prices ≡ costs_of inst.now }
+    ensures { IfOk result (IsFirstPlan inst.now) }
+{
+    let singles = single_tours(alloc, inst, dist)?;
+    tidy(alloc, inst, dist, &singles)
 }

@@ -1,87 +1,20 @@
-use Rattle.std.proofs.Common.{◌≡◌, ◌∙◌, ◌+◌, List, All, ap, arith, drop, length, min, subst, sym}
-use Rattle.std.proofs.lemmas.List.{take_at}
+use Rattle.std.proofs.Common.{arith}
 use Rattle.std.proofs.lemmas.Result.{IfOk-weaker}
-use Rattle.branch_rules.specs.Prices.{Prices}
-use Rattle.plan_model.specs.Plans.{plan_cost}
-use Rattle.grown_trees.specs.Growth.{IsSpelledNode, turns_in}
-use Rattle.grown_trees.specs.declared.growing.GrowingNode.{GrowingNode}
-use Rattle.branch_tree.specs.Resumes.{MayResume}
 use Rattle.cert_format.specs.Certs.{certificate_in}
-use Rattle.tree_transfer.specs.Shown.{HasShores, WouldShowSome}
-use Rattle.carp_engine.specs.Certifying.{IsSearched}
-use Rattle.carp_engine.proofs.Better.{asked_or_closed, improved}
-use Rattle.carp_engine.proofs.Certified.{Laws}
-use Rattle.carp_engine.proofs.Named.{had_before, may_go_on, spelled_entries, taken_up}
-use Rattle.carp_engine.proofs.Olds.{shores, spelled_nodes, tree_nodes, would_show}
-use Rattle.carp_engine.proofs.Sound.{no_dearer}
+use Rattle.carp_engine.proofs.Better.{asked_or_closed}
 use Rattle.carp_engine.proofs.improving.improve.Goals as goal
 
-pub note_nodes-requires-clause-nodes : goal.note_nodes-requires-clause-nodes
-note_nodes-requires-clause-nodes g c = tree_nodes c.spellable_is_fine.ensures c.fixed_values_compare.ensures.unique c.args.inst.now (certificate_in c.args.cert) c.requires.spellable c.requires.good
-
-pub note_nodes-requires-clause-shows : goal.note_nodes-requires-clause-shows
-note_nodes-requires-clause-shows g c =
-    subst (λ (sets : List Prices). WouldShowSome (record { problem = c.args.inst.now; pool = c.args.cert.shores; sets = sets }) c.args.cert.tree.nodes) (sym c.deref.ensures.value)
-    (would_show c.spellable_is_fine.ensures c.fixed_values_compare.ensures.unique c.args.inst.now (certificate_in c.args.cert) c.requires.spellable c.requires.good)
-
-pub note_nodes-requires-clause-shores : goal.note_nodes-requires-clause-shores
-note_nodes-requires-clause-shores g c =
-    subst (λ (sets : List Prices). HasShores (record { problem = c.args.inst.now; pool = c.args.cert.shores; sets = sets })) (sym c.deref.ensures.value)
-    (shores c.spellable_is_fine.ensures c.fixed_values_compare.ensures.unique c.args.inst.now (certificate_in c.args.cert) c.requires.spellable c.requires.good)
-
-pub search_on-requires-clause-allowed : goal.search_on-requires-clause-allowed
-search_on-requires-clause-allowed g c = c.short_plans_are_allowed.ensures c.args.inst.now c.ask_all.new.best c.validity.ensures c.ask_all.ensures.short
-
-pub keep_named_sets-requires : goal.keep_named_sets-requires
-keep_named_sets-requires g c =
-    let sets = length c.args.cert.sets.items in
-    subst (All (λ (e : GrowingNode). IsSpelledNode sets e.node)) (sym c.deref_mut.ensures.value)
-    (spelled_entries sets c.in_ok-nodes.nodes.items c.args.cert.tree.nodes c.in_ok-nodes.ensures.nodes
-    (spelled_nodes c.spellable_is_fine.ensures c.fixed_values_compare.ensures.unique c.args.inst.now (certificate_in c.args.cert) c.requires.spellable c.requires.good))
-
-pub search_on-requires-clause-may : goal.search_on-requires-clause-may
-search_on-requires-clause-may g c =
-    let p = c.args.inst.now in
-    let old = certificate_in c.args.cert in
-    let nodes = c.in_ok-nodes.nodes in
-    let taken = taken_up p old c.deref.ensures.value c.in_ok-nodes.ensures.noted c.deref_mut.ensures.value c.in_ok-sets.ensures.named in
-    let long : length c.keep_named_sets.new.nodes ≡ nodes.len = omega (arith, c.keep_named_sets.auto.nodes, ap length c.deref_mut.ensures.value, nodes.ok.0) in
-    let here : c.deref-2.result.now ≡ c.keep_named_sets.new.nodes = c.deref-2.ensures.value ∙ take_at c.keep_named_sets.new.nodes (drop (length c.keep_named_sets.new.nodes) nodes.items) nodes.len long in
-    subst (MayResume p old.shores c.in_ok-sets.sets.items old.bound) (sym here)
-    (may_go_on c.spellable_is_fine.ensures c.fixed_values_compare.ensures.unique c.named_sets_suffice.ensures p old c.requires.spellable c.requires.good
-    (c.good_is_proof.ensures p old c.validity.ensures c.requires.good).bounds taken c.in_ok-sets.ensures.no_more)
-
-pub returns-clause-improved : goal.returns-clause-improved
-returns-clause-improved g c =
-    let p = c.args.inst.now in
-    let old = certificate_in c.args.cert in
-    let best = c.ask_all.new.best in
-    let nodes = c.in_ok-nodes.nodes in
-    let after = c.keep_named_sets.new.nodes in
-    let laws : Laws = record { trees = c.tree_bounds.ensures; counts = c.counts_are_in_range.ensures; spelled = c.fine_is_spellable.ensures; shores = c.shores_are_fine.ensures; costs = c.short_plans_cost_little.ensures; edges = c.plans_are_on_edges.ensures } in
-    let taken = taken_up p old c.deref.ensures.value c.in_ok-nodes.ensures.noted c.deref_mut.ensures.value c.in_ok-sets.ensures.named in
-    let long : length after ≡ nodes.len = omega (arith, c.keep_named_sets.auto.nodes, ap length c.deref_mut.ensures.value, nodes.ok.0) in
-    let here : c.deref-2.result.now ≡ after = c.deref-2.ensures.value ∙ take_at after (drop (length after) nodes.items) nodes.len long in
-    let before =
-    had_before c.spellable_is_fine.ensures c.fixed_values_compare.ensures.unique c.named_sets_suffice.ensures p old c.requires.spellable c.requires.good
-    (c.good_is_proof.ensures p old c.validity.ensures c.requires.good).bounds taken c.resumed_trees_have_turns.ensures in
-    IfOk-weaker c.search_on.result _ _
-    (λ solved searched. improved laws p old after c.args.turns best c.ask_all.ensures.short (omega (arith, c.ask_all.ensures.no_dearer, c.in_ok-plan.ensures.cost, c.requires.good.cost)) before _ _
-    (subst (λ (xs : List GrowingNode). IsSearched p old.bound (min (turns_in (plan_cost p best) xs + c.args.turns) 1048576) best (certificate_in solved.cert) solved.turns) here searched))
-    c.search_on.ensures
+pub take_up-requires-clause-cheap : goal.take_up-requires-clause-cheap
+take_up-requires-clause-cheap g c = omega (arith, c.in_ok-helped.ensures.no_dearer, c.requires.good.cost)
 
 pub returns-clause-ended : goal.returns-clause-ended
 returns-clause-ended g c =
-    IfOk-weaker c.search_on.result _ _ (λ solved is. asked_or_closed c.args.inst.now (certificate_in c.args.cert) (certificate_in solved.cert) c.args.turns solved.turns c.requires.turns_in_range is)
-    (returns-clause-improved g c)
+    IfOk-weaker c.take_up.result _ _ (λ solved is. asked_or_closed c.args.inst.now (certificate_in c.args.cert) (certificate_in solved.cert) c.args.turns solved.turns c.requires.turns_in_range is)
+    c.take_up.ensures.improved
 
 pub returns-clause-rounds : goal.returns-clause-rounds
 returns-clause-rounds g c =
-    IfOk-weaker c.search_on.result _ _
-    (λ solved searched. record {
-      start = c.in_ok-plan.plan;
-      tidied = c.in_ok-plan.ensures;
-      best = c.ask_all.new.best;
-      rounds = c.in_ok-ask_all.ensures.rounds;
-      no_dearer = no_dearer c.args.inst.now c.args.cert.bound _ c.ask_all.new.best _ _ searched;
-    }) c.search_on.ensures
+    let rounds = c.in_ok-helped.ensures.rounds in
+    IfOk-weaker c.take_up.result _ _
+    (λ solved no_dearer. record { start = rounds.start; tidied = rounds.tidied; best = rounds.best; rounds = rounds.rounds; no_dearer = omega (arith, no_dearer, rounds.no_dearer) })
+    c.take_up.ensures.no_dearer

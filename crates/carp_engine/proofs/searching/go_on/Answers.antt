@@ -1,28 +1,29 @@
-use Rattle.std.proofs.Common.{◌≡◌, ◌≤◌, ◌⊎◌, sym, ap, ◌∙◌, arith, inl, inr, subst, ℕ}
+use Rattle.std.proofs.Common.{◌≡◌, ◌≤◌, ◌⊎◌, ◌∙◌, arith, ℕ, subst, sym}
+use Rattle.std.specs.Prelude.{OnOk}
+use Rattle.std.proofs.lemmas.Result.{IfOk-weaker}
 use Rattle.plan_model.specs.Plans.{plan_cost}
-use Rattle.task_tours.specs.Shorts.{IsShortPlan}
-use Rattle.branch_tree.specs.Founds.{IsFound, findings_of}
+use Rattle.branch_tree.specs.Searches.{state_of}
+use Rattle.branch_tree.specs.Steps.{AreClosed}
 use Rattle.carp_engine.proofs.searching.go_on.Goals as goal
 
-ended_by : {Closed : Type 0} (bound least cost budget given done turns : ℕ) → given ≡ budget → (Closed → bound ≡ least) → cost ≡ least → turns ≡ done → Closed ⊎ (given ≤ done) → (bound ≡ cost) ⊎ (budget ≤ turns)
-ended_by bound least cost budget given done turns given_is whole is done_is (inl closed) = inl (whole closed ∙ sym is)
-ended_by bound least cost budget given done turns given_is whole is done_is (inr spent) = inr (omega (arith, spent, done_is, given_is))
+pub sum_up-requires-clause-ended : goal.sum_up-requires-clause-ended
+sum_up-requires-clause-ended g c =
+    let s = c.take_turns-taken.new.search in
+    subst (λ (n : ℕ). OnOk c.take_turns-taken.result (AreClosed (state_of s) ⊎ (n ≤ s.done))) (c.budget-turns.ensures ∙ sym c.take_turns-taken.ensures.turns) c.take_turns-taken.ensures.ended
 
 pub returns : goal.returns
 returns g c =
     let p = c.args.inst.now in
-    let s = c.take_turns.new.search in
-    let found = c.in_ok-found.found in
-    let solved = c.in_ok-solved.ensures in
-    let cost : plan_cost p found.plan ≡ s.cost = ap (plan_cost p) c.in_ok-found.ensures.plan ∙ sym c.take_turns.ensures.search.held.cost_is in
-    let first : c.args.search.cost ≡ plan_cost p c.args.search.best = c.requires.held.cost_is in
-    let turns = solved.turns ∙ c.done-done.ensures in
-    record {
-      found = findings_of found;
-      is_found = subst (IsFound p (findings_of found)) (sym turns) c.in_ok-found.ensures.found;
-      certified = solved.certified;
-      no_dearer = omega (arith, cost, first, c.take_turns.ensures.no_dearer);
-      short = λ short. subst (IsShortPlan p) (sym c.in_ok-found.ensures.plan) (c.take_turns.ensures.short short);
-      no_lower = omega (arith, c.in_ok-found.ensures.least, c.take_turns.ensures.least);
-      ended = ended_by found.bound s.cost (plan_cost p found.plan) c.args.search.turns c.budget-turns.result s.done c.in_ok-solved.solved.turns c.budget-turns.ensures c.in_ok-found.ensures.closed cost turns c.in_ok-take_turns.ensures.ended;
-    }
+    let s = c.take_turns-taken.new.search in
+    let turned = c.take_turns-taken.ensures in
+    let cheap : plan_cost p s.best ≤ plan_cost p c.args.search.best = omega (arith, turned.search.held.cost_is, c.requires.held.cost_is, turned.no_dearer) in
+    IfOk-weaker c.sum_up.result _ _
+    (λ solved is. record {
+      found = is.found;
+      is_found = is.is_found;
+      certified = is.certified;
+      no_dearer = omega (arith, cheap, is.no_dearer);
+      short = λ short. is.short (turned.short short);
+      no_lower = omega (arith, is.no_lower, turned.least);
+      ended = subst (λ (n : ℕ). (is.found.bound ≡ plan_cost p is.found.plan) ⊎ (n ≤ solved.turns)) turned.turns is.ended;
+    }) c.sum_up.ensures
