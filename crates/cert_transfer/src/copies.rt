@@ -4,11 +4,29 @@ ghost use Rattle.cert_transfer.specs.Copies.{MayPlace};
 
 use branch_rules::PriceSet;
 use carp_base::{Fail, Memory};
+use cert_format::Cert;
 use cut_pool::{Shore, ShorePool};
 use std::alloc::Global;
 
+// What of a certificate stays.
+#[derive(Drop)]
+pub(crate) struct Copies {
+    pub(crate) shores: ShorePool,
+    pub(crate) sets: Vec<PriceSet>,
+}
+
+// The shores and the price sets of a certificate.
+pub(crate) fn copies_of(alloc: Global, cert: &Cert) -> Result<Copies, Memory>
+    ensures shores { IfOk result (λ copies. copies.shores ≡ cert.now.shores) }
+    ensures sets { IfOk result (λ copies. copies.sets.items ≡ cert.now.sets.items) }
+{
+    let shores = copy_pool(alloc, &cert.shores)?;
+    let sets = copy_sets(alloc, &cert.sets)?;
+    Ok(Copies { shores, sets })
+}
+
 // The same shores, in the same order.
-pub(crate) fn copy_pool(alloc: Global, pool: &ShorePool) -> Result<ShorePool, Memory>
+fn copy_pool(alloc: Global, pool: &ShorePool) -> Result<ShorePool, Memory>
     ensures { IfOk result (λ copy. copy ≡ pool.now) }
 {
     let mut copy = ShorePool::new(alloc);
@@ -31,7 +49,7 @@ fn place(pool: &mut ShorePool, shore: Shore) -> Result<(), Memory>
 }
 
 // The same price sets, in the same order.
-pub(crate) fn copy_sets(alloc: Global, sets: &[PriceSet]) -> Result<Vec<PriceSet>, Memory>
+fn copy_sets(alloc: Global, sets: &[PriceSet]) -> Result<Vec<PriceSet>, Memory>
     ensures { IfOk result (λ copy. copy.items ≡ sets.now) }
 {
     let mut copy = Vec::with_capacity(alloc, sets.len())?;
