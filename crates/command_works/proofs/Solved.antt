@@ -9,7 +9,7 @@ use Rattle.carp_engine.specs.Solutions.{IsSound}
 use Rattle.plan_print.specs.Report.{report_text}
 use Rattle.command_jobs.specs.declared.status.Status.{Status}
 use Rattle.command_jobs.specs.declared.status.Status.TheVariants.{Proven, Gap}
-use Rattle.command_works.specs.Solving.{IsEnding, IsSolvedBy}
+use Rattle.command_works.specs.Solving.{IsEnding, IsSolvedBy, IsTold}
 use Rattle.command_works.specs.Outputs.{Output, output_in}
 use Rattle.command_works.specs.declared.delivery.Delivery.{Delivery}
 
@@ -18,22 +18,41 @@ pub spent : (bound cost asked turns : ℕ) → (bound ≡ cost) ⊎ (asked ≤ t
 spent bound cost asked turns (inl same) other = absurd (other same)
 spent bound cost asked turns (inr more) other = more
 
-pub solved_by : {p : Problem} {cert : List ℕ} {offered : List (Option ℕ)} (c : Certificate) (asked turns : ℕ) (kept_text text : List ℕ) (status : Status)
-    → IsSound p c turns → IsEnding c asked turns status → (2 ^ (p.required * (p.required - 1) / 2 + 5) ≤ asked → status ≡ Proven) → (status ≡ Proven) ⊎ (status ≡ Gap) → All (IsAtMost c.cost) offered → certificates.IsTextOf kept_text c → text ≡ report_text p c turns
-    → (d : Delivery) → (output_in d ≡ record { kept = record { name = cert; bytes = kept_text } ∷ []; text = text }) × (d.status ≡ status)
-    → ((d.status ≡ Proven) ⊎ (d.status ≡ Gap)) × IsSolvedBy p cert asked offered d.status (output_in d)
-solved_by c asked turns kept_text text status sound ending whole ends helped kept_is text_is d made = (
-  subst (λ s. (s ≡ Proven) ⊎ (s ≡ Gap)) (sym made.1) ends,
+-- what the call that delivers gives, with the status of the delivery
+pub told : {p : Problem} {name : List ℕ} (c : Certificate) (turns : ℕ) (kept_text text : List ℕ) (status : Status)
+    → (status ≡ Proven) ⊎ (status ≡ Gap) → (status ≡ Proven → c.bound ≡ c.cost) → (status ≡ Gap → c.bound ≢ c.cost) → (c.bound ≡ c.cost → status ≡ Proven)
+    → certificates.IsTextOf kept_text c → text ≡ report_text p c turns
+    → (d : Delivery) → (output_in d ≡ record { kept = record { name = name; bytes = kept_text } ∷ []; text = text }) × (d.status ≡ status)
+    → IsTold p c turns name d.status (output_in d)
+told c turns kept_text text status either proven gap closed kept_is text_is d made = record {
+  either = subst (λ s. (s ≡ Proven) ⊎ (s ≡ Gap)) (sym made.1) either;
+  proven = λ is. proven (sym made.1 ∙ is);
+  gap = λ is. gap (sym made.1 ∙ is);
+  closed = λ same. made.1 ∙ closed same;
+  kept_text = kept_text;
+  kept_is = kept_is;
+  keeps = ap (λ (w : Output). w.kept) made.0;
+  writes = ap (λ (w : Output). w.text) made.0 ∙ text_is;
+}
+
+pub ending : {p : Problem} {name : List ℕ} (c : Certificate) (asked turns : ℕ) (status : Status) (output : Output) → (c.bound ≡ c.cost) ⊎ (asked ≤ turns) → IsTold p c turns name status output → IsEnding c asked turns status
+ending c asked turns status output ended told = record { proven = told.proven; gap = λ is. (told.gap is, spent c.bound c.cost asked turns ended (told.gap is)) }
+
+pub solved_by : {p : Problem} {cert : List ℕ} {offered : List (Option ℕ)} (c : Certificate) (asked turns : ℕ) (status : Status) (output : Output)
+    → IsSound p c turns → (c.bound ≡ c.cost) ⊎ (asked ≤ turns) → (2 ^ (p.required * (p.required - 1) / 2 + 5) ≤ asked → c.bound ≡ c.cost) → All (IsAtMost c.cost) offered
+    → IsTold p c turns cert status output → ((status ≡ Proven) ⊎ (status ≡ Gap)) × IsSolvedBy p cert asked offered status output
+solved_by c asked turns status output sound ended whole helped told = (
+  told.either,
   record {
     certificate = c;
     turns = turns;
     sound = sound;
-    ending = subst (IsEnding c asked turns) (sym made.1) ending;
-    whole = λ enough. made.1 ∙ whole enough;
+    ending = ending c asked turns status output ended told;
+    whole = λ enough. told.closed (whole enough);
     helped = helped;
-    kept_text = kept_text;
-    kept_is = kept_is;
-    keeps = ap (λ (w : Output). w.kept) made.0;
-    writes = ap (λ (w : Output). w.text) made.0 ∙ text_is;
+    kept_text = told.kept_text;
+    kept_is = told.kept_is;
+    keeps = told.keeps;
+    writes = told.writes;
   },
 )

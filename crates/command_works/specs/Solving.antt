@@ -1,5 +1,5 @@
 -- What solving an instance makes: the headline, except for the file.
-use Rattle.std.specs.Prelude.{◌≡◌, ◌≢◌, ℕ, ◌+◌, ◌-◌, ◌*◌, ◌/◌, ◌^◌, ◌≤◌, List, [], ◌∷◌, All, Option}
+use Rattle.std.specs.Prelude.{◌≡◌, ◌⊎◌, ◌≢◌, ℕ, ◌+◌, ◌-◌, ◌*◌, ◌/◌, ◌^◌, ◌≤◌, List, [], ◌∷◌, All, Option}
 use Rattle.carp_base.specs.Problem.{Problem}
 use Rattle.cert_lines.specs.Certificates.{Certificate}
 use Rattle.cert_lines.specs.Texts as certificates
@@ -30,3 +30,15 @@ pub record IsSolvedBy (p : Problem) (cert : List ℕ) (asked : ℕ) (offered : L
   pub kept_is : certificates.IsTextOf kept_text certificate
   pub keeps : output.kept ≡ record { name = cert; bytes = kept_text } ∷ []
   pub writes : output.text ≡ report_text p certificate turns
+
+-- A name is to hold the text of a certificate with so many turns, and its report is to be written: `Proven` exactly if the bound is the cost,
+-- and else `Gap`. No public contract speaks of this.
+pub record IsTold (p : Problem) (c : Certificate) (turns : ℕ) (name : List ℕ) (status : Status) (output : Output) : Type 0 where
+  pub either : (status ≡ Proven) ⊎ (status ≡ Gap)
+  pub proven : status ≡ Proven → c.bound ≡ c.cost
+  pub gap : status ≡ Gap → c.bound ≢ c.cost
+  pub closed : c.bound ≡ c.cost → status ≡ Proven
+  pub kept_text : List ℕ
+  pub kept_is : certificates.IsTextOf kept_text c
+  pub keeps : output.kept ≡ record { name = name; bytes = kept_text } ∷ []
+  pub writes : output.text ≡ report_text p c turns

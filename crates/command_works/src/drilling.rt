@@ -3,6 +3,7 @@ ghost use Rattle.std.specs.Prelude.{◌≡◌, ◌≤◌, ◌^◌, ◌%◌, ◌+
 ghost use Rattle.cert_lines.specs.Spelling.{IsSpellable};
 ghost use Rattle.cert_format.specs.Certs.{certificate_in};
 ghost use Rattle.cert_format.specs.Good.{IsGood};
+ghost use Rattle.town_maker.specs.Towns.{town_of};
 ghost use Rattle.command_works.specs.Drills.{IsDrilled};
 ghost use Rattle.command_works.specs.Texts.{drill_line, drill_text, result_text, town_line};
 ghost use Rattle.command_works.specs.Outputs.{output_in};
@@ -37,16 +38,52 @@ pub(crate) fn drill<'a, P: Proposer, W: Watch>(
     ensures fouls { OnOk result (All (λ helper. (P.tally helper).fouls ≤ 1) helpers.new.items) }
 {
     let inst = town(alloc, seed)?;
-    let solved = solve(alloc, &inst, turns, seed, helpers, watch)?;
-    if !is_accepted(alloc, &inst, &solved.cert)? {
-        unreachable!();
-    }
-    let text = summary(alloc, seed, turns, &inst, &solved)?;
+    drill_town(alloc, turns, seed, &inst, helpers, watch)
+}
+
+// The same for a town that is made.
+fn drill_town<'a, P: Proposer, W: Watch>(
+    alloc: Global,
+    turns: u64,
+    seed: u64,
+    inst: &Instance,
+    helpers: &mut Vec<P>,
+    watch: &mut W,
+) -> Result<Delivery<'a>, Memory>
+    requires town { inst.now ≡ town_of seed }
+    requires some_turns { 1 ≤ turns }
+    requires turns_in_range { turns ≤ 1048576 }
+    ensures drilled { IfOk result (λ d. (d.status ≡ Status.Done) × IsDrilled seed turns (map (λ helper. (P.tally helper).least) helpers.new.items) (output_in d)) }
+    ensures same { map P.id helpers.new.items ≡ map P.id helpers.old.items }
+    ensures seeds { OnOk result (EachIndex helpers.new.items (λ k. slice_index (map P.seed helpers.new.items) k ≡ (seed + k) % 2 ^ 64)) }
+    ensures asked { OnOk result (All (λ helper. 1 ≤ P.asked helper) helpers.new.items) }
+    ensures fouls { OnOk result (All (λ helper. (P.tally helper).fouls ≤ 1) helpers.new.items) }
+{
+    let solved = solve(alloc, inst, turns, seed, helpers, watch)?;
+    let text = checked(alloc, seed, turns, inst, &solved)?;
     Ok(Delivery {
         kept: Vec::new(alloc),
         text,
         status: Status::Done,
     })
+}
+
+// What came of a drill, once a check has accepted the certificate.
+fn checked(
+    alloc: Global,
+    seed: u64,
+    turns: u64,
+    inst: &Instance,
+    solved: &Solved,
+) -> Result<Vec<u8>, Memory>
+    requires spellable { IsSpellable (certificate_in solved.now.cert) }
+    requires good { IsGood inst.now (certificate_in solved.now.cert) }
+    ensures { IfOk result (λ text. text.items ≡ drill_text seed turns inst.now solved.now.cert.cost solved.now.cert.bound solved.now.turns) }
+{
+    if !is_accepted(alloc, inst, &solved.cert)? {
+        unreachable!();
+    }
+    summary(alloc, seed, turns, inst, solved)
 }
 
 // Whether a check accepts the certificate.

@@ -7,13 +7,12 @@ ghost use Rattle.command_works.specs.Improving.{IsImprovedBy};
 ghost use Rattle.command_works.specs.Outputs.{output_in};
 
 use crate::delivery::Delivery;
-use crate::solving::{deliver_one, ending};
+use crate::solving::deliver_found;
 use carp_base::{Instance, Memory};
 use carp_engine::improve;
-use cert_format::{Cert, write_cert};
+use cert_format::Cert;
 use command_jobs::Status;
 use plan_model::Proposer;
-use plan_print::report;
 use progress::Watch;
 use std::alloc::Global;
 
@@ -42,8 +41,5 @@ pub(crate) fn improve_instance<'a, P: Proposer, W: Watch>(
     ensures fouls { OnOk result (All (λ helper. (P.tally helper).fouls ≤ 1) helpers.new.items) }
 {
     let better = improve(alloc, inst, cert, turns, seed, helpers, watch)?;
-    let bytes = write_cert(alloc, &better.cert)?;
-    let text = report(alloc, inst, &better.cert, better.turns)?;
-    let status = ending(better.cert.bound, better.cert.cost);
-    deliver_one(alloc, improved, bytes, text, status)
+    deliver_found(alloc, inst, &better, improved)
 }

@@ -1,11 +1,14 @@
 // Solves an instance.
 ghost use Rattle.std.specs.Prelude.{◌≡◌, ◌⊎◌, ◌≢◌, ◌≤◌, ◌^◌, ◌%◌, ◌+◌, [], ◌∷◌, All, EachIndex, map, slice_index, IfOk, OnOk};
-ghost use Rattle.command_works.specs.Solving.{IsSolvedBy};
+ghost use Rattle.plan_model.specs.Plans.{IsLawful};
+ghost use Rattle.cert_lines.specs.Spelling.{IsSpellable};
+ghost use Rattle.cert_format.specs.Certs.{certificate_in};
+ghost use Rattle.command_works.specs.Solving.{IsSolvedBy, IsTold};
 ghost use Rattle.command_works.specs.Outputs.{output_in};
 
 use crate::delivery::{Delivery, Kept};
 use carp_base::{Instance, Memory};
-use carp_engine::solve;
+use carp_engine::{Solved, solve};
 use cert_format::write_cert;
 use command_jobs::Status;
 use plan_model::Proposer;
@@ -33,10 +36,25 @@ pub(crate) fn solve_instance<'a, P: Proposer, W: Watch>(
     ensures fouls { OnOk result (All (λ helper. (P.tally helper).fouls ≤ 1) helpers.new.items) }
 {
     let solved = solve(alloc, inst, turns, seed, helpers, watch)?;
+    deliver_found(alloc, inst, &solved, cert)
+}
+
+/// The texts of a certificate, which is to be kept under this name, and of its report.
+pub(crate) fn deliver_found<'a>(
+    alloc: Global,
+    inst: &Instance,
+    solved: &Solved,
+    name: &'a str,
+) -> Result<Delivery<'a>, Memory>
+    requires spellable { IsSpellable (certificate_in solved.now.cert) }
+    requires lawful { IsLawful inst.now solved.now.cert.plan }
+    requires bounded { solved.now.cert.bound ≤ solved.now.cert.cost }
+    ensures { IfOk result (λ d. IsTold inst.now (certificate_in solved.now.cert) solved.now.turns name.now d.status (output_in d)) }
+{
     let bytes = write_cert(alloc, &solved.cert)?;
     let text = report(alloc, inst, &solved.cert, solved.turns)?;
     let status = ending(solved.cert.bound, solved.cert.cost);
-    deliver_one(alloc, cert, bytes, text, status)
+    deliver_one(alloc, name, bytes, text, status)
 }
 
 /// What is answered for a bound and a cost.

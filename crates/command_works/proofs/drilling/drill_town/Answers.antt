@@ -7,7 +7,7 @@ use Rattle.cert_lines.specs.Certificates.{Certificate}
 use Rattle.cert_format.specs.Certs.{certificate_in}
 use Rattle.command_works.specs.Texts.{drill_text}
 use Rattle.command_works.proofs.Solved.{spent}
-use Rattle.command_works.proofs.drilling.drill.Goals as goal
+use Rattle.command_works.proofs.drilling.drill_town.Goals as goal
 
 pub returns-clause-drilled : goal.returns-clause-drilled
 returns-clause-drilled g c =
@@ -17,11 +17,11 @@ returns-clause-drilled g c =
       record {
         certificate = certificate;
         turns = turns;
-        sound = subst (λ (p : Problem). IsSound p certificate turns) c.in_ok-inst.ensures c.in_ok-solved.ensures.sound;
+        sound = subst (λ (p : Problem). IsSound p certificate turns) c.requires.town c.in_ok-solved.ensures.sound;
         ended = spent certificate.bound certificate.cost c.args.turns turns c.in_ok-solved.ensures.ended;
-        whole = subst (λ (p : Problem). 2 ^ (p.required * (p.required - 1) / 2 + 5) ≤ c.args.turns → certificate.bound ≡ certificate.cost) c.in_ok-inst.ensures c.in_ok-solved.ensures.whole;
+        whole = subst (λ (p : Problem). 2 ^ (p.required * (p.required - 1) / 2 + 5) ≤ c.args.turns → certificate.bound ≡ certificate.cost) c.requires.town c.in_ok-solved.ensures.whole;
         helped = All-map (IsAtMost certificate.cost) (λ helper. (g.P.Proposer.tally helper).least) _ c.in_ok-solved.ensures.least;
         keeps = search rules;
-        writes = c.in_ok-text.ensures ∙ ap (λ (p : Problem). drill_text c.args.seed c.args.turns p certificate.cost certificate.bound turns) c.in_ok-inst.ensures;
+        writes = c.in_ok-text.ensures ∙ ap (λ (p : Problem). drill_text c.args.seed c.args.turns p certificate.cost certificate.bound turns) c.requires.town;
       },
     )

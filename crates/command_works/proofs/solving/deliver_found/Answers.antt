@@ -1,0 +1,14 @@
+use Rattle.std.specs.Prelude.{IfOk, Result, Ok, Err}
+use Rattle.cert_format.specs.Certs.{certificate_in}
+use Rattle.command_works.proofs.Solved.{told}
+use Rattle.command_works.proofs.solving.deliver_found.Goals as goal
+
+of_ok : {X E : Type 0} {P Q : X → Type 0} (r : Result X E) → IfOk r P → ((x : X) → P x → Q x) → IfOk r Q
+of_ok (Ok x) holds f = f x holds
+of_ok (Err e) holds f = tt
+
+pub returns : goal.returns
+returns c =
+    of_ok c.deliver_one.result c.deliver_one.ensures (λ d made.
+    told (certificate_in c.args.solved.now.cert) c.args.solved.now.turns _ _ c.ending-status.result
+    c.ending-status.ensures.either c.ending-status.ensures.is_proven c.ending-status.ensures.is_gap c.ending-status.ensures.proven c.in_ok-bytes.ensures.read c.in_ok-text.ensures d made)
