@@ -1,6 +1,6 @@
 -- What was solved, as it is delivered.
 use Rattle.std.proofs.Common.{◌≡◌, ◌≢◌, ℕ, ◌+◌, ◌-◌, ◌*◌, ◌/◌, ◌^◌, ◌≤◌, List, [], ◌∷◌, sym, ap, ◌∙◌, subst, inl, inr, Option, All}
-use Rattle.std.specs.Prelude.{◌⊎◌}
+use Rattle.std.specs.Prelude.{◌⊎◌, IfOk, Result, Ok, Err}
 use Rattle.carp_base.specs.Problem.{Problem}
 use Rattle.cert_lines.specs.Certificates.{Certificate}
 use Rattle.cert_lines.specs.Texts as certificates
@@ -12,6 +12,11 @@ use Rattle.command_jobs.specs.declared.status.Status.TheVariants.{Proven, Gap}
 use Rattle.command_works.specs.Solving.{IsEnding, IsSolvedBy, IsTold}
 use Rattle.command_works.specs.Outputs.{Output, output_in}
 use Rattle.command_works.specs.declared.delivery.Delivery.{Delivery}
+
+-- what follows of the value of a call that did not fail
+pub of_ok : {X E : Type 0} {P Q : X → Type 0} (r : Result X E) → IfOk r P → ((x : X) → P x → Q x) → IfOk r Q
+of_ok (Ok x) holds f = f x holds
+of_ok (Err e) holds f = tt
 
 -- a bound that is not the cost is so only where the turns were spent
 pub spent : (bound cost asked turns : ℕ) → (bound ≡ cost) ⊎ (asked ≤ turns) → bound ≢ cost → asked ≤ turns

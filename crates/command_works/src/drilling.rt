@@ -1,5 +1,5 @@
 // Solves a town, and checks what comes of it.
-ghost use Rattle.std.specs.Prelude.{◌≡◌, ◌≤◌, ◌^◌, ◌%◌, ◌+◌, ◌++◌, ◌↔◌, All, EachIndex, map, slice_index, IfOk, OnOk, IsTrue};
+ghost use Rattle.std.specs.Prelude.{◌≡◌, ◌≤◌, ◌^◌, ◌%◌, ◌+◌, ◌++◌, ◌↔◌, [], All, EachIndex, map, slice_index, IfOk, OnOk, IsTrue};
 ghost use Rattle.cert_lines.specs.Spelling.{IsSpellable};
 ghost use Rattle.cert_format.specs.Certs.{certificate_in};
 ghost use Rattle.cert_format.specs.Good.{IsGood};
@@ -63,30 +63,30 @@ fn drill_town<'a, P: Proposer, A: Adviser, W: Watch>(
     ensures fouls { OnOk result (All (λ helper. (P.tally helper).fouls ≤ 1) helpers.new.items) }
 {
     let solved = solve_with(alloc, inst, turns, seed, helpers, advisers, watch)?;
-    let text = checked(alloc, seed, turns, inst, &solved)?;
-    Ok(Delivery {
-        kept: Vec::new(alloc),
-        text,
-        status: Status::Done,
-    })
+    deliver_checked(alloc, seed, turns, inst, &solved)
 }
 
 // What came of a drill, once a check has accepted the certificate.
-fn checked(
+fn deliver_checked<'a>(
     alloc: Global,
     seed: u64,
     turns: u64,
     inst: &Instance,
     solved: &Solved,
-) -> Result<Vec<u8>, Memory>
+) -> Result<Delivery<'a>, Memory>
     requires spellable { IsSpellable (certificate_in solved.now.cert) }
     requires good { IsGood inst.now (certificate_in solved.now.cert) }
-    ensures { IfOk result (λ text. text.items ≡ drill_text seed turns inst.now solved.now.cert.cost solved.now.cert.bound solved.now.turns) }
+    ensures { IfOk result (λ d. (d.status ≡ Status.Done) × (output_in d ≡ record { kept = []; text = drill_text seed turns inst.now solved.now.cert.cost solved.now.cert.bound solved.now.turns })) }
 {
     if !is_accepted(alloc, inst, &solved.cert)? {
         unreachable!();
     }
-    summary(alloc, seed, turns, inst, solved)
+    let text = summary(alloc, seed, turns, inst, solved)?;
+    Ok(Delivery {
+        kept: Vec::new(alloc),
+        text,
+        status: Status::Done,
+    })
 }
 
 // Whether a check accepts the certificate.

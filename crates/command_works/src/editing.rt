@@ -1,5 +1,7 @@
 // What an edit makes.
 ghost use Rattle.std.specs.Prelude.{◌≡◌, ◌≤◌, [], ◌∷◌, IfOk};
+ghost use Rattle.cert_format.specs.Certs.{certificate_in};
+ghost use Rattle.cert_transfer.specs.Transfer.{IsCarriedOver};
 ghost use Rattle.command_jobs.specs.Edited.{IsEdited};
 ghost use Rattle.command_works.specs.Carried.{AreBothKept};
 ghost use Rattle.command_works.specs.Texts.{edit_text, edited_line};
@@ -8,7 +10,7 @@ ghost use Rattle.command_works.specs.Outputs.{output_in};
 use crate::answers::answer;
 use crate::delivery::{Delivery, Kept};
 use carp_base::Memory;
-use cert_format::{good_is_proof, write_cert};
+use cert_format::{Cert, good_is_proof, write_cert};
 use cert_transfer::carry;
 use command_jobs::{Edited, Status};
 use dat_text::write_dat;
@@ -26,8 +28,22 @@ pub(crate) fn keep_edited<'a>(
     requires { IsEdited read.now }
     ensures { IfOk result (λ d. (d.status ≡ Status.Done) × AreBothKept read.now edited.now carried.now (output_in d)) }
 {
-    good_is_proof();
     let cert = carry(alloc, &read.before, &read.edits, &read.after, &read.cert)?;
+    deliver_edited(alloc, read, &cert, edited, carried)
+}
+
+// The same for a certificate that is carried over. A `?` at which a certificate is owned would drop it there.
+fn deliver_edited<'a>(
+    alloc: Global,
+    read: &Edited,
+    cert: &Cert,
+    edited: &'a str,
+    carried: &'a str,
+) -> Result<Delivery<'a>, Memory>
+    requires { IsCarriedOver read.now.after (certificate_in read.now.cert) (certificate_in cert.now) }
+    ensures { IfOk result (λ d. (d.status ≡ Status.Done) × AreBothKept read.now edited.now carried.now (output_in d)) }
+{
+    good_is_proof();
     let (before, after) = (read.before.edge_count(), read.after.edge_count());
     let text = summary(
         alloc,
@@ -42,7 +58,7 @@ pub(crate) fn keep_edited<'a>(
     };
     let second = Kept {
         name: carried,
-        bytes: write_cert(alloc, &cert)?,
+        bytes: write_cert(alloc, cert)?,
     };
     deliver_two(alloc, first, second, text)
 }

@@ -1,11 +1,6 @@
-use Rattle.std.specs.Prelude.{IfOk, Result, Ok, Err}
 use Rattle.cert_format.specs.Certs.{certificate_in}
-use Rattle.command_works.proofs.Solved.{told}
+use Rattle.command_works.proofs.Solved.{of_ok, told}
 use Rattle.command_works.proofs.solving.deliver_found.Goals as goal
-
-of_ok : {X E : Type 0} {P Q : X → Type 0} (r : Result X E) → IfOk r P → ((x : X) → P x → Q x) → IfOk r Q
-of_ok (Ok x) holds f = f x holds
-of_ok (Err e) holds f = tt
 
 pub returns : goal.returns
 returns c =

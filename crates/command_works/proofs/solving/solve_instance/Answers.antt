@@ -1,15 +1,10 @@
-use Rattle.std.specs.Prelude.{IfOk, Result, Ok, Err}
 use Rattle.std.proofs.lemmas.List.Elements.{All-map}
 use Rattle.helper_rounds.specs.Helpers.{IsAtMost}
 use Rattle.cert_lines.specs.Certificates.{Certificate}
 use Rattle.cert_format.specs.Certs.{certificate_in}
 use Rattle.command_works.specs.Outputs.{output_in}
-use Rattle.command_works.proofs.Solved.{solved_by}
+use Rattle.command_works.proofs.Solved.{of_ok, solved_by}
 use Rattle.command_works.proofs.solving.solve_instance.Goals as goal
-
-of_ok : {X E : Type 0} {P Q : X → Type 0} (r : Result X E) → IfOk r P → ((x : X) → P x → Q x) → IfOk r Q
-of_ok (Ok x) holds f = f x holds
-of_ok (Err e) holds f = tt
 
 pub returns-clause-solved : goal.returns-clause-solved
 returns-clause-solved g c =
