@@ -1,7 +1,7 @@
 import re,os,sys
 ROOT=sys.argv[1].rstrip('/')+'/crates/'
 OUT=sys.argv[2].rstrip('/')+'/'
-CR='carp_base plan_model road_network flow_cut deadhead_paths cut_pool edge_components capacity_cuts blossom_match matching_duals shore_program shore_search task_tours route_pricing decision_chains branch_rules tight_prices shore_prices price_points price_ascent group_search linear_program column_generation leaf_programs packing_trees dual_master grown_trees branch_tree helper_frame ruin_recreate local_moves path_scanning augment_merge giant_split fleet_pack'.split()
+CR='carp_base plan_model road_network flow_cut deadhead_paths cut_pool edge_components capacity_cuts blossom_match matching_duals shore_program shore_search task_tours route_pricing decision_chains branch_rules tight_prices shore_prices price_points price_ascent group_search linear_program column_generation leaf_programs packing_trees leaf_adviser dual_master grown_trees branch_tree helper_frame ruin_recreate local_moves path_scanning augment_merge giant_split fleet_pack'.split()
 def strip_block(s,start_re):
     while True:
         m=re.search(start_re,s,re.M)

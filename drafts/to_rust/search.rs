@@ -23,14 +23,16 @@ pub fn main(){
   let pool=cut_pool::ShorePool::new(g);
   let dist=task_tours::cost_distances(g,&inst).ok().unwrap();
   let plan=Branch::new(g).fixed_plan(g,&inst,&pool,&dist).ok().unwrap();
+  let mut advisers:Vec<Box<dyn leaf_adviser::Adviser>>=Vec::new(g);
+  advisers.push(Box::new(shore_prices::ShoreAdviser)).ok();advisers.push(Box::new(price_ascent::AscentAdviser)).ok();advisers.push(Box::new(leaf_programs::LeafPrograms::new(g))).ok();
   let t0=now();
   let mut search=branch_tree::Search::begin(g,&inst,turns as u64,plan).ok().unwrap();
   search.cost=cost as u64; search.done=search.tree.turns(search.cost) as u64;
   let first=search.tree.shown(search.cost);let mut root=0;let mut troot=0.0;let mut steps=0;
   let limit:f64=std::env::var("LIMIT").ok().map(|x|x.parse().unwrap()).unwrap_or(1e9);
   while search.done()<search.budget()&&now()-t0-troot<limit{
-    let t1=now();let turn=search.step(&inst).ok().unwrap();if turn==branch_tree::Turn::Done{break}
-    steps+=1;if search.take_plan(&inst).ok().unwrap(){println!("  step {} takes a plan of cost {}",steps,search.cost)}
+    let t1=now();let turn=search.step_with(&inst,&mut advisers).ok().unwrap();if turn==branch_tree::Turn::Done{break}
+    steps+=1;if search.take_plan(&inst,&mut advisers).ok().unwrap(){println!("  step {} takes a plan of cost {}",steps,search.cost)}
     if steps==1{root=search.tree.shown(search.cost);troot=now()-t0;}
     if vt{eprintln!("{} turns {} shows {} nodes {} sets {} {:.2} s",steps,search.done(),search.tree.shown(search.cost),search.tree.len(),search.sets.len(),now()-t1)}
   }

@@ -4,6 +4,7 @@ mod Services
 mod Settling
 mod Counting
 mod Pools
+mod Grown
 mod Taking
 mod Standing
 mod Turning

@@ -8,7 +8,7 @@ use Rattle.std.proofs.lemmas.List.Elements.{All-head, All-tail, All-weaker, recu
 use Rattle.carp_base.specs.declared.edge.Edge.{Edge}
 use Rattle.carp_base.specs.Problem.{Problem, IsValid, edge_at}
 use Rattle.plan_model.specs.Plans.{crosses}
-use Rattle.cut_pool.specs.Pools.{IsShoreNumber, shore_at}
+use Rattle.cut_pool.specs.Pools.{IsGrown, IsShoreNumber, shore_at}
 use Rattle.cut_pool.specs.Shores.{Belongs, is_in, need, required_crossings}
 use Rattle.decision_chains.specs.declared.decision.Decision.{Decision}
 use Rattle.decision_chains.specs.declared.decision.Decision.TheVariants.{Yes, No, Low, High}
@@ -17,7 +17,6 @@ use Rattle.branch_rules.specs.declared.weight.Weight.{Weight}
 use Rattle.branch_rules.specs.Limits.{AreShoresIn, HasShoreOf, IsShoreOf}
 use Rattle.branch_rules.specs.Prices.{Prices, crossing_weight, deadhead_price, signed_sum, value_of}
 use Rattle.branch_rules.specs.Refusals.{NoneTooHeavy}
-use Rattle.shore_prices.specs.Proposals.{IsGrown}
 use Rattle.grown_trees.specs.Stands.{HoldsShores}
 use Rattle.dual_master.specs.Growth.{GrowthKeepsSets}
 use Rattle.dual_master.specs.Raising.{IsNoLower}

@@ -4,13 +4,12 @@ use Rattle.std.specs.Prelude.{◌==◌, nat_lt, if◌then◌else◌}
 use Rattle.std.specs.List.{All, AllByRecursion}
 use Rattle.std.proofs.lemmas.List.Elements.{All-from_recursion, All-weaker, recursion_from_All}
 use Rattle.carp_base.specs.Problem.{Problem}
-use Rattle.cut_pool.specs.Pools.{IsShoreNumber}
+use Rattle.cut_pool.specs.Pools.{IsGrown, IsShoreNumber}
 use Rattle.decision_chains.specs.declared.decision.Decision.{Decision}
 use Rattle.branch_rules.specs.Decisions.{rules_of}
 use Rattle.branch_rules.specs.Limits.{IsShoreOf}
 use Rattle.branch_rules.specs.Prices.{Prices, value_of}
 use Rattle.branch_rules.specs.declared.weight.Weight.{Weight}
-use Rattle.shore_prices.specs.Proposals.{IsGrown}
 use Rattle.tight_prices.specs.Tight.{IsNeededSingle, IsPriceTight, IsTight, IsWeightTight, add_weight, put_weight, with_price, with_weight}
 use Rattle.dual_master.specs.Growth.{GrowthKeepsSets}
 use Rattle.branch_tree.specs.Leaves.{IsRaisedFrom}

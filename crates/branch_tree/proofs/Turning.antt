@@ -4,6 +4,7 @@ use Rattle.std.specs.List.{All}
 use Rattle.std.proofs.lemmas.List.{append-nil}
 use Rattle.std.proofs.lemmas.List.Elements.{All-nil, All-cons}
 use Rattle.carp_base.specs.Problem.{Problem}
+use Rattle.cut_pool.specs.Pools.{IsGrown}
 use Rattle.plan_model.specs.declared.step.Step.{Step}
 use Rattle.plan_model.specs.Plans.{IsLawful, plan_cost}
 use Rattle.decision_chains.specs.declared.decision.Decision.{Decision}
@@ -13,7 +14,6 @@ use Rattle.branch_rules.specs.Trees.{PriceShows, Tree, fixed, price, void}
 use Rattle.branch_rules.specs.declared.node.Node.{Node}
 use Rattle.branch_rules.specs.declared.node.Node.TheVariants as nodes
 use Rattle.decision_chains.specs.FixedValue.{HasFixedValue}
-use Rattle.shore_prices.specs.Proposals.{IsGrown}
 use Rattle.tight_prices.specs.Tight.{IsTight}
 use Rattle.dual_master.specs.Raising.{IsNoLower}
 use Rattle.grown_trees.specs.Growth.{AreSound, turns_in}

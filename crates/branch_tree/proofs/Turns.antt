@@ -9,6 +9,7 @@ use Rattle.carp_base.specs.declared.fail.Memory.{Memory}
 use Rattle.plan_model.specs.declared.step.Step.{Step}
 use Rattle.plan_model.specs.Plans.{IsLawful, plan_cost, steps_of}
 use Rattle.decision_chains.specs.declared.decision.Decision.{Decision}
+use Rattle.cut_pool.specs.Pools.{IsGrown}
 use Rattle.cut_pool.specs.Shores.{Belongs}
 use Rattle.branch_rules.specs.Decisions.{IsFixed, IsVoid, rules_of}
 use Rattle.branch_rules.specs.Prices.{Prices, value_of}
@@ -18,7 +19,6 @@ use Rattle.branch_rules.specs.declared.node.Node.{Node}
 use Rattle.branch_rules.specs.declared.node.Node.TheVariants as nodes
 use Rattle.decision_chains.specs.FixedValue.{HasFixedValue}
 use Rattle.route_pricing.specs.Tables.{IsRoom}
-use Rattle.shore_prices.specs.Proposals.{IsGrown}
 use Rattle.grown_trees.specs.Places.{IsLeaf}
 use Rattle.grown_trees.specs.Stands.{NodeShows}
 use Rattle.grown_trees.specs.declared.growing.GrowingNode.{GrowingNode}

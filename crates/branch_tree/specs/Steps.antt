@@ -2,6 +2,7 @@
 use Rattle.std.specs.Prelude.{◌≡◌, ℕ, ◌+◌, ◌<◌, ◌≤◌, ◌⊎◌, Bool, true, false, List, [], ◌∷◌, ◌++◌, take, drop, map, length, slice_index_or}
 use Rattle.std.specs.List.{All}
 use Rattle.carp_base.specs.Problem.{Problem}
+use Rattle.cut_pool.specs.Pools.{IsGrown}
 use Rattle.decision_chains.specs.declared.decision.Decision.{Decision}
 use Rattle.branch_rules.specs.Decisions.{IsFixed, IsVoid}
 use Rattle.branch_rules.specs.Prices.{Prices}
@@ -9,7 +10,6 @@ use Rattle.branch_rules.specs.Trees.{Tree, preorder, PriceShows}
 use Rattle.branch_rules.specs.declared.node.Node.{Node}
 use Rattle.branch_rules.specs.declared.node.Node.TheVariants as nodes
 use Rattle.task_tours.specs.Shorts.{IsShortPlan}
-use Rattle.shore_prices.specs.Proposals.{IsGrown}
 use Rattle.tight_prices.specs.Tight.{IsTight}
 use Rattle.dual_master.specs.Raising.{IsNoLower}
 use Rattle.grown_trees.specs.Growth.{IsLeastOpen, turns_in}

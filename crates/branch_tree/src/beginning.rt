@@ -15,7 +15,6 @@ use cut_pool::ShorePool;
 use deadhead_paths::Distances;
 use dual_master::{floors, level_sets_are_there};
 use grown_trees::GrowingTree;
-use leaf_programs::LeafPrograms;
 use plan_model::Plan;
 use road_network::Network;
 use route_pricing::Table;
@@ -69,7 +68,6 @@ impl Search {
             tree,
             sets,
             pool: floor.pool,
-            programs: LeafPrograms::new(alloc),
             best,
             cost,
             done,

@@ -1,4 +1,4 @@
-// Plans that the programs of leaves show.
+// Plans that advisers offer.
 ghost use Rattle.std.specs.Prelude.{◌≡◌, IfOk, IfSome, IsTrue, OnErr};
 ghost use Rattle.std.specs.List.{All};
 ghost use Rattle.carp_base.specs.Problem.{IsRequired};
@@ -13,6 +13,7 @@ use crate::beginning::allowed_cost;
 use crate::search::Search;
 use carp_base::{Instance, Memory, Task};
 use deadhead_paths::{Distances, tidy};
+use leaf_adviser::Adviser;
 use plan_model::{JudgeRoom, Plan, Verdict, judge, verdicts_are_exact};
 use std::alloc::Global;
 use task_tours::{add_tour, short_plans_are_allowed};
@@ -21,14 +22,17 @@ use task_tours::{add_tour, short_plans_are_allowed};
 const MOST_TASKS: usize = 600;
 
 impl Search {
-    /// Takes the cheapest plan that programs showed in the last step (`leaf_programs`), for its leaf or for splits
-    /// that were tried there, if there is one, if it is lawful, and if it costs less than the best plan. It answers
-    /// whether it did. The plan is short then, and the turns of the tree are counted anew for its cost. Else the best
-    /// plan stays. All else is as before.
+    /// Takes the plan of the first tours that an adviser offers, in the order of the list, if it is lawful and costs less
+    /// than the best plan. It answers whether it did. The plan is short then, and the turns of the tree are counted anew
+    /// for its cost. Else the best plan stays. All else is as before.
     ///
-    /// A second call after the same step finds nothing. The only error is want of memory, and then the search is as
-    /// before. It takes time in proportion to the number of nodes and to the steps of the plan.
-    pub fn take_plan(&mut self, inst: &Instance) -> Result<bool, Memory>
+    /// The only error is want of memory, and then the search is as before. It takes time in proportion to the number of
+    /// nodes and to the steps of the plan.
+    pub fn take_plan<A: Adviser>(
+        &mut self,
+        inst: &Instance,
+        advisers: &mut Vec<A>,
+    ) -> Result<bool, Memory>
         requires search { IsSearch inst.now self.old }
         ensures search { IsSearch inst.now self.new }
         ensures turns { self.new.turns ≡ self.old.turns }
@@ -37,7 +41,7 @@ impl Search {
         ensures offered { IfOk result (IsOffered inst.now (state_of self.old) (state_of self.new)) }
         ensures err { OnErr result (state_of self.new ≡ state_of self.old) }
     {
-        match self.programs.whole_tours() {
+        match first_tours(advisers) {
             Some(tours) => self.offer_tours(inst, &tours),
             None => Ok(false),
         }
@@ -80,6 +84,17 @@ impl Search {
         let turns = self.tree.turns(cost);
         self.done = turns as u64;
     }
+}
+
+// The first tours that an adviser offers.
+fn first_tours<A: Adviser>(advisers: &mut Vec<A>) -> Option<Vec<Vec<Task>>> {
+    for adviser in advisers.iter_mut() {
+        let offered = adviser.tours();
+        if offered.is_some() {
+            return offered;
+        }
+    }
+    None
 }
 
 // The plan of tours, joined by least paths, if it is lawful.

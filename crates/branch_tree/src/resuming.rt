@@ -12,7 +12,6 @@ use branch_rules::PriceSet;
 use carp_base::{Instance, Memory};
 use cut_pool::ShorePool;
 use grown_trees::{GrowingNode, GrowingTree, sound_trees_are_lean};
-use leaf_programs::LeafPrograms;
 use plan_model::Plan;
 use std::alloc::Global;
 use task_tours::short_plans_cost_little;
@@ -63,7 +62,6 @@ impl Search {
             tree,
             sets,
             pool,
-            programs: LeafPrograms::new(alloc),
             best,
             cost,
             done,

@@ -4,7 +4,6 @@ use branch_rules::PriceSet;
 use cut_pool::ShorePool;
 use deadhead_paths::Distances;
 use grown_trees::GrowingTree;
-use leaf_programs::LeafPrograms;
 use plan_model::Plan;
 use road_network::Network;
 use route_pricing::Table;
@@ -24,8 +23,6 @@ pub struct Search {
     pub(crate) tree: GrowingTree,
     pub(crate) sets: Vec<PriceSet>,
     pub(crate) pool: ShorePool,
-    // Nothing is said of it: what it proposes is judged.
-    pub(crate) programs: LeafPrograms,
     pub(crate) best: Plan,
     pub(crate) cost: u64,
     pub(crate) done: u64,

@@ -19,6 +19,7 @@ use crate::values::shown_under;
 use branch_rules::{Branch, Node, PriceSet};
 use carp_base::{Instance, Memory};
 use cut_pool::ShorePool;
+use leaf_adviser::Adviser;
 use std::alloc::Global;
 
 // The most price sets that a search has.
@@ -33,11 +34,12 @@ struct Halves {
 
 impl Search {
     // A step at a leaf whose decisions are neither void nor fixed.
-    pub(crate) fn treat_open(
+    pub(crate) fn treat_open<A: Adviser>(
         &mut self,
         inst: &Instance,
         place: usize,
         branch: &mut Branch,
+        advisers: &mut Vec<A>,
     ) -> Result<Turn, Memory>
         requires search { IsSearch inst.now self.old }
         requires left { self.old.done < self.old.turns }
@@ -48,7 +50,7 @@ impl Search {
     {
         let number = self.named_set(inst, place, branch);
         if self.sets.len() < MOST_SETS {
-            self.treat_with_new(inst, place, branch, number)
+            self.treat_with_new(inst, place, branch, number, advisers)
         } else {
             self.split_with_old(inst, place, branch, number)
         }
@@ -74,12 +76,13 @@ impl Search {
     }
 
     // A step at a leaf for which a tight set is sought.
-    fn treat_with_new(
+    fn treat_with_new<A: Adviser>(
         &mut self,
         inst: &Instance,
         place: usize,
         branch: &mut Branch,
         number: u32,
+        advisers: &mut Vec<A>,
     ) -> Result<Turn, Memory>
         requires search { IsSearch inst.now self.old }
         requires left { self.old.done < self.old.turns }
@@ -88,7 +91,7 @@ impl Search {
         ensures { IsTurn inst.now self.old self.new result }
     {
         known_laws();
-        let raised = self.raise_leaf(inst, place, branch, number)?;
+        let raised = self.raise_leaf(inst, place, branch, number, advisers)?;
         let Raised { set, proposed } = raised;
         let shown = shown_under(inst, &self.pool, branch, &set);
         if self.cost <= shown {

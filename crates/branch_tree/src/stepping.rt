@@ -11,6 +11,7 @@ use crate::laws::known_laws;
 use crate::search::{Search, Turn};
 use branch_rules::Branch;
 use carp_base::{Instance, Memory};
+use leaf_adviser::{Adviser, NoAdvice};
 
 impl Search {
     /// The turns of the tree for the best plan's cost: its inner nodes, and its leaves that show the cost by themselves.
@@ -49,17 +50,14 @@ impl Search {
     /// - If its branch is void or fixed, the step closes the leaf as that. If the plan of a fixed leaf is cheaper, it
     ///   is the best one from then on.
     /// - Else, if the search has fewer than 256 price sets, the step seeks a tight set for the leaf
-    ///   (`dual_master::raise_with`). If that shows the cost, the set closes the leaf. If not, the step splits the leaf
-    ///   by a pair or a shore, as the program of the leaf proposes (`leaf_programs`) if that may stand there. Both
-    ///   new leaves name the set.
+    ///   (`dual_master::raise`). If that shows the cost, the set closes the leaf. If not, the step splits the leaf by the
+    ///   first pair of required edges that is not determined. Both new leaves name the set.
     /// - If the search has 256 price sets, both new leaves name the set of the leaf.
     ///
     /// A short best plan stays short.
     ///
-    /// The turns of the search are below its budget. The only error is want of memory. Then the tree, the price sets
-    /// and the best plan are as before, and shores may have been added. It takes the time of `raise_with`, of a split
-    /// that is proposed and, with n nodes, m required edges and d decisions on the way to the leaf, in proportion to
-    /// n + m * (m * m + d).
+    /// It is what [`step_with`](Search::step_with) does with no advisers. The turns of the search are below its budget.
+    /// The only error is want of memory. Then the tree, the price sets and the best plan are as before.
     ///
     /// ```
     /// let mut search = Search::begin(alloc, &inst, 64, plan)?;
@@ -80,14 +78,44 @@ impl Search {
         ensures step { IfOk result (IsStep inst.now (state_of self.old) (state_of self.new)) }
         ensures err { OnErr result (IsAsBefore (state_of self.old) (state_of self.new)) }
     {
+        let mut none: Vec<NoAdvice> = Vec::new(self.alloc);
+        self.step_with(inst, &mut none)
+    }
+
+    /// The same with advisers. They are asked for prices of a leaf that is neither void nor fixed
+    /// (`dual_master::raise_with`), and then for a node to split it by: the first one that is offered is taken if it may
+    /// stand there. Who the advisers are is no matter to what a step promises.
+    ///
+    /// The only error is want of memory. Then the tree, the price sets and the best plan are as before, and shores may
+    /// have been added. It takes the time of `raise_with`, of the advisers and, with n nodes, m required edges and d
+    /// decisions on the way to the leaf, in proportion to n + m * (m * m + d).
+    pub fn step_with<A: Adviser>(
+        &mut self,
+        inst: &Instance,
+        advisers: &mut Vec<A>,
+    ) -> Result<Turn, Memory>
+        requires search { IsSearch inst.now self.old }
+        requires left { self.old.done < self.old.turns }
+        ensures search { IsSearch inst.now self.new }
+        ensures turns { self.new.turns ≡ self.old.turns }
+        ensures least { self.new.least ≡ self.old.least }
+        ensures short { IsShortPlan inst.now self.old.best → IsShortPlan inst.now self.new.best }
+        ensures step { IfOk result (IsStep inst.now (state_of self.old) (state_of self.new)) }
+        ensures err { OnErr result (IsAsBefore (state_of self.old) (state_of self.new)) }
+    {
         match self.tree.open_leaf(self.cost) {
             None => Ok(Turn::Done),
-            Some(place) => self.take_leaf(inst, place),
+            Some(place) => self.take_leaf(inst, place, advisers),
         }
     }
 
     // A step that takes the leaf at a place.
-    fn take_leaf(&mut self, inst: &Instance, place: usize) -> Result<Turn, Memory>
+    fn take_leaf<A: Adviser>(
+        &mut self,
+        inst: &Instance,
+        place: usize,
+        advisers: &mut Vec<A>,
+    ) -> Result<Turn, Memory>
         requires search { IsSearch inst.now self.old }
         requires left { self.old.done < self.old.turns }
         requires place { IsLeastOpen self.old.cost self.old.tree.nodes place }
@@ -95,15 +123,16 @@ impl Search {
     {
         known_laws();
         let mut branch = self.tree.branch_to(self.alloc, place)?;
-        self.treat_leaf(inst, place, &mut branch)
+        self.treat_leaf(inst, place, &mut branch, advisers)
     }
 
     // A step at a leaf, by what its decisions are.
-    fn treat_leaf(
+    fn treat_leaf<A: Adviser>(
         &mut self,
         inst: &Instance,
         place: usize,
         branch: &mut Branch,
+        advisers: &mut Vec<A>,
     ) -> Result<Turn, Memory>
         requires search { IsSearch inst.now self.old }
         requires left { self.old.done < self.old.turns }
@@ -115,7 +144,7 @@ impl Search {
         match kind {
             Kind::Void => Ok(self.close_void(inst, place, branch)),
             Kind::Fixed => self.close_fixed(inst, place, branch),
-            Kind::Open => self.treat_open(inst, place, branch),
+            Kind::Open => self.treat_open(inst, place, branch, advisers),
         }
     }
 }

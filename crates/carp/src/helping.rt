@@ -1,14 +1,20 @@
-// The four helpers of the program.
+// The helpers and the advisers of the program.
 ghost use Rattle.std.specs.Prelude.{◌≡◌};
 
 use augment_merge::Merger;
-use carp_cli::{Status, run_watched};
+use carp_base::Memory;
+use carp_cli::{Status, run_with};
+use carp_engine::dismiss;
 use carp_outside::{Shelf, Sink};
 use giant_split::Splitter;
+use leaf_adviser::Adviser;
+use leaf_programs::LeafPrograms;
 use local_moves::Mover;
 use path_scanning::Scanner;
 use plan_model::Proposer;
+use price_ascent::AscentAdviser;
 use progress::Watch;
+use shore_prices::ShoreAdviser;
 use std::alloc::Global;
 
 // Path scanning, augment-merge, splitting of one order of all tasks, and ruin and recreate with small changes. No two
@@ -27,8 +33,10 @@ fn four_helpers() -> (Scanner, Merger, Splitter, Mover)
     )
 }
 
-/// Runs the command that the words name ([`carp_cli::run_watched`]) with the aid of four helpers: path scanning, augment-merge,
-/// splitting of one order of all tasks, and ruin and recreate with small changes, of ids 1 to 4.
+/// Runs the command that the words name ([`carp_cli::run_with`]) with the aid of four helpers: path scanning, augment-merge,
+/// splitting of one order of all tasks, and ruin and recreate with small changes, of ids 1 to 4. Three advisers are asked
+/// at each leaf, in this order: the program over shores, the ascent, and the programs over tours, shores and groups. Helpers
+/// that offered an unlawful plan are dismissed at the end.
 pub(crate) fn run_with_helpers<H: Shelf, O: Sink, W: Watch>(
     alloc: Global,
     words: &[String],
@@ -52,5 +60,19 @@ pub(crate) fn run_with_helpers<H: Shelf, O: Sink, W: Watch>(
             return Status::Memory;
         }
     }
-    run_watched(alloc, words, shelf, out, &mut helpers, watch)
+    let mut advisers: Vec<Box<dyn Adviser>> = Vec::new(alloc);
+    if push_advisers(alloc, &mut advisers).is_err() {
+        return Status::Memory;
+    }
+    let status = run_with(alloc, words, shelf, out, &mut helpers, &mut advisers, watch);
+    dismiss(&mut helpers);
+    status
+}
+
+// Puts the three advisers behind those of the list.
+fn push_advisers(alloc: Global, advisers: &mut Vec<Box<dyn Adviser>>) -> Result<(), Memory> {
+    advisers.push(Box::new(alloc, ShoreAdviser)?)?;
+    advisers.push(Box::new(alloc, AscentAdviser)?)?;
+    advisers.push(Box::new(alloc, LeafPrograms::new(alloc))?)?;
+    Ok(())
 }

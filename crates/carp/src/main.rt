@@ -1,8 +1,9 @@
-//! The program: the files of the system, its standard output, the words of the command line and four helpers, given to
-//! the top call ([`carp_cli::run_watched`]).
+//! The program: the files of the system, its standard output, the words of the command line, four helpers and three
+//! advisers, given to the top call ([`carp_cli::run_with`]).
 //!
 //! In the field: four heuristics, path scanning, augment-merge, route first and cluster second, and ruin and recreate
-//! with local search. `helping` makes them.
+//! with local search; and three bounds, a cutting plane method, a subgradient method and column generation. `helping` makes
+//! them.
 #![tactic(auto)]
 
 mod helping;
@@ -23,7 +24,7 @@ fn main(rt: HostRuntime) -> ExitCode {
     let mut out = StdSink::new(io::writer(&rt));
     let error = rt.stderr().lock();
     let is_terminal = error.is_terminal();
-    let mut watch = TerminalWatch::new(alloc, error, is_terminal);
+    let mut watch = TerminalWatch::new(error, is_terminal);
     let status = helping::run_with_helpers(alloc, &words, &mut shelf, &mut out, &mut watch);
     ExitCode::from(status.code())
 }

@@ -1,8 +1,8 @@
 //! The top call of the program, and what it stands on at the edge of the system.
 //!
-//! [`run_watched`] does all that the program does: it reads the words of a command, reads files from a
+//! [`run_with`] does all that the program does: it reads the words of a command, reads files from a
 //! [`carp_outside::Shelf`], keeps files there, writes texts to a [`carp_outside::Sink`] and answers a [`Status`].
-//! [`run`] is the same call with nobody who is told how far it is. [`DirShelf`] and [`StdSink`] make the files of the
+//! [`run`] is the same call with no advisers, and nobody who is told how far it is. [`DirShelf`] and [`StdSink`] make the files of the
 //! system and a writer, such as the standard output, into these.
 //!
 //! `command_words` reads a command, `command_jobs` reads its files and checks their certificates, and `command_works`
@@ -30,6 +30,6 @@ mod terminal;
 pub use command_jobs::Status;
 pub use dir_shelf::DirShelf;
 pub use laws::kept_is_accepted;
-pub use running::{run, run_watched};
+pub use running::{run, run_with};
 pub use std_sink::StdSink;
 pub use terminal::TerminalWatch;

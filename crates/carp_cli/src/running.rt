@@ -18,6 +18,7 @@ use carp_outside::{Shelf, Sink};
 use command_jobs::{Status, gather};
 use command_words::{Command, budgets_are_in_range, read_words};
 use command_works::{Delivery, make};
+use leaf_adviser::Adviser;
 use plan_model::Proposer;
 use progress::{Silent, Watch};
 use std::alloc::Global;
@@ -120,17 +121,20 @@ pub fn run<H: Shelf, O: Sink>(
     ensures asked { IsHelped (command_of (texts_of words.now)) result → All (λ helper. 1 ≤ asked helper) helpers.new.items }
     ensures fouls { IsHelped (command_of (texts_of words.now)) result → All (λ helper. (tally helper).fouls ≤ 1) helpers.new.items }
 {
-    run_watched(alloc, words, shelf, out, helpers, &mut Silent)
+    let mut none: Vec<Box<dyn Adviser>> = Vec::new(alloc);
+    run_with(alloc, words, shelf, out, helpers, &mut none, &mut Silent)
 }
 
-/// The same call, with somebody who is told how far it is. No clause speaks of the watch. It is told nothing any more
-/// before anything is kept or written.
-pub fn run_watched<H: Shelf, O: Sink, W: Watch>(
+/// The same call with advisers, who offer prices, splits and tours to a search, and with somebody who is told how far it is.
+/// No clause speaks of either. None of the advisers need be trusted. The watch is told nothing any more before anything is
+/// kept or written.
+pub fn run_with<H: Shelf, O: Sink, W: Watch>(
     alloc: Global,
     words: &[String],
     shelf: &mut H,
     out: &mut O,
     helpers: &mut Vec<Box<dyn Proposer>>,
+    advisers: &mut Vec<Box<dyn Adviser>>,
     watch: &mut W,
 ) -> Status
     ensures leaves { let before : Outside = record {
@@ -161,7 +165,7 @@ pub fn run_watched<H: Shelf, O: Sink, W: Watch>(
     ensures asked { IsHelped (command_of (texts_of words.now)) result → All (λ helper. 1 ≤ asked helper) helpers.new.items }
     ensures fouls { IsHelped (command_of (texts_of words.now)) result → All (λ helper. (tally helper).fouls ≤ 1) helpers.new.items }
 {
-    match prepare(alloc, words, shelf, helpers, watch) {
+    match prepare(alloc, words, shelf, helpers, advisers, watch) {
         Ok(delivery) => {
             watch.ends();
             deliver(shelf, out, &delivery)
@@ -174,11 +178,12 @@ pub fn run_watched<H: Shelf, O: Sink, W: Watch>(
 }
 
 // What the words ask to be kept, written and answered.
-fn prepare<'a, H: Shelf, P: Proposer, W: Watch>(
+fn prepare<'a, H: Shelf, P: Proposer, A: Adviser, W: Watch>(
     alloc: Global,
     words: &'a [String],
     shelf: &mut H,
     helpers: &mut Vec<P>,
+    advisers: &mut Vec<A>,
     watch: &mut W,
 ) -> Result<Delivery<'a>, Memory>
     ensures prepared { let finding : Finding = record {
@@ -200,17 +205,18 @@ fn prepare<'a, H: Shelf, P: Proposer, W: Watch>(
     budgets_are_in_range();
     match read_words(alloc, words) {
         Ok(None) => refuse(alloc, Status::BadUsage),
-        Ok(Some(command)) => perform(alloc, command, shelf, helpers, watch),
+        Ok(Some(command)) => perform(alloc, command, shelf, helpers, advisers, watch),
         Err(Memory) => Err(Memory),
     }
 }
 
 // What a command asks to be kept, written and answered: its files are read, and then it is done.
-fn perform<'a, H: Shelf, P: Proposer, W: Watch>(
+fn perform<'a, H: Shelf, P: Proposer, A: Adviser, W: Watch>(
     alloc: Global,
     command: Command<'a>,
     shelf: &mut H,
     helpers: &mut Vec<P>,
+    advisers: &mut Vec<A>,
     watch: &mut W,
 ) -> Result<Delivery<'a>, Memory>
     requires { HasBudget (command_in command) }
@@ -231,7 +237,7 @@ fn perform<'a, H: Shelf, P: Proposer, W: Watch>(
     ensures fouls { IfOk result (λ d. IsHelped (Some (command_in command.entry)) d.status → All (λ helper. (P.tally helper).fouls ≤ 1) helpers.new.items) }
 {
     match gather(alloc, command, shelf) {
-        Ok(job) => make(alloc, job, helpers, watch),
+        Ok(job) => make(alloc, job, helpers, advisers, watch),
         Err(Fail::Memory) => Err(Memory),
         Err(Fail::Refused(status)) => refuse(alloc, status),
     }

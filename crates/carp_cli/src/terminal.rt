@@ -1,9 +1,10 @@
 // A terminal that is told how far a run is.
-use carp_base::Memory;
-use plan_print::push_words;
+use itoa::Buffer;
 use progress::{Standing, Watch};
-use std::alloc::Global;
 use std::io::Write;
+
+// A line of words and five numbers has fewer bytes.
+const LINE: usize = 200;
 
 // Goes back to the start of the line, and erases it.
 const ERASE: &[u8] = b"\r\x1b[K";
@@ -13,7 +14,6 @@ const ERASE: &[u8] = b"\r\x1b[K";
 /// written is passed over.
 #[derive(Drop)]
 pub struct TerminalWatch<W> {
-    alloc: Global,
     inner: W,
     listens: bool,
     written: bool,
@@ -21,9 +21,8 @@ pub struct TerminalWatch<W> {
 
 impl<W: Write> TerminalWatch<W> {
     /// A watch that writes to `inner`, if that is a terminal.
-    pub fn new(alloc: Global, inner: W, is_terminal: bool) -> TerminalWatch<W> {
+    pub fn new(inner: W, is_terminal: bool) -> TerminalWatch<W> {
         TerminalWatch {
-            alloc,
             inner,
             listens: is_terminal,
             written: false,
@@ -45,19 +44,41 @@ fn phase_of(standing: &Standing) -> &'static [u8] {
     }
 }
 
+// A line, in an array, so that it takes no memory. What does not fit is left out.
+struct Line {
+    bytes: [u8; LINE],
+    len: usize,
+}
+
+impl Line {
+    fn push(&mut self, part: &[u8]) {
+        let end = self.len.saturating_add(part.len());
+        if self.len <= end && end <= LINE {
+            self.bytes[self.len..end].copy_from_slice(part);
+            self.len = end;
+        }
+    }
+
+    // Words, and a number in plain decimals.
+    fn push_words(&mut self, words: &[u8], number: u64) {
+        self.push(words);
+        let mut digits = Buffer::new();
+        self.push(digits.format(number).as_bytes());
+    }
+}
+
 // The line of a standing.
-fn line_of(alloc: Global, standing: &Standing) -> Result<Vec<u8>, Memory> {
-    let mut line = Vec::new(alloc);
-    push_words(&mut line, phase_of(standing), standing.turn)?;
-    push_words(&mut line, b" of ", standing.turns)?;
-    push_words(&mut line, b"  cost ", standing.cost)?;
-    push_words(&mut line, b"  bound ", standing.bound)?;
-    push_words(
-        &mut line,
-        b"  gap ",
-        standing.cost.saturating_sub(standing.bound),
-    )?;
-    Ok(line)
+fn line_of(standing: &Standing) -> Line {
+    let mut line = Line {
+        bytes: [0; LINE],
+        len: 0,
+    };
+    line.push_words(phase_of(standing), standing.turn);
+    line.push_words(b" of ", standing.turns);
+    line.push_words(b"  cost ", standing.cost);
+    line.push_words(b"  bound ", standing.bound);
+    line.push_words(b"  gap ", standing.cost.saturating_sub(standing.bound));
+    line
 }
 
 impl<W: Write> Watch for TerminalWatch<W> {
@@ -72,10 +93,9 @@ impl<W: Write> Watch for TerminalWatch<W> {
     }
 
     fn turns(&mut self, standing: Standing) {
-        if self.listens
-            && let Ok(line) = line_of(self.alloc, &standing)
-        {
-            self.show(&line);
+        if self.listens {
+            let line = line_of(&standing);
+            self.show(&line.bytes[..line.len.min(LINE)]);
         }
     }
 

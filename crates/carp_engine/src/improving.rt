@@ -18,6 +18,7 @@ use carp_base::{Instance, Memory};
 use cert_format::Cert;
 use deadhead_paths::{Distances, tidy};
 use helper_rounds::ask_all;
+use leaf_adviser::Adviser;
 use plan_model::{Plan, Proposer};
 use progress::Watch;
 use std::alloc::Global;
@@ -37,13 +38,14 @@ use tree_transfer::{keep_named_sets, note_nodes};
 /// 2,000 shores, the limits of a certificate leave room for no more. The only error is want of memory.
 ///
 /// Beside what `solve` takes for helpers and turns, it takes the time of a check of the old tree.
-pub fn improve<P: Proposer, W: Watch>(
+pub fn improve<P: Proposer, A: Adviser, W: Watch>(
     alloc: Global,
     inst: &Instance,
     cert: Cert,
     turns: u64,
     seed: u64,
     helpers: &mut Vec<P>,
+    advisers: &mut Vec<A>,
     watch: &mut W,
 ) -> Result<Solved, Memory>
     requires some_turns { 1 ≤ turns }
@@ -61,7 +63,7 @@ pub fn improve<P: Proposer, W: Watch>(
     ensures ended { IfOk result (λ solved. (solved.cert.bound ≡ solved.cert.cost) ⊎ (turns ≤ solved.turns)) }
 {
     let helped = help(alloc, inst, &cert.plan, seed, helpers, watch)?;
-    take_up(alloc, inst, cert, turns, helped, watch)
+    take_up(alloc, inst, cert, turns, helped, advisers, watch)
 }
 
 // A plan that helpers found, and the distances by cost.
@@ -101,12 +103,13 @@ fn help<P: Proposer, W: Watch>(
 }
 
 // What a search shows that takes up the tree of a good certificate, with a plan that costs no more.
-fn take_up<W: Watch>(
+fn take_up<A: Adviser, W: Watch>(
     alloc: Global,
     inst: &Instance,
     cert: Cert,
     turns: u64,
     helped: Helped,
+    advisers: &mut Vec<A>,
     watch: &mut W,
 ) -> Result<Solved, Memory>
     requires some_turns { 1 ≤ turns }
@@ -140,6 +143,7 @@ fn take_up<W: Watch>(
         sets,
         cert.shores,
         cert.bound,
+        advisers,
         watch,
     )
 }

@@ -17,16 +17,18 @@ use branch_tree::{Search, Turn};
 use carp_base::{Instance, Memory};
 use cut_pool::ShorePool;
 use grown_trees::GrowingNode;
+use leaf_adviser::Adviser;
 use plan_model::Plan;
 use progress::{Standing, Watch};
 use std::alloc::Global;
 
 // The best plan that a search from this plan on finds, and its certificate.
-pub(crate) fn search<W: Watch>(
+pub(crate) fn search<A: Adviser, W: Watch>(
     alloc: Global,
     inst: &Instance,
     turns: u64,
     plan: Plan,
+    advisers: &mut Vec<A>,
     watch: &mut W,
 ) -> Result<Solved, Memory>
     requires some_turns { 1 ≤ turns }
@@ -35,12 +37,12 @@ pub(crate) fn search<W: Watch>(
     ensures { IfOk result (λ solved. IsSearchedAnew inst.now turns plan (certificate_in solved.cert) solved.turns) }
 {
     let search = Search::begin(alloc, inst, turns, plan)?;
-    go_on(alloc, inst, search, watch)
+    go_on(alloc, inst, search, advisers, watch)
 }
 
 // The best plan that a search from this plan and a tree on finds, and its certificate. The budget is so many turns more
 // than the tree has.
-pub(crate) fn search_on<W: Watch>(
+pub(crate) fn search_on<A: Adviser, W: Watch>(
     alloc: Global,
     inst: &Instance,
     turns: u64,
@@ -49,6 +51,7 @@ pub(crate) fn search_on<W: Watch>(
     sets: Vec<PriceSet>,
     shores: ShorePool,
     least: u64,
+    advisers: &mut Vec<A>,
     watch: &mut W,
 ) -> Result<Solved, Memory>
     requires some_turns { 1 ≤ turns }
@@ -58,21 +61,23 @@ pub(crate) fn search_on<W: Watch>(
     ensures { IfOk result (λ solved. IsSearched inst.now least (min (turns_in (plan_cost inst.now plan) nodes.now + turns) 1048576) plan (certificate_in solved.cert) solved.turns) }
 {
     let search = Search::resume(alloc, inst, turns, plan, nodes, sets, shores, least)?;
-    go_on(alloc, inst, search, watch)
+    go_on(alloc, inst, search, advisers, watch)
 }
 
 // What a search finds that goes on until each leaf is closed or its budget is spent, and its certificate.
-fn go_on<W: Watch>(
+fn go_on<A: Adviser, W: Watch>(
     alloc: Global,
     inst: &Instance,
     mut search: Search,
+    advisers: &mut Vec<A>,
     watch: &mut W,
 ) -> Result<Solved, Memory>
     requires { IsSearch inst.now search }
     ensures { IfOk result (λ solved. IsSearched inst.now search.least search.turns search.best (certificate_in solved.cert) solved.turns) }
 {
+    restart(alloc, advisers);
     let turns = search.budget();
-    let taken = take_turns(inst, turns, &mut search, watch);
+    let taken = take_turns(inst, turns, &mut search, advisers, watch);
     sum_up(alloc, inst, search, taken)
 }
 
@@ -95,6 +100,13 @@ fn sum_up(
     Ok(solved)
 }
 
+// Tells all advisers that a search begins.
+fn restart<A: Adviser>(alloc: Global, advisers: &mut Vec<A>) {
+    for adviser in advisers.iter_mut() {
+        adviser.restart(alloc);
+    }
+}
+
 // Tells a watch where a search stands.
 fn tell<W: Watch>(search: &Search, watch: &mut W) {
     if watch.listens() {
@@ -109,10 +121,11 @@ fn tell<W: Watch>(search: &Search, watch: &mut W) {
 
 // Takes turns until each leaf is closed or the budget is spent. The watch is told before the first turn, which may take
 // most of the time, and after each one.
-fn take_turns<W: Watch>(
+fn take_turns<A: Adviser, W: Watch>(
     inst: &Instance,
     turns: u64,
     search: &mut Search,
+    advisers: &mut Vec<A>,
     watch: &mut W,
 ) -> Result<(), Memory>
     requires search { IsSearch inst.now search.old }
@@ -126,7 +139,7 @@ fn take_turns<W: Watch>(
 {
     tell(search, watch);
     while search.done() < turns {
-        let turn = take_turn(inst, search)?;
+        let turn = take_turn(inst, search, advisers)?;
         tell(search, watch);
         if turn == Turn::Done {
             return Ok(());
@@ -135,8 +148,12 @@ fn take_turns<W: Watch>(
     Ok(())
 }
 
-// Takes a turn, and then the plan that the program of its leaf showed, if that is cheaper.
-fn take_turn(inst: &Instance, search: &mut Search) -> Result<Turn, Memory>
+// Takes a turn, and then the plan that an adviser offers, if that is cheaper.
+fn take_turn<A: Adviser>(
+    inst: &Instance,
+    search: &mut Search,
+    advisers: &mut Vec<A>,
+) -> Result<Turn, Memory>
     requires search { IsSearch inst.now search.old }
     requires left { search.old.done < search.old.turns }
     ensures search { IsSearch inst.now search.new }
@@ -146,11 +163,11 @@ fn take_turn(inst: &Instance, search: &mut Search) -> Result<Turn, Memory>
     ensures least { search.new.least ≡ search.old.least }
     ensures turn { IfOk result (HasTurned (state_of search.old) (state_of search.new)) }
 {
-    let turn = search.step(inst)?;
+    let turn = search.step_with(inst, advisers)?;
     match turn {
         Turn::Done => Ok(Turn::Done),
         Turn::Closed | Turn::Split => {
-            search.take_plan(inst)?;
+            search.take_plan(inst, advisers)?;
             Ok(turn)
         }
     }

@@ -14,6 +14,7 @@ use carp_base::{Instance, Memory};
 use cert_format::Cert;
 use deadhead_paths::{Distances, single_tours, tidy};
 use helper_rounds::ask_all;
+use leaf_adviser::{Adviser, NoAdvice};
 use plan_model::{Plan, Proposer};
 use progress::Watch;
 use std::alloc::Global;
@@ -37,10 +38,10 @@ pub struct Solved {
 /// error is want of memory.
 ///
 /// Then a tree of decisions is searched by turns (`branch_tree`), until it shows the cost of the best plan or its turns
-/// reach the budget, which is 1 to 1,048,576. After each turn the plan that the program of its leaf shows is taken, if
-/// there is one that is cheaper. The turns are the inner nodes of the tree and its leaves that show the
+/// reach the budget, which is 1 to 1,048,576. The turns are the inner nodes of the tree and its leaves that show the
 /// cost by themselves. So the bound is below the cost only if the budget is spent. With m required edges, a budget of
-/// `2^(m (m - 1) / 2 + 5)` is never spent. A budget can be so large if m is at most 6.
+/// `2^(m (m - 1) / 2 + 5)` is never spent. A budget can be so large if m is at most 6. No advisers are asked
+/// ([`solve_with`]).
 ///
 /// Beside what the helpers take, it takes time in proportion to n (n + m) log n with n vertices and m edges, that of
 /// the floors (`dual_master::floors`), and that of the turns.
@@ -73,13 +74,42 @@ pub fn solve<P: Proposer, W: Watch>(
     ensures ended { IfOk result (λ solved. (solved.cert.bound ≡ solved.cert.cost) ⊎ (turns ≤ solved.turns)) }
     ensures whole { 2 ^ (inst.now.required * (inst.now.required - 1) / 2 + 5) ≤ turns → IfOk result (λ solved. solved.cert.bound ≡ solved.cert.cost) }
 {
+    let mut none: Vec<NoAdvice> = Vec::new(alloc);
+    solve_with(alloc, inst, turns, seed, helpers, &mut none, watch)
+}
+
+/// The same with advisers, who are asked for prices of leaves, for splits and for tours (`branch_tree`). They need not be
+/// trusted: what they offer is judged. After each turn the plan of the tours that an adviser offers is taken, if it is
+/// lawful and cheaper. The advisers are told that a search begins. No clause speaks of them.
+pub fn solve_with<P: Proposer, A: Adviser, W: Watch>(
+    alloc: Global,
+    inst: &Instance,
+    turns: u64,
+    seed: u64,
+    helpers: &mut Vec<P>,
+    advisers: &mut Vec<A>,
+    watch: &mut W,
+) -> Result<Solved, Memory>
+    requires some_turns { 1 ≤ turns }
+    requires turns_in_range { turns ≤ 1048576 }
+    ensures same { map P.id helpers.new.items ≡ map P.id helpers.old.items }
+    ensures seeds { OnOk result (EachIndex helpers.new.items (λ k. slice_index (map P.seed helpers.new.items) k ≡ (seed + k) % 2 ^ 64)) }
+    ensures asked { OnOk result (All (λ helper. 1 ≤ P.asked helper) helpers.new.items) }
+    ensures few_rounds { OnOk result (All (λ helper. P.asked helper ≤ 4) helpers.new.items) }
+    ensures fouls { OnOk result (All (λ helper. (P.tally helper).fouls ≤ 1) helpers.new.items) }
+    ensures least { IfOk result (λ solved. All (λ helper. IsAtMost solved.cert.cost (P.tally helper).least) helpers.new.items) }
+    ensures rounds { IfOk result (λ solved. AreAskedFromSingles inst.now (length helpers.old.items) (standings P.asked P.tally helpers.new.items) solved.cert.cost) }
+    ensures sound { IfOk result (λ solved. IsSound inst.now (certificate_in solved.cert) solved.turns) }
+    ensures ended { IfOk result (λ solved. (solved.cert.bound ≡ solved.cert.cost) ⊎ (turns ≤ solved.turns)) }
+    ensures whole { 2 ^ (inst.now.required * (inst.now.required - 1) / 2 + 5) ≤ turns → IfOk result (λ solved. solved.cert.bound ≡ solved.cert.cost) }
+{
     known_laws();
     inst.validity();
     let dist = cost_distances(alloc, inst)?;
     let mut plan = first_plan(alloc, inst, &dist)?;
     watch.asks();
     ask_all(alloc, inst, &dist, &mut plan, helpers, seed)?;
-    search(alloc, inst, turns, plan, watch)
+    search(alloc, inst, turns, plan, advisers, watch)
 }
 
 // One tour for each required edge, tidied.

@@ -1,3 +1,2 @@
 pub mod Groups
 pub mod Points
-pub mod Proposals

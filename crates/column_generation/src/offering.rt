@@ -1,11 +1,11 @@
 // The best point as a price set.
 ghost use Rattle.std.specs.Prelude.{◌≡◌, All, IfOk, length};
+ghost use Rattle.cut_pool.specs.Pools.{IsGrown};
 ghost use Rattle.cut_pool.specs.Shores.{Belongs};
 ghost use Rattle.branch_rules.specs.Limits.{IsPriceNumber};
 ghost use Rattle.route_pricing.specs.Pricing.{IsServicePrice};
-ghost use Rattle.shore_prices.specs.Proposals.{IsGrown};
+ghost use Rattle.leaf_adviser.specs.Offers.{IsOffer};
 ghost use Rattle.column_generation.specs.Points.{IsPoint};
-ghost use Rattle.column_generation.specs.Proposals.{IsGroupedProposal};
 
 use crate::constraints::{Constraint, Demand};
 use crate::groups::weighted_groups;
@@ -13,8 +13,7 @@ use crate::points::{Point, negative, sum_within};
 use branch_rules::PriceSet;
 use carp_base::{Instance, Memory};
 use cut_pool::{MOST_SHORES, Shore, ShorePool};
-use price_points::{UNIT, number_at};
-use shore_prices::{list_weights, number_in};
+use price_points::{UNIT, list_weights, number_at, number_in};
 use std::alloc::Global;
 
 /// A point as a price set, with its shores placed in the pool.
@@ -27,7 +26,7 @@ pub(crate) fn offer(
 ) -> Result<PriceSet, Memory>
     requires point { IsPoint inst.now point.now }
     requires belong { All (Belongs inst.now) pool.old }
-    ensures proposed { IfOk result (IsGroupedProposal inst.now pool.new) }
+    ensures offer { IfOk result (IsOffer inst.now pool.new) }
     ensures grown { IsGrown pool.old pool.new }
     ensures belong { All (Belongs inst.now) pool.new }
 {

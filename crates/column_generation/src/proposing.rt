@@ -1,10 +1,10 @@
 // When a point is proposed, and what value is enough.
 ghost use Rattle.std.specs.Prelude.{All, IfOk, IfSome};
+ghost use Rattle.cut_pool.specs.Pools.{IsGrown};
 ghost use Rattle.cut_pool.specs.Shores.{Belongs};
 ghost use Rattle.branch_rules.specs.Limits.{IsShoreOf};
-ghost use Rattle.shore_prices.specs.Proposals.{IsGrown};
+ghost use Rattle.leaf_adviser.specs.Offers.{IsOffer};
 ghost use Rattle.column_generation.specs.Points.{IsGeneration};
-ghost use Rattle.column_generation.specs.Proposals.{IsGroupedProposal};
 
 use crate::generating::Generation;
 use crate::offering::offer;
@@ -31,7 +31,7 @@ impl Generation {
         requires belong { All (Belongs inst.now) pool.old }
         requires shores { All (λ w. IsShoreOf inst.now pool.old w.shore) start.now.weights }
         requires generation { IsGeneration inst.now self.now }
-        ensures proposed { IfOk result (λ set. IfSome set (IsGroupedProposal inst.now pool.new)) }
+        ensures offer { IfOk result (λ set. IfSome set (IsOffer inst.now pool.new)) }
         ensures grown { IsGrown pool.old pool.new }
         ensures belong { All (Belongs inst.now) pool.new }
     {

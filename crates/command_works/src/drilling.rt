@@ -10,10 +10,11 @@ ghost use Rattle.command_works.specs.Outputs.{output_in};
 
 use crate::delivery::Delivery;
 use carp_base::{Instance, Memory};
-use carp_engine::{Solved, solve};
+use carp_engine::{Solved, solve_with};
 use cert_checker::{Answer, check, good_has_no_reason};
 use cert_format::Cert;
 use command_jobs::Status;
+use leaf_adviser::Adviser;
 use plan_model::Proposer;
 use plan_print::{push_line, push_words};
 use progress::Watch;
@@ -22,11 +23,12 @@ use town_maker::town;
 
 /// Solves the town of a number with so many turns, and with the aid of the helpers, which are seeded from it on. Checks
 /// the certificate, and sums up what came of it.
-pub(crate) fn drill<'a, P: Proposer, W: Watch>(
+pub(crate) fn drill<'a, P: Proposer, A: Adviser, W: Watch>(
     alloc: Global,
     turns: u64,
     seed: u64,
     helpers: &mut Vec<P>,
+    advisers: &mut Vec<A>,
     watch: &mut W,
 ) -> Result<Delivery<'a>, Memory>
     requires some_turns { 1 ≤ turns }
@@ -38,16 +40,17 @@ pub(crate) fn drill<'a, P: Proposer, W: Watch>(
     ensures fouls { OnOk result (All (λ helper. (P.tally helper).fouls ≤ 1) helpers.new.items) }
 {
     let inst = town(alloc, seed)?;
-    drill_town(alloc, turns, seed, &inst, helpers, watch)
+    drill_town(alloc, turns, seed, &inst, helpers, advisers, watch)
 }
 
 // The same for a town that is made.
-fn drill_town<'a, P: Proposer, W: Watch>(
+fn drill_town<'a, P: Proposer, A: Adviser, W: Watch>(
     alloc: Global,
     turns: u64,
     seed: u64,
     inst: &Instance,
     helpers: &mut Vec<P>,
+    advisers: &mut Vec<A>,
     watch: &mut W,
 ) -> Result<Delivery<'a>, Memory>
     requires town { inst.now ≡ town_of seed }
@@ -59,7 +62,7 @@ fn drill_town<'a, P: Proposer, W: Watch>(
     ensures asked { OnOk result (All (λ helper. 1 ≤ P.asked helper) helpers.new.items) }
     ensures fouls { OnOk result (All (λ helper. (P.tally helper).fouls ≤ 1) helpers.new.items) }
 {
-    let solved = solve(alloc, inst, turns, seed, helpers, watch)?;
+    let solved = solve_with(alloc, inst, turns, seed, helpers, advisers, watch)?;
     deliver_checked(alloc, seed, turns, inst, &solved)
 }
 

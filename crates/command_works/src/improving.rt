@@ -12,6 +12,7 @@ use carp_base::{Instance, Memory};
 use carp_engine::improve;
 use cert_format::Cert;
 use command_jobs::Status;
+use leaf_adviser::Adviser;
 use plan_model::Proposer;
 use progress::Watch;
 use std::alloc::Global;
@@ -19,7 +20,7 @@ use std::alloc::Global;
 /// Goes on from a certificate that is good for the instance, with so many turns more and with the aid of the helpers,
 /// which are seeded from the seed on. Builds the texts of the certificate that comes of it, which is to be kept under
 /// this name, and of its report.
-pub(crate) fn improve_instance<'a, P: Proposer, W: Watch>(
+pub(crate) fn improve_instance<'a, P: Proposer, A: Adviser, W: Watch>(
     alloc: Global,
     inst: &Instance,
     cert: Cert,
@@ -27,6 +28,7 @@ pub(crate) fn improve_instance<'a, P: Proposer, W: Watch>(
     turns: u64,
     seed: u64,
     helpers: &mut Vec<P>,
+    advisers: &mut Vec<A>,
     watch: &mut W,
 ) -> Result<Delivery<'a>, Memory>
     requires some_turns { 1 ≤ turns }
@@ -40,6 +42,6 @@ pub(crate) fn improve_instance<'a, P: Proposer, W: Watch>(
     ensures asked { OnOk result (All (λ helper. 1 ≤ P.asked helper) helpers.new.items) }
     ensures fouls { OnOk result (All (λ helper. (P.tally helper).fouls ≤ 1) helpers.new.items) }
 {
-    let better = improve(alloc, inst, cert, turns, seed, helpers, watch)?;
+    let better = improve(alloc, inst, cert, turns, seed, helpers, advisers, watch)?;
     deliver_found(alloc, inst, &better, improved)
 }

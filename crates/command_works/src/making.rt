@@ -14,6 +14,7 @@ use crate::rounds::spell_round;
 use crate::solving::solve_instance;
 use carp_base::Memory;
 use command_jobs::Job;
+use leaf_adviser::Adviser;
 use plan_model::Proposer;
 use progress::Watch;
 use std::alloc::Global;
@@ -24,10 +25,11 @@ use std::alloc::Global;
 /// The only error is want of memory. It takes the time of what the job asks for ([`carp_engine::solve`],
 /// [`carp_engine::improve`], [`fleet_pack::pack`], [`cert_transfer::carry`]) and of the texts, all of which are in
 /// memory at once.
-pub fn make<'a, P: Proposer, W: Watch>(
+pub fn make<'a, P: Proposer, A: Adviser, W: Watch>(
     alloc: Global,
     job: Job<'a>,
     helpers: &mut Vec<P>,
+    advisers: &mut Vec<A>,
     watch: &mut W,
 ) -> Result<Delivery<'a>, Memory>
     requires { IsSoundJob job }
@@ -45,16 +47,19 @@ pub fn make<'a, P: Proposer, W: Watch>(
             improved,
             turns,
             seed,
-        } => improve_instance(alloc, &inst, cert, improved, turns, seed, helpers, watch),
-        other => make_lent(alloc, &other, helpers, watch),
+        } => improve_instance(
+            alloc, &inst, cert, improved, turns, seed, helpers, advisers, watch,
+        ),
+        other => make_lent(alloc, &other, helpers, advisers, watch),
     }
 }
 
 // Does a job that only reads what was read for it. Each arm of a function that owns the job would drop it.
-fn make_lent<'a, P: Proposer, W: Watch>(
+fn make_lent<'a, P: Proposer, A: Adviser, W: Watch>(
     alloc: Global,
     job: &Job<'a>,
     helpers: &mut Vec<P>,
+    advisers: &mut Vec<A>,
     watch: &mut W,
 ) -> Result<Delivery<'a>, Memory>
     requires sound { IsSoundJob job.now }
@@ -72,11 +77,11 @@ fn make_lent<'a, P: Proposer, W: Watch>(
             cert,
             turns,
             seed,
-        } => solve_instance(alloc, inst, cert, *turns, *seed, helpers, watch),
+        } => solve_instance(alloc, inst, cert, *turns, *seed, helpers, advisers, watch),
         Job::Check { cost, bound } => accept(alloc, *cost, *bound),
         Job::Sheet { inst, plan } => spell_sheet(alloc, inst, plan),
         Job::Make { file, seed } => keep_town(alloc, file, *seed),
-        Job::Drill { turns, seed } => drill(alloc, *turns, *seed, helpers, watch),
+        Job::Drill { turns, seed } => drill(alloc, *turns, *seed, helpers, advisers, watch),
         Job::Upgrade { cert, renewed } => renew(alloc, cert, renewed),
         Job::Postman { laid } => spell_round(alloc, laid),
         Job::Fleet { inst, turns } => count_fleet(alloc, inst, *turns),

@@ -8,9 +8,10 @@ ghost use Rattle.command_works.specs.Outputs.{output_in};
 
 use crate::delivery::{Delivery, Kept};
 use carp_base::{Instance, Memory};
-use carp_engine::{Solved, solve};
+use carp_engine::{Solved, solve_with};
 use cert_format::write_cert;
 use command_jobs::Status;
+use leaf_adviser::Adviser;
 use plan_model::Proposer;
 use plan_print::report;
 use progress::Watch;
@@ -18,13 +19,14 @@ use std::alloc::Global;
 
 /// Solves an instance with so many turns, and with the aid of the helpers, which are seeded from the seed on. Builds
 /// the texts of its certificate, which is to be kept under this name, and of its report.
-pub(crate) fn solve_instance<'a, P: Proposer, W: Watch>(
+pub(crate) fn solve_instance<'a, P: Proposer, A: Adviser, W: Watch>(
     alloc: Global,
     inst: &Instance,
     cert: &'a str,
     turns: u64,
     seed: u64,
     helpers: &mut Vec<P>,
+    advisers: &mut Vec<A>,
     watch: &mut W,
 ) -> Result<Delivery<'a>, Memory>
     requires some_turns { 1 ≤ turns }
@@ -35,7 +37,7 @@ pub(crate) fn solve_instance<'a, P: Proposer, W: Watch>(
     ensures asked { OnOk result (All (λ helper. 1 ≤ P.asked helper) helpers.new.items) }
     ensures fouls { OnOk result (All (λ helper. (P.tally helper).fouls ≤ 1) helpers.new.items) }
 {
-    let solved = solve(alloc, inst, turns, seed, helpers, watch)?;
+    let solved = solve_with(alloc, inst, turns, seed, helpers, advisers, watch)?;
     deliver_found(alloc, inst, &solved, cert)
 }
 

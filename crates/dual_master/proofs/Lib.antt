@@ -18,4 +18,5 @@ pub mod Sizes
 pub mod PlacedSingles
 pub mod Chosen
 pub mod Raised
+pub mod Offered
 pub mod Small

@@ -5,7 +5,7 @@ use Rattle.std.proofs.lemmas.Bool.{cases_lt}
 use Rattle.std.proofs.lemmas.Int.{ints}
 use Rattle.std.proofs.lemmas.List.Elements.{All-nil, All-weaker}
 use Rattle.carp_base.specs.Problem.{Problem}
-use Rattle.cut_pool.specs.Pools.{IsShoreNumber}
+use Rattle.cut_pool.specs.Pools.{IsGrown, IsShoreNumber}
 use Rattle.decision_chains.specs.declared.decision.Decision.{Decision}
 use Rattle.branch_rules.specs.Bonds.{GroupWeight, IsGroup}
 use Rattle.branch_rules.specs.Decisions.{rules_of}
@@ -13,7 +13,6 @@ use Rattle.branch_rules.specs.Laws.{FitsBranch}
 use Rattle.branch_rules.specs.Limits.{IsShoreOf}
 use Rattle.branch_rules.specs.Prices.{Prices, value_of}
 use Rattle.branch_rules.specs.declared.weight.Weight.{Weight}
-use Rattle.shore_prices.specs.Proposals.{IsGrown}
 use Rattle.dual_master.specs.Growth.{GrowthKeepsSets, IsAsBefore}
 use Rattle.dual_master.specs.Raising.{HasGroupsFrom, HasGroupsOf, IsAccepted, IsNoLower, IsRaised}
 use Rattle.dual_master.proofs.Chosen.{shore_of_grown}
@@ -109,6 +108,14 @@ module _ (law : GrowthKeepsSets) (p : Problem) (branch : List Decision) (pool af
   -- and what is no lower than this set now was no lower before
   pub no_lower_since : (later : List (List ℕ)) (other : Prices) → IsNoLower p branch after set later other → IsNoLower p branch pool set later other
   no_lower_since later other no_lower = subst (λ (z : ℤ). (pos other.unit *ℤ z) ≤ℤ (pos set.unit *ℤ value_of (rules_of p later branch) other)) as_before.value no_lower
+
+  -- what is no less than the set was is no less than it is
+  pub no_lower_now : (other : Prices) → IsNoLower p branch pool set after other → IsNoLower p branch after set after other
+  no_lower_now other no_lower = subst (λ (z : ℤ). (pos other.unit *ℤ z) ≤ℤ (pos set.unit *ℤ value_of (rules_of p after branch) other)) (sym as_before.value) no_lower
+
+  -- and what the set is no less than it stays no less than
+  pub worth_as_much : (start : Prices) → IsNoLower p branch pool start pool set → IsNoLower p branch pool start after set
+  worth_as_much start no_lower = subst (λ (z : ℤ). (pos set.unit *ℤ value_of (rules_of p pool branch) start) ≤ℤ (pos start.unit *ℤ z)) (sym as_before.value) no_lower
 
   pub itself : IsNoLower p branch pool set after set
   itself = no_lower_before set (omega (arith, ints))

@@ -1,5 +1,5 @@
 -- Price sets that are raised, over a pool that may grow.
-use Rattle.std.specs.Prelude.{◌≡◌, ◌⊎◌, ℕ, List, pos, ◌*ℤ◌, ◌≤ℤ◌}
+use Rattle.std.specs.Prelude.{◌≡◌, ◌⊎◌, ℕ, List, Option, IfSome, pos, ◌*ℤ◌, ◌≤ℤ◌}
 use Rattle.std.specs.List.{All}
 use Rattle.carp_base.specs.Problem.{Problem}
 use Rattle.decision_chains.specs.declared.decision.Decision.{Decision}
@@ -34,3 +34,19 @@ pub record IsAccepted (p : Problem) (branch : List Decision) (pool : List (List 
   pub same : set ≡ offered
   pub fits : FitsBranch p pool branch offered
   pub no_lower : IsNoLower p branch pool start pool offered
+
+-- the set fits under the branch, and its shores are in the pool
+pub record IsHeld (p : Problem) (branch : List Decision) (pool : List (List ℕ)) (set : Prices) : Type 0 where
+  pub fits : FitsBranch p pool branch set
+  pub shores : All (λ w. IsShoreOf p pool w.shore) set.weights
+
+-- so does a set with groups of the instance that is worth no less than the start, over one pool
+pub record IsBetter (p : Problem) (branch : List Decision) (pool : List (List ℕ)) (start set : Prices) : Type 0 where
+  pub held : IsHeld p branch pool set
+  pub groups : HasGroupsOf p set
+  pub no_lower : IsNoLower p branch pool start pool set
+
+-- where a start and the best offer so far stand, over one pool
+pub record IsStanding (p : Problem) (branch : List Decision) (pool : List (List ℕ)) (start : Prices) (best : Option Prices) : Type 0 where
+  pub held : IsHeld p branch pool start
+  pub better : IfSome best (IsBetter p branch pool start)

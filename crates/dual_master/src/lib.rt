@@ -14,8 +14,8 @@
 //!
 //! [`floors`] takes the set of greatest value, and places the shores of one vertex behind those of the floor. A pool
 //! may grow without any change of the sets whose shores it held ([`growth_keeps_sets`]). [`raise_with`] looks for
-//! a better set under a branch, with programs that are kept from leaf to leaf, and raises each number of it to its limit;
-//! [`raise`] does so once, with none kept.
+//! a better set under a branch among the offers of advisers (`leaf_adviser`), and raises each number of it to its limit;
+//! [`raise`] does so with none.
 //!
 //! - `shell`, `ratio`, `join`: the sets of the floors, over `services` and `placing` (prices of services, and shores
 //!   that are placed in a pool with their weights).
@@ -44,6 +44,6 @@ pub use best::floors;
 pub use floor_laws::{better_sets_reach_as_much, level_sets_are_there, packing_weights_fit};
 pub use join::join_prices;
 pub use laws::growth_keeps_sets;
-pub use raising::{Aim, raise, raise_with};
+pub use raising::{raise, raise_with};
 pub use ratio::ratio_prices;
 pub use shell::shell_prices;

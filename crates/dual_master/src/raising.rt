@@ -1,44 +1,31 @@
 // Price sets that are raised.
-ghost use Rattle.std.specs.Prelude.{◌≡◌, ◌≤◌, All, IfOk, IfSome, IsTrue, length};
+ghost use Rattle.std.specs.Prelude.{◌≡◌, All, IfOk, IfSome, IsTrue, length, unwrap_or};
+ghost use Rattle.cut_pool.specs.Pools.{IsGrown};
 ghost use Rattle.cut_pool.specs.Shores.{Belongs};
 ghost use Rattle.branch_rules.specs.Laws.{FitsBranch};
 ghost use Rattle.branch_rules.specs.Limits.{IsShoreOf};
 ghost use Rattle.decision_chains.specs.Pairs.{ArePairsIn};
 ghost use Rattle.route_pricing.specs.Tables.{IsRoom};
-ghost use Rattle.shore_prices.specs.Proposals.{IsGrown};
 ghost use Rattle.tight_prices.specs.Tight.{IsTight};
-ghost use Rattle.leaf_programs.specs.Leaves.{IsLeaf};
-ghost use Rattle.dual_master.specs.Raising.{HasGroupsFrom, IsAccepted, IsNoLower, IsRaised};
+ghost use Rattle.leaf_adviser.specs.Leaves.{AreOf, IsLeaf};
+ghost use Rattle.dual_master.specs.Raising.{HasGroupsFrom, IsAccepted, IsHeld, IsNoLower, IsRaised, IsStanding};
 
 use crate::laws::growth_keeps_sets;
 use crate::values::{is_no_more, value_under};
 use branch_rules::{Branch, PriceSet};
 use carp_base::{Instance, Memory};
 use cut_pool::ShorePool;
-use leaf_programs::{Leaf, LeafPrograms};
-use price_ascent::ascend;
+use leaf_adviser::{Adviser, Aim, Leaf, NoAdvice};
 use road_network::Network;
 use route_pricing::Table;
-use shore_prices::shore_prices;
 use std::alloc::Global;
 use tight_prices::{fits, tighten};
-
-/// How far a price set is raised.
-#[derive(Clone, Copy)]
-pub struct Aim {
-    /// The number by which the leaf names the set that it starts from.
-    pub number: u32,
-    /// Rounds of search for shores, and steps of the ascent. If it is 0, there is neither.
-    pub rounds: u32,
-    /// A value that shows this bound is enough.
-    pub cost: u64,
-}
 
 /// A price set that fits under a branch and whose value, divided by its denominator, is no less than that of a start
 /// that fits there. No single number of it can be raised: neither a price, nor the weight of a shore of one vertex that
 /// the pool held before and over which some deadhead is needed (`tight_prices`).
 ///
-/// It is what [`raise_with`] gives with programs that know no leaf.
+/// It is what [`raise_with`] gives with no advisers, so the number of rounds says nothing.
 pub fn raise(
     alloc: Global,
     inst: &Instance,
@@ -70,33 +57,29 @@ pub fn raise(
         rounds,
         cost: u64::MAX,
     };
-    let mut programs = LeafPrograms::new(alloc);
-    raise_with(alloc, &leaf, table, pool, start, aim, &mut programs)
+    let mut none: Vec<NoAdvice> = Vec::new(alloc);
+    raise_with(alloc, &leaf, table, pool, start, aim, &mut none)
 }
 
-/// Such a price set for a leaf of a tree that names the start by a number, with the programs for its leaves.
+/// Such a price set for a leaf of a tree that names the start by a number, with the offers of advisers.
 ///
-/// If `rounds` is above 0, it solves the linear program over shores in up to so many rounds of search for shores that
-/// it leaves short (`shore_prices`), and takes that set if it fits and is better. From the better one prices and
-/// weights ascend along relaxed tours in up to so many steps (`price_ascent`), and it takes that set in the same way.
-/// Then the linear program over tours, shores and groups goes on from where it stood at the leaf's parent, or begins
-/// with the best one of these (`leaf_programs`), if the instance is small enough for it. It takes that set in the same
-/// way. A value that shows `cost` is enough for it. Shores with a weight are placed in the pool behind those that it
-/// held, while it holds fewer than 2,000. The weights on groups are those of the start, or they are on groups of the
-/// instance.
+/// It asks each adviser once, in the order of the list, with the best set so far. An offer takes the place of the best
+/// one if it fits and its value divided by its denominator is greater. The best one is made tight at the end. Shores
+/// with a weight are placed in the pool behind those that it held, while it holds fewer than 2,000. The weights on
+/// groups are those of the start, or they are on groups of the instance.
 ///
 /// It asks for a leaf, for a table that was made for its instance, which it fills, and for a pool whose shores belong to
-/// the instance. The shores that it adds belong to the instance too. Programs that were made for another instance are no
-/// matter to what it promises. The only error is want of memory. It takes the time of the rounds, of
-/// `price_ascent::ascend`, of `leaf_programs::LeafPrograms::raise` and of `tight_prices::tighten`.
-pub fn raise_with(
+/// the instance. The shores that it adds belong to the instance too. What the advisers are is no matter to what it
+/// promises. The only error is want of memory. It takes the time of the advisers, of a fill of the table for each of
+/// them, and of `tight_prices::tighten`.
+pub fn raise_with<A: Adviser>(
     alloc: Global,
     leaf: &Leaf<'_>,
     table: &mut Table,
     pool: &mut ShorePool,
     start: &PriceSet,
     aim: Aim,
-    programs: &mut LeafPrograms,
+    advisers: &mut Vec<A>,
 ) -> Result<PriceSet, Memory>
     requires leaf { IsLeaf leaf.now }
     requires room { IsRoom leaf.now.inst.now table.old }
@@ -113,165 +96,97 @@ pub fn raise_with(
 {
     growth_keeps_sets();
     let known = pool.len();
-    let better = by_program(alloc, leaf, table, pool, start, aim.rounds)?;
-    match better {
-        Some(set) => climb(alloc, leaf, table, pool, &set, aim, programs, known),
-        None => climb(alloc, leaf, table, pool, start, aim, programs, known),
-    }
-}
-
-// The same from a set that fits, by the ascent and by programs; the pass is over the first so many shores of the pool.
-fn climb(
-    alloc: Global,
-    leaf: &Leaf<'_>,
-    table: &mut Table,
-    pool: &mut ShorePool,
-    start: &PriceSet,
-    aim: Aim,
-    programs: &mut LeafPrograms,
-    known: u32,
-) -> Result<PriceSet, Memory>
-    requires leaf { IsLeaf leaf.now }
-    requires room { IsRoom leaf.now.inst.now table.old }
-    requires belong { All (Belongs leaf.now.inst.now) pool.old }
-    requires shores { All (λ w. IsShoreOf leaf.now.inst.now pool.old w.shore) start.now.weights }
-    requires fits { FitsBranch leaf.now.inst.now pool.old leaf.now.branch.now start.now }
-    requires known { known ≤ length pool.old }
-    ensures tight { IfOk result (IsTight leaf.now.inst.now pool.new known leaf.now.branch.now) }
-    ensures no_lower { IfOk result (IsNoLower leaf.now.inst.now leaf.now.branch.now pool.old start.now pool.new) }
-    ensures groups { IfOk result (HasGroupsFrom leaf.now.inst.now start.now) }
-    ensures shores { IfOk result (λ set. All (λ w. IsShoreOf leaf.now.inst.now pool.new w.shore) set.weights) }
-    ensures grown { IsGrown pool.old pool.new }
-    ensures belong { All (Belongs leaf.now.inst.now) pool.new }
-    ensures room { IsRoom leaf.now.inst.now table.new }
-{
-    growth_keeps_sets();
-    let better = by_ascent(alloc, leaf, table, pool, start, aim.rounds)?;
-    match better {
-        Some(set) => generate(alloc, leaf, table, pool, &set, aim, programs, known),
-        None => generate(alloc, leaf, table, pool, start, aim, programs, known),
-    }
-}
-
-// The same from a set that fits, by programs alone.
-fn generate(
-    alloc: Global,
-    leaf: &Leaf<'_>,
-    table: &mut Table,
-    pool: &mut ShorePool,
-    start: &PriceSet,
-    aim: Aim,
-    programs: &mut LeafPrograms,
-    known: u32,
-) -> Result<PriceSet, Memory>
-    requires leaf { IsLeaf leaf.now }
-    requires room { IsRoom leaf.now.inst.now table.old }
-    requires belong { All (Belongs leaf.now.inst.now) pool.old }
-    requires shores { All (λ w. IsShoreOf leaf.now.inst.now pool.old w.shore) start.now.weights }
-    requires fits { FitsBranch leaf.now.inst.now pool.old leaf.now.branch.now start.now }
-    requires known { known ≤ length pool.old }
-    ensures tight { IfOk result (IsTight leaf.now.inst.now pool.new known leaf.now.branch.now) }
-    ensures no_lower { IfOk result (IsNoLower leaf.now.inst.now leaf.now.branch.now pool.old start.now pool.new) }
-    ensures groups { IfOk result (HasGroupsFrom leaf.now.inst.now start.now) }
-    ensures shores { IfOk result (λ set. All (λ w. IsShoreOf leaf.now.inst.now pool.new w.shore) set.weights) }
-    ensures grown { IsGrown pool.old pool.new }
-    ensures belong { All (Belongs leaf.now.inst.now) pool.new }
-    ensures room { IsRoom leaf.now.inst.now table.new }
-{
-    growth_keeps_sets();
-    let better = by_programs(alloc, leaf, table, pool, start, aim, programs)?;
+    let best = best_offer(alloc, leaf, table, pool, start, aim, advisers)?;
     let Leaf { inst, net, branch } = *leaf;
-    match better {
+    match best {
         Some(set) => tighten(alloc, inst, net, table, pool, branch, &set, known),
         None => tighten(alloc, inst, net, table, pool, branch, start, known),
     }
 }
 
-// The set that the program over shores proposes, where it fits and is better than the start.
-fn by_program(
-    alloc: Global,
-    leaf: &Leaf<'_>,
-    table: &mut Table,
-    pool: &mut ShorePool,
-    start: &PriceSet,
-    rounds: u32,
-) -> Result<Option<PriceSet>, Memory>
-    requires leaf { IsLeaf leaf.now }
-    requires room { IsRoom leaf.now.inst.now table.old }
-    requires belong { All (Belongs leaf.now.inst.now) pool.old }
-    requires shores { All (λ w. IsShoreOf leaf.now.inst.now pool.old w.shore) start.now.weights }
-    requires fits { FitsBranch leaf.now.inst.now pool.old leaf.now.branch.now start.now }
-    ensures raised { IfOk result (λ better. IfSome better (IsRaised leaf.now.inst.now leaf.now.branch.now pool.old start.now pool.new)) }
-    ensures grown { IsGrown pool.old pool.new }
-    ensures belong { All (Belongs leaf.now.inst.now) pool.new }
-    ensures room { IsRoom leaf.now.inst.now table.new }
-{
-    growth_keeps_sets();
-    if rounds == 0 {
-        return Ok(None);
-    }
-    let offered = shore_prices(alloc, leaf.inst, leaf.net, pool, leaf.branch, rounds)?;
-    if_better(alloc, leaf, table, pool, offered, start)
-}
-
-// The set that the ascent proposes, if it fits and is better than the start.
-fn by_ascent(
-    alloc: Global,
-    leaf: &Leaf<'_>,
-    table: &mut Table,
-    pool: &mut ShorePool,
-    start: &PriceSet,
-    rounds: u32,
-) -> Result<Option<PriceSet>, Memory>
-    requires leaf { IsLeaf leaf.now }
-    requires room { IsRoom leaf.now.inst.now table.old }
-    requires belong { All (Belongs leaf.now.inst.now) pool.old }
-    requires shores { All (λ w. IsShoreOf leaf.now.inst.now pool.old w.shore) start.now.weights }
-    requires fits { FitsBranch leaf.now.inst.now pool.old leaf.now.branch.now start.now }
-    ensures raised { IfOk result (λ better. IfSome better (IsRaised leaf.now.inst.now leaf.now.branch.now pool.old start.now pool.new)) }
-    ensures grown { IsGrown pool.old pool.new }
-    ensures belong { All (Belongs leaf.now.inst.now) pool.new }
-    ensures room { IsRoom leaf.now.inst.now table.new }
-{
-    growth_keeps_sets();
-    match ascend(
-        alloc,
-        leaf.inst,
-        leaf.net,
-        table,
-        pool,
-        leaf.branch,
-        start,
-        rounds,
-    )? {
-        Some(offered) => if_better(alloc, leaf, table, pool, offered, start),
-        None => Ok(None),
-    }
-}
-
-// The set that the programs for leaves propose, where it fits and is better than the start.
-fn by_programs(
+// The best set that advisers offer, if one of them is better than the start.
+fn best_offer<A: Adviser>(
     alloc: Global,
     leaf: &Leaf<'_>,
     table: &mut Table,
     pool: &mut ShorePool,
     start: &PriceSet,
     aim: Aim,
-    programs: &mut LeafPrograms,
+    advisers: &mut Vec<A>,
 ) -> Result<Option<PriceSet>, Memory>
     requires leaf { IsLeaf leaf.now }
-    requires room { IsRoom leaf.now.inst.now table.old }
-    requires belong { All (Belongs leaf.now.inst.now) pool.old }
-    requires shores { All (λ w. IsShoreOf leaf.now.inst.now pool.old w.shore) start.now.weights }
-    requires fits { FitsBranch leaf.now.inst.now pool.old leaf.now.branch.now start.now }
-    ensures raised { IfOk result (λ better. IfSome better (IsRaised leaf.now.inst.now leaf.now.branch.now pool.old start.now pool.new)) }
+    requires tools { AreOf leaf.now.inst.now table.old pool.old }
+    requires start { IsHeld leaf.now.inst.now leaf.now.branch.now pool.old start.now }
+    ensures standing { IfOk result (IsStanding leaf.now.inst.now leaf.now.branch.now pool.new start.now) }
     ensures grown { IsGrown pool.old pool.new }
-    ensures belong { All (Belongs leaf.now.inst.now) pool.new }
-    ensures room { IsRoom leaf.now.inst.now table.new }
+    ensures tools { AreOf leaf.now.inst.now table.new pool.new }
+{
+    let mut best = None;
+    for adviser in advisers.iter_mut() {
+        let next = better_offer(alloc, leaf, table, pool, start, best, aim, adviser)?;
+        best = next;
+    }
+    Ok(best)
+}
+
+// The best offer so far, after one more adviser was asked.
+fn better_offer<A: Adviser>(
+    alloc: Global,
+    leaf: &Leaf<'_>,
+    table: &mut Table,
+    pool: &mut ShorePool,
+    start: &PriceSet,
+    best: Option<PriceSet>,
+    aim: Aim,
+    adviser: &mut A,
+) -> Result<Option<PriceSet>, Memory>
+    requires leaf { IsLeaf leaf.now }
+    requires tools { AreOf leaf.now.inst.now table.old pool.old }
+    requires standing { IsStanding leaf.now.inst.now leaf.now.branch.now pool.old start.now best }
+    ensures standing { IfOk result (IsStanding leaf.now.inst.now leaf.now.branch.now pool.new start.now) }
+    ensures grown { IsGrown pool.old pool.new }
+    ensures tools { AreOf leaf.now.inst.now table.new pool.new }
 {
     growth_keeps_sets();
-    match programs.raise(alloc, leaf, table, pool, start, aim.number, aim.cost)? {
-        Some(offered) => if_better(alloc, leaf, table, pool, offered, start),
+    match best {
+        Some(set) => {
+            let better = ask(alloc, leaf, table, pool, &set, aim, adviser)?;
+            Ok(Some(later(better, set)))
+        }
+        None => ask(alloc, leaf, table, pool, start, aim, adviser),
+    }
+}
+
+// The later set, if there is one.
+fn later(better: Option<PriceSet>, set: PriceSet) -> PriceSet
+    ensures { result ≡ unwrap_or better set }
+{
+    match better {
+        Some(better) => better,
+        None => set,
+    }
+}
+
+// The set that an adviser offers, if it fits and is better than the best one so far.
+fn ask<A: Adviser>(
+    alloc: Global,
+    leaf: &Leaf<'_>,
+    table: &mut Table,
+    pool: &mut ShorePool,
+    best: &PriceSet,
+    aim: Aim,
+    adviser: &mut A,
+) -> Result<Option<PriceSet>, Memory>
+    requires leaf { IsLeaf leaf.now }
+    requires tools { AreOf leaf.now.inst.now table.old pool.old }
+    requires best { IsHeld leaf.now.inst.now leaf.now.branch.now pool.old best.now }
+    ensures raised { IfOk result (λ better. IfSome better (IsRaised leaf.now.inst.now leaf.now.branch.now pool.old best.now pool.new)) }
+    ensures grown { IsGrown pool.old pool.new }
+    ensures tools { AreOf leaf.now.inst.now table.new pool.new }
+{
+    growth_keeps_sets();
+    match adviser.prices(alloc, leaf, table, pool, best, aim)? {
+        Some(offered) => if_better(alloc, leaf, table, pool, offered, best),
         None => Ok(None),
     }
 }

@@ -3,12 +3,11 @@ use Rattle.std.proofs.Common.{◌≡◌, ℕ, zero, suc, List, [], ◌++◌, len
 use Rattle.std.proofs.lemmas.List.{get_or_append_left}
 use Rattle.std.proofs.lemmas.List.Elements.{All-weaker}
 use Rattle.carp_base.specs.Problem.{Problem}
-use Rattle.cut_pool.specs.Pools.{IsShoreNumber, shore_at}
+use Rattle.cut_pool.specs.Pools.{IsGrown, IsShoreNumber, shore_at}
 use Rattle.cut_pool.specs.Shores.{Belongs}
 use Rattle.decision_chains.specs.declared.decision.Decision.{Decision}
 use Rattle.decision_chains.specs.declared.decision.Decision.TheVariants.{Yes, No, Low, High}
 use Rattle.branch_rules.specs.Limits.{AreShoresIn, HasShoreOf, IsShoreOf}
-use Rattle.shore_prices.specs.Proposals.{IsGrown}
 
 grown_at : (pool more : List (List ℕ)) (i : ℕ) → IsShoreNumber pool i → shore_at (pool ++ more) i ≡ shore_at pool i
 grown_at pool more zero is = absurd (omega (arith, is.from_one))

@@ -1,8 +1,8 @@
 // Splits of a leaf that look worth a trial.
 ghost use Rattle.std.specs.Prelude.{All};
+ghost use Rattle.cut_pool.specs.Pools.{IsGrown};
 ghost use Rattle.cut_pool.specs.Shores.{Belongs};
 ghost use Rattle.decision_chains.specs.Pairs.{ArePairsIn};
-ghost use Rattle.shore_prices.specs.Proposals.{IsGrown};
 
 use crate::cuts::{Judge, add_cuts};
 use crate::pairs::{add_pairs, pairs_of};

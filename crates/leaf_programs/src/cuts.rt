@@ -1,15 +1,15 @@
 // Cuts that look worth a trial.
 ghost use Rattle.std.specs.Prelude.{◌<◌, All, IfSome};
+ghost use Rattle.cut_pool.specs.Pools.{IsGrown};
 ghost use Rattle.cut_pool.specs.Shores.{Belongs};
 ghost use Rattle.branch_rules.specs.Limits.{IsShoreOf};
-ghost use Rattle.shore_prices.specs.Proposals.{IsGrown};
 
 use crate::poor::{Cut, PART, Poor};
 use branch_rules::{Branch, Decision, MOST_K, Node, is_shore_of};
 use carp_base::{Instance, Memory};
 use column_generation::Generation;
 use cut_pool::{Shore, ShorePool, need, required_crossings};
-use shore_prices::number_in;
+use price_points::number_in;
 use std::alloc::Global;
 
 // So many cuts are tried at most.

@@ -1,23 +1,23 @@
-//! Programs for the leaves of a tree, and splits that they propose.
+//! An adviser that offers prices, splits and tours by linear programs for the leaves of a tree.
 //!
 //! In the field: branch and price, with strong branching (Applegate, Bixby, Chvatal and Cook 1995).
 //!
 //! Each leaf of a tree has a linear program over tours, shores and groups (`column_generation`). [`LeafPrograms`] tells
 //! which leaf goes on from which program: a child from that of its parent, or from its own after its split was tried. It
-//! proposes a price set for a leaf, and a split of it: splits that look worth it are tried on copies of the program. It
-//! only proposes: the pricing table says whether a set fits, and whoever takes a split judges it.
+//! offers a price set for a leaf, and a split of it: splits that look worth it are tried on copies of the program. It
+//! only offers: the pricing table says whether a set fits, and whoever takes a split judges it.
 //!
-//! - `leaf`: what is proposed for. `shelf`: programs that are kept, and for which leaf.
+//! - `advising`: the adviser. `programs`: its type, and the programs of a leaf.
+//! - `shelf`: programs that are kept, and for which leaf.
 //! - `cuts`, `pairs`, `poor`, `candidates`: splits that look worth a trial.
 //! - `decisions`: the decisions of a split, and the branches of its children.
-//! - `trials`, `ranking`, `rivals`: what both children of a split come to, and which split is proposed.
-//! - `programs`: the public type.
+//! - `trials`, `ranking`, `rivals`: what both children of a split come to, and which split is offered.
 #![tactic(auto)]
 
+mod advising;
 mod candidates;
 mod cuts;
 mod decisions;
-mod leaf;
 mod pairs;
 mod poor;
 mod programs;
@@ -26,5 +26,4 @@ mod rivals;
 mod shelf;
 mod trials;
 
-pub use leaf::Leaf;
 pub use programs::LeafPrograms;

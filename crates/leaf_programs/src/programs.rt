@@ -1,17 +1,16 @@
 // Programs for the leaves of a tree.
 ghost use Rattle.std.specs.Prelude.{◌≡◌, All, IfOk, IfSome, length};
+ghost use Rattle.cut_pool.specs.Pools.{IsGrown};
 ghost use Rattle.cut_pool.specs.Shores.{Belongs};
 ghost use Rattle.branch_rules.specs.Limits.{AreShoresIn, IsShoreOf};
 ghost use Rattle.decision_chains.specs.Pairs.{ArePairsIn};
 ghost use Rattle.route_pricing.specs.Tables.{IsRoom};
 ghost use Rattle.price_points.specs.Towns.{IsTown};
-ghost use Rattle.shore_prices.specs.Proposals.{IsGrown};
 ghost use Rattle.column_generation.specs.Points.{IsGeneration};
-ghost use Rattle.column_generation.specs.Proposals.{IsGroupedProposal};
-ghost use Rattle.leaf_programs.specs.Leaves.{IsLeaf};
+ghost use Rattle.leaf_adviser.specs.Leaves.{IsLeaf};
+ghost use Rattle.leaf_adviser.specs.Offers.{IsOffer};
 
 use crate::decisions::last_of;
-use crate::leaf::Leaf;
 use crate::poor::Poor;
 use crate::ranking::ranked_splits;
 use crate::rivals::try_rivals;
@@ -21,13 +20,37 @@ use branch_rules::{Branch, Node, PriceSet};
 use carp_base::{Instance, Memory, Task};
 use column_generation::{Generation, Kept, adopted, begin, enough_for, is_small, taken_up};
 use cut_pool::ShorePool;
+use leaf_adviser::Leaf;
 use price_points::Town;
 use route_pricing::Table;
 use std::alloc::Global;
 use std::mem;
 
-/// Programs for the leaves of a tree, over one store of rows and columns. Leaves that name a price set go on from the
-/// program that was kept under its number.
+/// Programs for the leaves of a tree, over one store of rows and columns. As an adviser it offers a price set for a leaf,
+/// a split of the leaf, and tours of plans that solutions showed.
+///
+/// **Prices.** A leaf goes on from the program that was kept under the number of the set that it names. If there is none, it
+/// goes on from the one that was kept last for another leaf. If none is kept at all, it begins anew with the best set so
+/// far: so at the first leaf, and in a tree that is gone on from after leaves that were closed and not split. A bound of
+/// the aim's cost is enough. The set has prices in parts of 1/1,000,000. Weights may be below 0 on shores with an upper
+/// number and on pairs that are to be served together. Shores with a weight are placed in the pool behind those that it
+/// held. If there is no room for one, since the pool holds 2,000, it loses its weight.
+///
+/// It offers none if no edge is required, or if it finds no point above the value of the best set so far. It does so at
+/// once for more than 120 required edges, for more than 400 edges, and for m required edges and a capacity Q if
+/// `4 * Q * m * m` is above 10^8. A leaf takes some 100 fills of the table at most, and one that begins anew some 1,000.
+/// The program touches some 1.5 * 10^9 entries at a leaf at most, and 4 * 10^9 at one that begins anew. All leaves and
+/// splits since then take 1.5 * 10^10 entries and steps of fills; then it offers none at once. No clock decides.
+///
+/// **Splits.** Cuts on shores whose deadheads in the solution of the program lie between two numbers that a plan can have,
+/// and pairs whose share lies near three fifths, are tried on copies of the program by a few steps of the dual method. The
+/// best one and the best of the other kind are tried with a few fills (strong branching: Applegate, Bixby, Chvatal and
+/// Cook 1995). The one with the greatest product of the gains is offered, and programs are kept for both children. Shores
+/// of cuts that look worth a trial are placed in the pool behind those that it held. It takes up to 32 fills of the table,
+/// and the time of up to 1,200 steps of the dual method.
+///
+/// **Tours.** A solution shows a plan if its tours of an activity above a half serve each required edge once. The cheapest
+/// plan that was shown since it was asked before is offered. It need not meet the decisions of a leaf.
 #[derive(Drop)]
 pub struct LeafPrograms {
     generation: Option<Generation>,
@@ -55,30 +78,8 @@ impl LeafPrograms {
         }
     }
 
-    /// Proposes a price set for a leaf of a branch that names the set `start` of a number, or `None`. A bound of `cost`
-    /// is enough. It promises nothing of the set's value, nor that it fits. But the set has a price for each required
-    /// edge, in parts of 1/1,000,000, weights on shores of the pool that belong to the instance, and weights on groups
-    /// of required edges. Weights may be below 0 on shores with an upper number and on pairs that are to be served
-    /// together.
-    ///
-    /// It goes on from the program that was kept under the number. If there is none, it goes on from the one that was
-    /// kept last for another leaf. If none is kept at all, it begins anew with the set: so at the first leaf, and in a
-    /// tree that is gone on from after leaves that were closed and not split.
-    ///
-    /// It answers `None` if no edge is required, or if it finds no point above the value of the start. It does so at
-    /// once for more than 120 required edges, for more than 400 edges, and for m required edges and a capacity Q if
-    /// `4 * Q * m * m` is above 10^8.
-    ///
-    /// Shores with a weight are placed in the pool behind those that it held. If there is no room for one, since the
-    /// pool holds 2,000, it loses its weight.
-    ///
-    /// It asks for a leaf, a table that was made for the instance, and a start with a price for each required edge and
-    /// weights on shores of the pool that belong to the instance. All shores of the pool have to belong to the instance.
-    /// What it proposed for another instance before is no matter to what it promises. The only error is want of memory.
-    /// A leaf takes some 100 fills of the table at most, and one that begins anew some 1,000. The program touches some
-    /// 1.5 * 10^9 entries at a leaf at most, and 4 * 10^9 at one that begins anew. All leaves and splits since then
-    /// take 1.5 * 10^10 entries and steps of fills; then it answers `None` at once. No clock decides.
-    pub fn raise(
+    // A price set for a leaf of a branch that names the set `start` of a number, or `None`. A bound of `cost` is enough.
+    pub(crate) fn raise(
         &mut self,
         alloc: Global,
         leaf: &Leaf<'_>,
@@ -93,7 +94,7 @@ impl LeafPrograms {
         requires belong { All (Belongs leaf.now.inst.now) pool.old }
         requires shores { All (λ w. IsShoreOf leaf.now.inst.now pool.old w.shore) start.now.weights }
         requires one_each { length start.now.services ≡ leaf.now.inst.now.required }
-        ensures proposed { IfOk result (λ set. IfSome set (IsGroupedProposal leaf.now.inst.now pool.new)) }
+        ensures offer { IfOk result (λ set. IfSome set (IsOffer leaf.now.inst.now pool.new)) }
         ensures grown { IsGrown pool.old pool.new }
         ensures belong { All (Belongs leaf.now.inst.now) pool.new }
         ensures room { IsRoom leaf.now.inst.now table.new }
@@ -124,7 +125,7 @@ impl LeafPrograms {
         requires belong { All (Belongs leaf.now.inst.now) pool.old }
         requires shores { All (λ w. IsShoreOf leaf.now.inst.now pool.old w.shore) start.now.weights }
         requires generation { IsGeneration leaf.now.inst.now generation }
-        ensures proposed { IfOk result (λ set. IfSome set (IsGroupedProposal leaf.now.inst.now pool.new)) }
+        ensures offer { IfOk result (λ set. IfSome set (IsOffer leaf.now.inst.now pool.new)) }
         ensures grown { IsGrown pool.old pool.new }
         ensures belong { All (Belongs leaf.now.inst.now) pool.new }
     {
@@ -247,20 +248,9 @@ impl LeafPrograms {
         begin(alloc, town, table, pool, branch, from.set, enough)
     }
 
-    /// Proposes a split of the leaf for which a set was proposed last, and keeps programs for the leaves that name the
-    /// set of a number. It proposes none if there is no program, or if `raise` answers `None` at once. It promises
-    /// nothing of the split.
-    ///
-    /// Cuts on shores whose deadheads in the solution of the program lie between two numbers that a plan can have, and
-    /// pairs whose share lies near three fifths, are tried on copies of the program by a few steps of the dual method.
-    /// The best one and the best of the other kind are tried with a few fills (strong branching: Applegate, Bixby,
-    /// Chvatal and Cook 1995). The one with the greatest product of the gains is proposed.
-    ///
-    /// It asks for the leaf, a table that was made for the instance, and a pool that has the shores of the branch. All
-    /// shores of the pool have to belong to the instance.
-    /// Shores of cuts that look worth a trial are placed in the pool behind those that it held. The only error is want
-    /// of memory. It takes up to 32 fills of the table, and the time of up to 1,200 steps of the dual method.
-    pub fn split(
+    // A split of the leaf for which a set was proposed last. Programs are kept for the leaves that name the set of a
+    // number.
+    pub(crate) fn best_split(
         &mut self,
         alloc: Global,
         leaf: &Leaf<'_>,
@@ -294,14 +284,8 @@ impl LeafPrograms {
         }
     }
 
-    /// The tours, as lists of tasks, of the cheapest plan that a solution of a program showed since this was asked
-    /// before, or `None`. A solution shows a plan if its tours of an activity above a half serve each required edge
-    /// once.
-    ///
-    /// Programs are solved by `raise` for the leaf, and by `split` for both children of splits that are tried. So the
-    /// plan need not meet the decisions of a leaf. It promises nothing of the tours. It takes constant time and no
-    /// memory.
-    pub fn whole_tours(&mut self) -> Option<Vec<Vec<Task>>> {
+    // The tours of the cheapest plan that a solution showed since this was asked before.
+    pub(crate) fn whole_tours(&mut self) -> Option<Vec<Vec<Task>>> {
         self.generation.as_mut()?.take_whole()
     }
 

@@ -2,14 +2,14 @@
 ghost use Rattle.std.specs.Prelude.{◌≡◌, ◌<◌, ◌≤◌, false, length};
 ghost use Rattle.branch_rules.specs.Limits.{AreShoresIn};
 ghost use Rattle.route_pricing.specs.Tables.{IsRoom};
-ghost use Rattle.leaf_programs.specs.Leaves.{IsLeaf};
+ghost use Rattle.leaf_adviser.specs.Leaves.{IsLeaf};
 
-use crate::leaf::Leaf;
 use crate::trials::{Scored, Tried, try_split};
 use branch_rules::Node;
 use carp_base::Memory;
 use column_generation::{Generation, Kept};
 use cut_pool::ShorePool;
+use leaf_adviser::Leaf;
 use route_pricing::Table;
 use std::alloc::Global;
 

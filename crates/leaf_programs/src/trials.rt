@@ -2,15 +2,15 @@
 ghost use Rattle.branch_rules.specs.Limits.{AreShoresIn};
 ghost use Rattle.decision_chains.specs.Pairs.{ArePairsIn};
 ghost use Rattle.route_pricing.specs.Tables.{IsRoom};
-ghost use Rattle.leaf_programs.specs.Leaves.{IsLeaf};
+ghost use Rattle.leaf_adviser.specs.Leaves.{IsLeaf};
 ghost use Rattle.leaf_programs.specs.Splits.{IsDecisionIn};
 
 use crate::decisions::{child_of, decisions_in};
-use crate::leaf::Leaf;
 use branch_rules::{Branch, Decision, Node};
 use carp_base::{Instance, Memory};
 use column_generation::{Generation, Kept};
 use cut_pool::ShorePool;
+use leaf_adviser::Leaf;
 use price_points::Town;
 use route_pricing::Table;
 use std::alloc::Global;

@@ -1,10 +1,11 @@
-// The public call.
+// A price set of an ascent.
 ghost use Rattle.std.specs.Prelude.{◌≡◌, All, IfOk, IfSome, length};
+ghost use Rattle.cut_pool.specs.Pools.{IsGrown};
 ghost use Rattle.cut_pool.specs.Shores.{Belongs};
 ghost use Rattle.branch_rules.specs.Limits.{IsShoreOf};
 ghost use Rattle.decision_chains.specs.Pairs.{ArePairsIn};
 ghost use Rattle.route_pricing.specs.Tables.{IsRoom};
-ghost use Rattle.shore_prices.specs.Proposals.{IsGrown, IsProposal};
+ghost use Rattle.leaf_adviser.specs.Offers.{IsOffer};
 ghost use Rattle.price_ascent.specs.Ascents.{IsAscent};
 
 use crate::active::active_shores;
@@ -14,10 +15,9 @@ use crate::setting_out::start_point;
 use branch_rules::{Branch, PriceSet};
 use carp_base::{Instance, Memory};
 use cut_pool::ShorePool;
-use price_points::{Town, UNIT};
+use price_points::{Town, UNIT, list_weights};
 use road_network::Network;
 use route_pricing::Table;
-use shore_prices::list_weights;
 use std::alloc::Global;
 
 // How many fills of the table there are at most, and at least: an ascent of fewer is not worth its time.
@@ -28,27 +28,9 @@ const LEAST_FILLS: u64 = 60;
 // So much work, by the count of steps of fills, is allowed.
 const WORK: u64 = 1_650_000_000;
 
-/// Proposes a price set under a branch by an ascent from a start, or `None` if no edge is required, if `rounds` is 0,
-/// or if the instance is so large that 60 fills of the table pass a measure of work. It promises nothing of the set's
-/// value, nor that it fits. But the set has a price for each required edge, in parts of 1/1,000,000, and its weights
-/// are on shores of the pool that belong to the instance, none on groups.
-///
-/// Prices of services and weights of shores move together along the slopes that relaxed tours show, as Lagrange
-/// multipliers do (Held, Wolfe and Crowder 1974; the heavy average of slopes after Camerini, Fratta and Maffioli 1975).
-/// At each point the table is filled once, and the point is made one that pays: each price takes its part of the least
-/// rate of a tour, and of what all tours through its edge leave. The ascent proposes the best such point. Every tenth
-/// step it adds up to 10 shores that the averaged deadheads of the tours leave short (`shore_search`). If 12 steps
-/// bring no record, it goes back to the record and makes shorter steps.
-///
-/// Shores of the start keep a negative weight as it is. Those that end with a weight are placed in the pool behind
-/// those that it held. If there is no room for one, since the pool holds 2,000, it loses its weight, and so does one
-/// whose weight is small.
-///
-/// It asks for the network of the instance, a table that was made for it, a branch whose pairs are of required edges,
-/// and a start with a price for each required edge and weights on shores of the pool that belong to the instance. All
-/// shores of the pool have to belong to the instance. The only error is want of memory. It takes up to `rounds` fills
-/// of the table, and at most 400, each with the distances by its deadhead prices. No clock decides.
-pub fn ascend(
+// A price set under a branch by an ascent from a start, or `None` if no edge is required, if `rounds` is 0, or if the
+// instance is so large that 60 fills of the table pass a measure of work.
+pub(crate) fn ascend(
     alloc: Global,
     inst: &Instance,
     net: &Network,
@@ -64,7 +46,7 @@ pub fn ascend(
     requires belong { All (Belongs inst.now) pool.old }
     requires shores { All (λ w. IsShoreOf inst.now pool.old w.shore) start.now.weights }
     requires one_each { length start.now.services ≡ inst.now.required }
-    ensures proposed { IfOk result (λ set. IfSome set (IsProposal inst.now pool.new)) }
+    ensures offer { IfOk result (λ set. IfSome set (IsOffer inst.now pool.new)) }
     ensures grown { IsGrown pool.old pool.new }
     ensures belong { All (Belongs inst.now) pool.new }
     ensures room { IsRoom inst.now table.new }
@@ -141,7 +123,7 @@ fn offer(
 ) -> Result<PriceSet, Memory>
     requires ascent { IsAscent inst.now ascent.now }
     requires belong { All (Belongs inst.now) pool.old }
-    ensures proposed { IfOk result (IsProposal inst.now pool.new) }
+    ensures offer { IfOk result (IsOffer inst.now pool.new) }
     ensures grown { IsGrown pool.old pool.new }
     ensures belong { All (Belongs inst.now) pool.new }
 {

@@ -1,13 +1,13 @@
-//! Price sets that an ascent along relaxed tours proposes.
+//! An adviser that offers price sets by an ascent along relaxed tours.
 //!
 //! In the field: the subgradient method on the Lagrangian dual (Held and Karp 1971).
 //!
 //! The price of a service and the weights of shores are multipliers of the two kinds of constraints that tours meet
-//! together: each required edge is served once, and over each shore there are as many deadheads as it needs. [`ascend`]
-//! moves both at once along what relaxed tours serve and cross. It only proposes: the pricing table says whether a set
-//! fits.
+//! together: each required edge is served once, and over each shore there are as many deadheads as it needs.
+//! [`AscentAdviser`] moves both at once along what relaxed tours serve and cross. It only offers: the pricing table says
+//! whether a set fits.
 //!
-//! - `ascending`: the public call.
+//! - `advising`: the adviser. `ascending`: the ascent as a whole.
 //! - `climbing`: the steps, with `step_size` (their length, and when the ascent turns back or ends) and `slopes` (their
 //!   direction).
 //! - `scoring`: a point made one that pays, with `scaling` (weights that no street is overloaded by).
@@ -16,6 +16,7 @@
 #![tactic(auto)]
 
 mod active;
+mod advising;
 mod ascending;
 mod climbing;
 mod placing;
@@ -25,4 +26,4 @@ mod setting_out;
 mod slopes;
 mod step_size;
 
-pub use ascending::ascend;
+pub use advising::AscentAdviser;

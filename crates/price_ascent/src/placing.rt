@@ -1,16 +1,15 @@
 // The shores of an ascent, placed in a pool with their weights.
 ghost use Rattle.std.specs.Prelude.{◌≡◌, All, IfOk, length};
+ghost use Rattle.cut_pool.specs.Pools.{IsGrown};
 ghost use Rattle.cut_pool.specs.Shores.{Belongs};
 ghost use Rattle.branch_rules.specs.Limits.{IsPriceNumber};
 ghost use Rattle.route_pricing.specs.Pricing.{IsServicePrice};
-ghost use Rattle.shore_prices.specs.Proposals.{IsGrown};
 ghost use Rattle.price_ascent.specs.Points.{IsActive};
 
 use crate::active::Active;
 use carp_base::{Instance, Memory};
 use cut_pool::{MOST_SHORES, ShorePool};
-use price_points::number_at;
-use shore_prices::place_weight;
+use price_points::{number_at, place_weight};
 use std::alloc::Global;
 
 /// Places the shores with weights, and gives for each number of a shore its weight, or 0 if it has none. A weight above

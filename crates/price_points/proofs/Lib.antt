@@ -1,2 +1,4 @@
 pub mod Served
 pub mod Pushed
+pub mod Placed
+pub mod Listed

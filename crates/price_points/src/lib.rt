@@ -10,11 +10,13 @@
 //! - `town`: what a set is proposed for. `starting`: the numbers of a set to begin with.
 //! - `touring`: tours that a filled table tells, and how often they serve and cross each edge.
 //! - `paying`: prices that pay. `deadheads`: deadheads in parts.
+//! - `placing`: shores with weights that are placed in a pool, and the list of their weights.
 #![tactic(auto)]
 
 mod deadheads;
 mod numbers;
 mod paying;
+mod placing;
 mod starting;
 mod touring;
 mod town;
@@ -22,6 +24,7 @@ mod town;
 pub use deadheads::parts_of;
 pub use numbers::{PARTS, UNIT, add_at, clamped, floor, number_at, quotient};
 pub use paying::paying_prices;
+pub use placing::{list_weights, number_in, place_weight};
 pub use starting::{start_prices, start_weight, start_weights};
 pub use touring::{Cover, best_tour, excess_over, least_tour, load_of, tour_over};
 pub use town::Town;

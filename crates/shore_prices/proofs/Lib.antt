@@ -1,4 +1,2 @@
-pub mod Placed
-pub mod Listed
 pub mod Levels
 pub mod Proposed

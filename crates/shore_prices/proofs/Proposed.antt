@@ -1,16 +1,18 @@
 -- The set of services at cost and of listed weights.
-use Rattle.std.proofs.Common.{◌≡◌, ℕ, zero, suc, ◌+◌, ◌*◌, ◌<◌, ◌≤◌, List, [], length, map, get_or, arith, pos, refl, subst}
+use Rattle.std.proofs.Common.{◌≡◌, ℕ, zero, suc, ◌+◌, ◌*◌, ◌<◌, ◌≤◌, List, [], length, map, get_or, arith, pos, subst}
 use Rattle.std.specs.List.{All}
 use Rattle.std.proofs.lemmas.Int.{ints}
 use Rattle.std.proofs.lemmas.List.{length-map, length-take}
-use Rattle.std.proofs.lemmas.List.Elements.{All-from_get_or}
+use Rattle.std.proofs.lemmas.List.Elements.{All-from_get_or, All-nil}
 use Rattle.std.proofs.Math.ListN.{get_or-map}
 use Rattle.carp_base.specs.Problem.{Problem, IsValid, no_edge, required_edges}
 use Rattle.cut_pool.specs.Shores.{Belongs}
+use Rattle.branch_rules.specs.Bonds.{GroupWeight, IsGroup}
 use Rattle.branch_rules.specs.Limits.{IsPriceNumber, IsPriceSet, IsShoreOf}
 use Rattle.branch_rules.specs.Prices.{Prices}
 use Rattle.branch_rules.specs.declared.weight.Weight.{Weight}
-use Rattle.shore_prices.specs.Proposals.{AreListed, IsProposal}
+use Rattle.price_points.specs.Weights.{AreListed}
+use Rattle.leaf_adviser.specs.Offers.{IsOffer}
 use Rattle.shore_prices.proofs.Levels.{service_small}
 
 services_count : (p : Problem) → IsValid p → length (map (λ x. pos (1000000 * x.service)) (required_edges p)) ≡ p.required
@@ -47,9 +49,11 @@ shore_in : (p : Problem) (pool : List (List ℕ)) → All (Belongs p) pool → (
 shore_in p pool belong zero some less = absurd (omega (arith, some))
 shore_in p pool belong (suc k) some less = record { number = record { from_one = omega arith; in_range = omega (arith, less) }; belongs = belong k [] (omega (arith, less)) }
 
-pub set_proposed : (p : Problem) → IsValid p → (pool : List (List ℕ)) (weights : List Weight) → All (Belongs p) pool → AreListed (length pool + 1) weights → IsProposal p pool (set_of p weights)
-set_proposed p valid pool weights belong are = record {
-  one_each = services_count p valid;
-  shores = λ k d within. shore_in p pool belong (get_or weights k d).shore (are.fine k d within).from_one (are.below k d within);
-  no_groups = refl;
+pub set_offered : (p : Problem) → IsValid p → (pool : List (List ℕ)) (weights : List Weight) → All (Belongs p) pool → AreListed (length pool + 1) weights → IsOffer p pool (set_of p weights)
+set_offered p valid pool weights belong are = record {
+  priced = record {
+    one_each = services_count p valid;
+    shores = λ k d within. shore_in p pool belong (get_or weights k d).shore (are.fine k d within).from_one (are.below k d within);
+  };
+  groups = All-nil (λ (w : GroupWeight). IsGroup p w.edges);
 }

@@ -1,7 +1,7 @@
 // The program over the shores found so far, and the rounds of search for more.
 ghost use Rattle.std.specs.Prelude.{◌≡◌, All, IfOk, OnOk};
 ghost use Rattle.cut_pool.specs.Shores.{Belongs};
-ghost use Rattle.shore_prices.specs.Offers.{IsOffer};
+ghost use Rattle.shore_prices.specs.Weights.{IsWeighted};
 
 use branch_rules::Branch;
 use capacity_cuts::shells;
@@ -80,7 +80,7 @@ pub(crate) fn weighted_shores(
 ) -> Result<Vec<Weighted>, Memory>
     requires net { net.now ≡ inst.now }
     requires belong { All (Belongs inst.now) pool.now }
-    ensures { IfOk result (λ shores. All (IsOffer inst.now) shores.items) }
+    ensures { IfOk result (λ shores. All (IsWeighted inst.now) shores.items) }
 {
     let mut program = Program::new(alloc, inst)?;
     add_held(alloc, inst, pool, branch, &mut program)?;

@@ -6,7 +6,7 @@ use Rattle.branch_tree.proofs.Tightness.{raised_grows}
 use Rattle.branch_tree.proofs.raising.raise_and_propose.Goals as goal
 
 pub propose-requires-clause-some : goal.propose-requires-clause-some
-propose-requires-clause-some c some =
+propose-requires-clause-some g c some =
     let p = c.args.leaf.now.inst.now in
     let branch = c.args.leaf.now.branch.now in
     let raised = c.in_ok-set.ensures.raised in
@@ -15,6 +15,6 @@ propose-requires-clause-some c some =
     (c.requires.some raised.from_unit) raised.no_lower
 
 pub returns-clause-raised : goal.returns-clause-raised
-returns-clause-raised c =
+returns-clause-raised g c =
     raised_grows c.growth_keeps_sets.ensures c.args.leaf.now.inst.now c.args.pool.now c.raise_from.new.pool c.propose.new.pool c.args.leaf.now.branch.now c.args.sets.now c.args.aim.number c.in_ok-set.set
     c.raise_from.ensures.grown c.propose.ensures.grown c.in_ok-set.ensures.raised

@@ -2,7 +2,7 @@ use Rattle.branch_tree.proofs.Groups.{at_number, raised_from}
 use Rattle.branch_tree.proofs.raising.raise_from.Goals as goal
 
 pub returns-clause-raised : goal.returns-clause-raised
-returns-clause-raised c =
+returns-clause-raised g c =
     let start = c.index-sets-aim.result in
     let begins = c.requires.begins in
     let same = at_number c.args.sets.now c.args.aim.number start begins.from_one begins.to_last c.index-sets-aim.is in

@@ -1,7 +1,7 @@
 use Rattle.std.proofs.Common.{◌≡◌, All, length}
+use Rattle.cut_pool.specs.Pools.{IsGrown}
 use Rattle.cut_pool.specs.Shores.{Belongs}
 use Rattle.branch_rules.specs.Limits.{IsPriceNumber}
-use Rattle.shore_prices.specs.Proposals.{IsGrown}
 use Rattle.column_generation.proofs.offering.place_shores.Given as goal
 
 abbrev pub invariant-loop-place : goal.invariant-loop-place

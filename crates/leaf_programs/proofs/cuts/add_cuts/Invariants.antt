@@ -1,6 +1,6 @@
 use Rattle.std.proofs.Common.{All}
+use Rattle.cut_pool.specs.Pools.{IsGrown}
 use Rattle.cut_pool.specs.Shores.{Belongs}
-use Rattle.shore_prices.specs.Proposals.{IsGrown}
 use Rattle.leaf_programs.proofs.cuts.add_cuts.Given as goal
 
 abbrev pub invariant-loop-cut : goal.invariant-loop-cut

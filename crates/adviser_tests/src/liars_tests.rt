@@ -1,0 +1,49 @@
+// Answers of searches with an adviser that lies, for the cases of `data/liars`.
+ghost use Rattle.cert_lines.specs.Spelling.{IsSpellable};
+ghost use Rattle.cert_format.specs.Certs.{certificate_in};
+
+use crate::liar::{Liar, lie_of};
+use carp_base::Instance;
+use carp_engine::solve_with;
+use cert_checker::{Answer, check};
+use cert_format::Cert;
+use plan_model::Proposer;
+use progress::Silent;
+use samples::{instance_of, number};
+use std::alloc::Global;
+use std::test::Fail;
+
+pub fn answer(alloc: Global, over: &str, call: &str, input: &str) -> Result<String, Fail> {
+    let inst = instance_of(alloc, over)?;
+    let turns = number(input)?;
+    if turns < 1 || 1_048_576 < turns {
+        Err("the turns are out of range")?
+    }
+    let Some(lie) = lie_of(call) else {
+        Err("no such adviser")?
+    };
+    let mut helpers: Vec<Box<dyn Proposer>> = Vec::new(alloc);
+    let mut advisers: Vec<Liar> = Vec::new(alloc);
+    advisers.push(Liar::new(lie))?;
+    let solved = solve_with(
+        alloc,
+        &inst,
+        turns,
+        1,
+        &mut helpers,
+        &mut advisers,
+        &mut Silent,
+    )?;
+    judged(alloc, &inst, &solved.cert)
+}
+
+// The cost and the bound of a certificate, once a check has accepted it.
+fn judged(alloc: Global, inst: &Instance, cert: &Cert) -> Result<String, Fail>
+    requires { IsSpellable (certificate_in cert.now) }
+{
+    let (cost, bound) = (cert.cost, cert.bound);
+    match check(alloc, inst, cert)? {
+        Answer::Accepted => Ok(format!(in alloc; "cost {cost}, bound {bound}")?),
+        Answer::Rejected(_) => Err("a check rejects the certificate")?,
+    }
+}

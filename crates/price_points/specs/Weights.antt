@@ -1,0 +1,13 @@
+-- Weights on shores of a pool.
+use Rattle.std.specs.Prelude.{ℕ, ◌<◌, List, length, map}
+use Rattle.std.specs.List.{All}
+use Rattle.std.specs.List.Sorted.{IsStrictlyIncreasing}
+use Rattle.branch_rules.specs.Limits.{IsFineWeight}
+use Rattle.branch_rules.specs.declared.weight.Weight.{Weight}
+
+-- weights on shores of rising numbers, all below one
+pub record AreListed (limit : ℕ) (weights : List Weight) : Type 0 where
+  pub fine : All IsFineWeight weights
+  pub below : All (λ w. w.shore < limit) weights
+  pub rising : IsStrictlyIncreasing (map (λ w. w.shore) weights)
+  pub few : length weights < limit
