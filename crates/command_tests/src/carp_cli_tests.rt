@@ -1,6 +1,4 @@
 // Commands over files in memory, whose looks, keeps and puts fail at given numbers.
-ghost use Rattle.std.specs.Prelude.{◌<◌};
-
 use carp_cli::run;
 use carp_outside::{MemShelf, MemSink};
 use plan_model::Proposer;
