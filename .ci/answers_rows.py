@@ -403,3 +403,118 @@ REFUSED = """
     capacity 30001 is out of range | VERTICES 2~ARISTAS_REQ 0~CAPACIDAD 30001~DEPOSITO 1
     depot 3 is out of range | VERTICES 2~ARISTAS_REQ 0~CAPACIDAD 1~DEPOSITO 3
 """
+
+# What is written for words that are no command, and such words. `_` is the empty word.
+USAGE = """usage: carp solve FILE CERT [--turns N] [--seed N]
+       carp check FILE CERT
+       carp sheet FILE CERT
+       carp make FILE [--seed N]
+       carp drill [--turns N] [--seed N]
+       carp upgrade FILE CERT NEWCERT
+       carp postman FILE
+       carp fleet FILE [--turns N]
+       carp edit FILE CERT EDITS NEWFILE NEWCERT
+       carp improve FILE CERT NEWCERT [--turns N] [--seed N]
+"""
+
+NO_COMMANDS = """
+    solve
+    solve file
+    solve file file
+    solve file _
+    solve -file cert
+    solve file -
+    solve file cert other
+    solve file cert --turns
+    solve file cert --turns 0
+    solve file cert --turns 1048577
+    solve file cert --turns=9
+    solve file cert --turns _
+    solve file cert --turns -9
+    solve file cert --turns +9
+    solve file cert --turns 9a
+    solve file cert --seed 0000000000000000001
+    solve file cert --seed 1 --seed 1
+    solve file cert --seed 1 --turns 1 --seed 1
+    solve file cert --Seed 1
+    solve --seed 1 file cert
+    solve file --seed 1 cert
+    solve file cert --
+    solve file cert --help
+    --help
+    help
+    help solve
+    Solve file cert
+    make
+    make -file
+    make file other
+    make file --turns 1
+    make file --seed 1 --seed 1
+    make --seed 1 file
+    sheet file
+    sheet file file
+    sheet file cert --seed 1
+    drill file
+    drill --turns 0
+    drill --turns 1 --turns 1
+    drill --seed
+    postman
+    postman file other
+    postman file --turns 1
+    fleet
+    fleet file --turns 0
+    fleet file --turns 1048577
+    fleet file --seed 1
+    fleet file --turns 1 --turns 1
+    edit file cert edits new
+    edit file cert edits new renewed more
+    edit file cert edits new new
+    edit file cert edits new cert
+    edit file cert edits new renewed --seed 1
+    improve
+    improve file cert
+    improve file cert cert
+    improve file cert file
+    improve file file new
+    improve file cert new other
+    improve file cert _
+    improve file cert --turns 9
+    improve file cert new --turns 0
+    improve file cert new --turns 1048577
+    improve file cert new --seed 1 --seed 1
+    improve --turns 9 file cert new
+    check file
+    check file file
+    check file cert other
+    check -file cert
+    check file cert --seed 1
+    check file cert --turns 1
+    upgrade file cert
+    upgrade file cert file
+    upgrade file cert cert
+    upgrade file cert new other
+    upgrade file cert new --seed 1
+"""
+
+# Words that are a command of the street, each of which is done.
+COMMANDS = """
+    solve file cert
+    solve file cert --turns 1
+    solve file cert --seed 7
+    solve file cert --turns 1 --seed 7
+    solve file cert --seed 007 --turns 001
+    solve file cert --turns 1048576 --seed 999999999999999999
+    solve file cert --turns 1 --seed 0
+    check file cert
+    sheet file cert
+    upgrade file cert new
+    postman file
+    fleet file
+    fleet file --turns 1048576
+    drill --seed 7 --turns 1
+    improve file cert new --turns 1
+    improve file cert new --seed 7
+    improve file cert new --seed 007 --turns 1
+    make help --seed 007
+    solve file b=c
+"""

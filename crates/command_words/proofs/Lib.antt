@@ -6,3 +6,4 @@ pub mod Entering
 pub mod Meaning
 pub mod Matched
 pub mod Budgets
+pub mod Adding

@@ -14,6 +14,13 @@ use Rattle.command_words.specs.Words.{number_of}
 use Rattle.command_words.proofs.Meaning.{Means}
 use Rattle.command_words.proofs.Numbers.{parsed}
 
+-- a value that was found, and one that was not
+pub of_some : {A : Type 0} (P : A → Type 0) (o : Option A) (x : A) → o ≡ Some x → IsSomeAnd o P → P x
+of_some P o x is holds = subst (λ r. IsSomeAnd r P) is holds
+
+pub of_none : {A : Type 0} (P : A → Type 0) (o : Option A) → o ≡ None → IsSomeAnd o P → ⊥
+of_none P o is holds = subst (λ r. IsSomeAnd r P) is holds
+
 some_of : {X Y : Type 0} (f : X → Y) (o : Option X) (y : Y) → option_map f o ≡ Some y → IsSomeAnd o (λ x. f x ≡ y)
 some_of f None y e = cc
 some_of f (Some x) y e = cc

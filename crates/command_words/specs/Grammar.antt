@@ -36,14 +36,17 @@ fleet_app = with_turns (codes "64") (one_name (codes "fleet"))
 abbrev pub drill_app : App
 drill_app = with_seed (with_turns (codes "4") (new_app (codes "drill")))
 
+abbrev pub three_names : (verb id : Text) → App
+three_names verb id = with_rule (two_names verb) (name_rule id)
+
 abbrev pub upgrade_app : App
-upgrade_app = with_rule (two_names (codes "upgrade")) (name_rule (codes "renewed"))
+upgrade_app = three_names (codes "upgrade") (codes "renewed")
 
 abbrev pub edit_app : App
-edit_app = with_rule (with_rule (with_rule (two_names (codes "edit")) (name_rule (codes "edits"))) (name_rule (codes "edited"))) (name_rule (codes "carried"))
+edit_app = with_rule (with_rule (three_names (codes "edit") (codes "edits")) (name_rule (codes "edited"))) (name_rule (codes "carried"))
 
 abbrev pub improve_app : App
-improve_app = with_seed (with_turns (codes "64") (with_rule (two_names (codes "improve")) (name_rule (codes "improved"))))
+improve_app = with_seed (with_turns (codes "64") (three_names (codes "improve") (codes "improved")))
 
 abbrev pub without_name : App → App
 without_name = on_top (λ s. record s { no_binary_name = true })
