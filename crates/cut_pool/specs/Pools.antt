@@ -1,5 +1,5 @@
 -- Shores in the order of discovery, each as its rising list.
-use Rattle.std.specs.Prelude.{◌≡◌, ℕ, zero, suc, ◌<◌, ◌≤◌, List, [], length, slice_index_or}
+use Rattle.std.specs.Prelude.{◌≡◌, ℕ, zero, suc, ◌<◌, ◌≤◌, List, [], ◌++◌, length, slice_index_or}
 use Rattle.carp_base.specs.declared.fail.Fail.{Fail}
 use Rattle.carp_base.specs.declared.fail.Fail.TheVariants.{Memory, Refused}
 use Rattle.cut_pool.specs.declared.pool.PoolFull.{PoolFull}
@@ -26,6 +26,11 @@ Holds pool shore = (i : ℕ) × IsHeldAs pool shore i
 -- no shore stands under two numbers
 abbrev pub AreDifferent : List (List ℕ) → Type 0
 AreDifferent pool = (i j : ℕ) → IsShoreNumber pool i → IsShoreNumber pool j → shore_at pool i ≡ shore_at pool j → i ≡ j
+
+-- shores were added to a pool behind those that it held
+pub record IsGrown (pool after : List (List ℕ)) : Type 0 where
+  pub more : List (List ℕ)
+  pub added : after ≡ pool ++ more
 
 -- why a shore is not placed: it is new, and memory was not to be had, or 2,000 others are held
 abbrev pub RefusesShore : List (List ℕ) → List ℕ → Fail PoolFull → Type 0
