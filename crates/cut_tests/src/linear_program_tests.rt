@@ -131,13 +131,14 @@ fn are_covered(
     generator: &mut Lcg64Xsh32,
     sides: &[i128],
 ) -> Result<bool, Fail> {
-    let mut covered = true;
     for turn in 0..400 {
         let ended = program.solve(alloc, store, turn % 2 == 1, &CAPS)?;
-        covered &= ended && is_covered(alloc, store, program, sides)?;
+        if !ended || !is_covered(alloc, store, program, sides)? {
+            return Ok(false);
+        }
         change_range(program, generator)?;
     }
-    Ok(covered)
+    Ok(true)
 }
 
 // A new range for the multiplier of a drawn row.
