@@ -3,15 +3,15 @@
 #![tactic(auto)]
 
 mod cases;
-mod plans;
-mod shores;
+mod plan_texts;
+mod shore_texts;
 
 use carp_base::{Instance, RawEdge};
 pub use cases::{
     listed, number, numbers, numbers32, part, push_listed, signed_numbers, try_cases, yes_or_no,
 };
-pub use plans::{plan_of, plan_text, step_of, walk_of, walk_text};
-pub use shores::{shore_of, shores, vertices, weighted};
+pub use plan_texts::{plan_of, plan_text, step_of, walk_of, walk_text};
+pub use shore_texts::{shore_of, shores, vertices, weighted};
 use std::alloc::{AllocError, Global};
 use std::test::Fail;
 
