@@ -42,7 +42,8 @@ fn three_groups(alloc: Global) -> Result<Vec<WeightedGroup>, Fail>
 // What these weights come to if one edge follows another.
 fn surcharge(alloc: Global, input: &str) -> Result<String, Fail> {
     let groups = three_groups(alloc)?;
-    match numbers32(alloc, input)?.as_slice() {
+    let edges = numbers32(alloc, input)?;
+    match edges.as_slice() {
         [e, f] => Ok(listed(alloc, &[surcharge_of(&groups, *e, *f)])?),
         _ => Err("two edges")?,
     }
@@ -53,7 +54,8 @@ fn node_of(alloc: Global, text: &str) -> Result<Node, Fail>
     ensures { IfOk result IsFineSplit }
 {
     let (kind, rest) = text.split_once(' ').unwrap_or((text, ""));
-    match (kind, numbers32(alloc, rest)?.as_slice()) {
+    let numbers = numbers32(alloc, rest)?;
+    match (kind, numbers.as_slice()) {
         ("pair", [a, b]) => Ok(Node::Pair { a: *a, b: *b }),
         ("price", [set]) => Ok(Node::Price { set: *set }),
         ("void", []) => Ok(Node::Void),

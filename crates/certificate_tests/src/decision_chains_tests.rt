@@ -16,11 +16,24 @@ pub fn answer(alloc: Global, over: &str, call: &str, input: &str) -> Result<Stri
     if !are_pairs_in(&inst, &decisions) {
         Err("pairs of required edges")?
     }
-    let chains = Chains::of(alloc, &inst, &decisions)?;
+    tell(alloc, &inst, &decisions, call, part(input, 1))
+}
+
+// What the chains of the decisions tell.
+fn tell(
+    alloc: Global,
+    inst: &Instance,
+    decisions: &[Decision],
+    call: &str,
+    pair: &str,
+) -> Result<String, Fail>
+    requires { ArePairsIn inst.now decisions.now }
+{
+    let chains = Chains::of(alloc, inst, decisions)?;
     match call {
         "chains" => Ok(String::from_str(alloc, kind_of(&chains))?),
-        "excludes" => excludes(alloc, &chains, part(input, 1)),
-        "determines" => determines(alloc, &chains, part(input, 1)),
+        "excludes" => excludes(alloc, &chains, pair),
+        "determines" => determines(alloc, &chains, pair),
         _ => Err("no such call")?,
     }
 }
@@ -48,7 +61,8 @@ fn decision_of(alloc: Global, text: &str) -> Result<Decision, Fail> {
 }
 
 fn pair_of(alloc: Global, text: &str) -> Result<[u32; 2], Fail> {
-    match numbers32(alloc, text)?.as_slice() {
+    let numbers = numbers32(alloc, text)?;
+    match numbers.as_slice() {
         [a, b] => Ok([*a, *b]),
         _ => Err("a pair has two edges")?,
     }

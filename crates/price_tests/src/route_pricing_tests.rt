@@ -49,7 +49,8 @@ fn exclude(alloc: Global, inst: &Instance, allowed: &mut Allowed, pair: &str) ->
     ensures { allowed.new.size ≡ inst.now.required }
 {
     let last = inst.required();
-    match numbers32(alloc, pair)?.as_slice() {
+    let edges = numbers32(alloc, pair)?;
+    match edges.as_slice() {
         [a, b] if 1 <= *a && *a <= last && 1 <= *b && *b <= last => allowed.exclude(*a, *b),
         [] => {}
         _ => Err("a pair of required edges")?,
@@ -108,7 +109,8 @@ fn ratio(alloc: Global, table: &Table) -> Result<String, Fail>
 fn rate(alloc: Global, table: &Table) -> Result<String, Fail>
     requires { IsReady table.now }
 {
-    let (Some(rate), Some(tour)) = (table.least_rate(), table.rate_tour(alloc)?) else {
+    let tour = table.rate_tour(alloc)?;
+    let (Some(rate), Some(tour)) = (table.least_rate(), tour) else {
         return Ok(String::from_str(alloc, "none")?);
     };
     let edges = edges_of(alloc, &tour)?;

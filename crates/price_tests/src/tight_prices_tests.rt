@@ -106,14 +106,30 @@ fn tight(
     if !all_belong(inst, &pool) || start.services() != inst.required() as usize {
         return Err("shores and prices of the instance")?;
     }
-    let known = pool.len();
+    let set = tightened(alloc, inst, &pool, branch, start)?;
+    Ok(set_text(alloc, &set)?)
+}
+
+fn tightened(
+    alloc: Global,
+    inst: &Instance,
+    pool: &ShorePool,
+    branch: &Branch,
+    start: &PriceSet,
+) -> Result<PriceSet, Fail>
+    requires pairs { ArePairsIn inst.now branch.now }
+    requires belong { All (Belongs inst.now) pool.now }
+    requires shores { All (λ w. IsShoreOf inst.now pool.now w.shore) start.now.weights }
+    requires one_each { length start.now.services ≡ inst.now.required }
+{
     let net = Network::new(alloc, inst)?;
     let mut table = Table::new(alloc, inst)?;
-    if !fits(alloc, inst, &net, &mut table, &pool, branch, start)? {
+    if !fits(alloc, inst, &net, &mut table, pool, branch, start)? {
         return Err("the set does not fit")?;
     }
-    let set = tighten(alloc, inst, &net, &mut table, &pool, branch, start, known)?;
-    Ok(set_text(alloc, &set)?)
+    let known = pool.len();
+    let set = tighten(alloc, inst, &net, &mut table, pool, branch, start, known)?;
+    Ok(set)
 }
 
 // The prices of a set, and its weights.
