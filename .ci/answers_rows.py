@@ -338,13 +338,18 @@ ENDS = """
     end~ | end~~ | 5 bad certificate: line 16 cannot be read~
 """
 
-# An instance and its certificate, edits, and what `edit` answers, with what `check` answers behind it if the edits are made.
+# An instance and its certificate, edits, and what `edit` answers, with what `check` answers behind it if the edits are made. Where three vehicles
+# are needed, a group of three streets has no room any more, and a cut at 4 deadheads gives way to its second child.
 EDITED = """
     row row | cost 1 2~ | 0 edited edges 2 closed 0~cost 26~bound 20~open gap 6~0 accepted~cost 26~bound 20~
     row row |  | 0 edited edges 2 closed 0~cost 20~bound 20~proven~0 accepted~cost 20~bound 20~
     wide_ring wide_ring | demand 1 2~ | 0 edited edges 4 closed 0~cost 67~bound 45~open gap 22~0 accepted~cost 67~bound 45~
     wide_ring split | demand 1 2~ | 0 edited edges 4 closed 0~cost 67~bound 45~open gap 22~0 accepted~cost 67~bound 45~
     wide_ring split | demand 1 1~ | 0 edited edges 4 closed 0~cost 45~bound 45~proven~0 accepted~cost 45~bound 45~
+    wide_ring group_ring |  | 0 edited edges 4 closed 0~cost 45~bound 45~proven~0 accepted~cost 45~bound 45~
+    wide_ring group_ring | demand 1 2~ | 0 edited edges 4 closed 0~cost 67~bound 45~open gap 22~0 accepted~cost 67~bound 45~
+    wide_ring group_ring | demand 1 3~demand 2 2~ | 0 edited edges 4 closed 0~cost 67~bound 66~open gap 1~0 accepted~cost 67~bound 66~
+    star star | demand 1 1~ | 0 edited edges 6 closed 0~cost 610~bound 610~proven~0 accepted~cost 610~bound 610~
     wide_ring wide_ring | close 4~ | 11 bad edit: edge 1 cannot be reached~
     wide_ring wide_ring | demand 1 4~ | 11 bad edit: edge 1 has a demand above the capacity~
     wide_ring wide_ring | cost 4 999991~ | 11 bad edit: edge 4 has too large a cost~

@@ -1,3 +1,0 @@
-pub mod LightSets
-pub mod SmallTrees
-pub mod SameServices

@@ -1,7 +1,0 @@
-use Rattle.std.proofs.Common.{ℕ, ◌<◌, get_or}
-use Rattle.decision_chains.specs.Pairs.{HasPairWithin}
-use Rattle.decision_chains.specs.declared.decision.Decision.{Decision}
-use Rattle.tree_tests.proofs.decision_chains_tests.are_decisions.Given as goal
-
-abbrev pub invariant-loop-decision : goal.invariant-loop-decision
-invariant-loop-decision l = (k : ℕ) (other : Decision) → k < l.decision-index → HasPairWithin l.fn.inst.required (get_or l.decisions k other)
