@@ -1,8 +1,9 @@
 // Answers of searches with an adviser that lies, for the cases of `data/liars`.
+ghost use Rattle.std.specs.Prelude.{◌≤◌};
 ghost use Rattle.cert_lines.specs.Spelling.{IsSpellable};
 ghost use Rattle.cert_format.specs.Certs.{certificate_in};
 
-use crate::liar::{Liar, lie_of};
+use crate::liar::{Liar, Lie, lie_of};
 use carp_base::Instance;
 use carp_engine::solve_with;
 use cert_checker::{Answer, check};
@@ -19,22 +20,30 @@ pub fn answer(alloc: Global, over: &str, call: &str, input: &str) -> Result<Stri
     if turns < 1 || 1_048_576 < turns {
         Err("the turns are out of range")?
     }
-    let Some(lie) = lie_of(call) else {
-        Err("no such adviser")?
-    };
+    match lie_of(call) {
+        Some(lie) => searched(alloc, &inst, turns, lie),
+        None => Err("no such adviser")?,
+    }
+}
+
+// The cost and the bound that a search ends with, if one adviser is asked.
+fn searched(alloc: Global, inst: &Instance, turns: u64, lie: Lie) -> Result<String, Fail>
+    requires some_turns { 1 ≤ turns }
+    requires turns_in_range { turns ≤ 1048576 }
+{
     let mut helpers: Vec<Box<dyn Proposer>> = Vec::new(alloc);
     let mut advisers: Vec<Liar> = Vec::new(alloc);
     advisers.push(Liar::new(lie))?;
     let solved = solve_with(
         alloc,
-        &inst,
+        inst,
         turns,
         1,
         &mut helpers,
         &mut advisers,
         &mut Silent,
     )?;
-    judged(alloc, &inst, &solved.cert)
+    judged(alloc, inst, &solved.cert)
 }
 
 // The cost and the bound of a certificate, once a check has accepted it.

@@ -21,16 +21,17 @@ pub fn answer(alloc: Global, _over: &str, call: &str, input: &str) -> Result<Str
     if call != "match" {
         Err("no such call")?
     }
-    let words = numbers(alloc, input)?;
-    let [members, width, inside, between] = words.as_slice() else {
-        Err("four numbers are asked for")?
-    };
-    let groups = Groups {
-        width: (*width).clamp(1, 1000) as u32,
-        inside: *inside,
-        between: *between,
-    };
-    matched(alloc, (*members).min(1000) as u32, groups)
+    match numbers(alloc, input)?.as_slice() {
+        [members, width, inside, between] => {
+            let groups = Groups {
+                width: (*width).clamp(1, 1000) as u32,
+                inside: *inside,
+                between: *between,
+            };
+            matched(alloc, (*members).min(1000) as u32, groups)
+        }
+        _ => Err("four numbers are asked for")?,
+    }
 }
 
 // The cost of a least matching, and the sum of the halves of its odd sets.

@@ -13,11 +13,10 @@ pub fn answer(alloc: Global, _over: &str, call: &str, input: &str) -> Result<Str
     if call != "flow" {
         Err("no such call")?
     }
-    let words = numbers32(alloc, part(input, 0))?;
-    let [nodes, from, to] = words.as_slice() else {
-        Err("three numbers come first")?
-    };
-    flow(alloc, *nodes, *from, *to, part(input, 1))
+    match numbers32(alloc, part(input, 0))?.as_slice() {
+        [nodes, from, to] => flow(alloc, *nodes, *from, *to, part(input, 1)),
+        _ => Err("three numbers come first")?,
+    }
 }
 
 // The value of a greatest flow.

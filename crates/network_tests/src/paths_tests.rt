@@ -28,17 +28,21 @@ pub fn answer(alloc: Global, over: &str, call: &str, input: &str) -> Result<Stri
 fn least(alloc: Global, inst: &Instance, dist: &Distances, input: &str) -> Result<String, Fail>
     requires { dist.now.problem ≡ inst.now }
 {
-    let words = numbers32(alloc, input)?;
-    let [from, to] = words.as_slice() else {
-        Err("two vertices are asked for")?
-    };
-    let (from, to, last) = (*from, *to, inst.vertices());
+    let (from, to) = two_of(alloc, input)?;
+    let last = inst.vertices();
     if from < 1 || last < from || to < 1 || last < to {
         Err("no such vertex")?
     }
     match dist.get(from, to) {
         Some(price) => Ok(listed(alloc, &[price])?),
         None => Ok(String::from_str(alloc, "none")?),
+    }
+}
+
+fn two_of(alloc: Global, input: &str) -> Result<(u32, u32), Fail> {
+    match numbers32(alloc, input)?.as_slice() {
+        [from, to] => Ok((*from, *to)),
+        _ => Err("two vertices are asked for")?,
     }
 }
 
