@@ -119,7 +119,14 @@ fn split_of(lie: Lie, decisions: u64) -> Option<Node> {
 }
 
 // Prices for four services, the greatest ones or 0.
-fn four_prices(alloc: Global, inst: &Instance, greatest: bool) -> Result<Option<PriceSet>, Memory> {
+fn four_prices(
+    alloc: Global,
+    inst: &Instance,
+    pool: &ShorePool,
+    greatest: bool,
+) -> Result<Option<PriceSet>, Memory>
+    ensures { IfOk result (λ found. IfSome found (IsOffer inst.now pool.now)) }
+{
     if inst.required() != 4 {
         return Ok(None);
     }

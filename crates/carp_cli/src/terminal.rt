@@ -45,6 +45,7 @@ fn phase_of(standing: &Standing) -> &'static [u8] {
 }
 
 // A line, in an array, so that it takes no memory. What does not fit is left out.
+#[derive(Drop)]
 struct Line {
     bytes: [u8; LINE],
     len: usize,
