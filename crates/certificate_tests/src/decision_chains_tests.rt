@@ -1,5 +1,5 @@
 // Answers of the chains of decisions, for the cases of `data/decision_chains`.
-ghost use Rattle.std.specs.Prelude.{◌≡◌, IfOk, IsTrue};
+ghost use Rattle.std.specs.Prelude.{IsTrue};
 ghost use Rattle.carp_base.specs.Problem.{IsRequired};
 ghost use Rattle.decision_chains.specs.ChainTables.{IsChainTable};
 ghost use Rattle.decision_chains.specs.Pairs.{ArePairsIn, HasPairWithin};

@@ -21,11 +21,12 @@ pub fn answer(alloc: Global, over: &str, call: &str, input: &str) -> Result<Stri
     if required != 2 {
         return Err("two required edges")?;
     }
-    let branch = match call {
-        "tight" => decided(alloc, false)?,
-        "apart" => decided(alloc, true)?,
+    let apart = match call {
+        "tight" => false,
+        "apart" => true,
         _ => return Err("no such call")?,
     };
+    let branch = decided(alloc, apart)?;
     let start = set_of(alloc, part(input, 0))?;
     tight(alloc, &inst, &branch, &start, part(input, 1))
 }

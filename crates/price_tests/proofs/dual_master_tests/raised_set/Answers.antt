@@ -1,4 +1,4 @@
-use Rattle.std.proofs.Common.{List, [], subst, sym}
+use Rattle.std.proofs.Common.{List, subst, sym}
 use Rattle.decision_chains.specs.declared.decision.Decision.{Decision}
 use Rattle.branch_rules.specs.Laws.{FitsBranch}
 use Rattle.price_tests.proofs.dual_master_tests.raised_set.Goals as goal
