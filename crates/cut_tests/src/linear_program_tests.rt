@@ -109,17 +109,17 @@ fn drawn_entries(
     let mut entries = Vec::new(alloc);
     for row in 0..ROWS {
         if draw(generator, ROWS as u32) < 8 {
-            let coefficient = generator.next_u32() % 200 + 1;
-            *sum = sum.saturating_add(coefficient);
-            entries.push(entry(row, coefficient)?)?;
+            let less_one = (generator.next_u32() % 200) as u8;
+            *sum = sum.saturating_add(u32::from(less_one) + 1);
+            entries.push(entry(row, less_one)?)?;
         }
     }
     Ok(entries)
 }
 
-fn entry(row: usize, coefficient: u32) -> Result<Entry, Fail> {
+fn entry(row: usize, less_one: u8) -> Result<Entry, Fail> {
     let row = RowId::new(row).ok_or("no number of a row")?;
-    Ok(Entry::new(row, coefficient as i32).ok_or("no coefficient")?)
+    Ok(Entry::new(row, i32::from(less_one) + 1).ok_or("no coefficient")?)
 }
 
 // Whether all rows are covered in each of many programs after one another, each from the basis of the one before with another range for the

@@ -12,17 +12,26 @@ use samples::plan_of;
 use std::alloc::Global;
 use std::test::Fail;
 
-// What a helper offers.
+/// What a helper offers.
 #[derive(Drop)]
-enum Part {
-    // A copy of a plan.
+pub enum Part {
+    /// A copy of a plan.
     Plan(Plan),
     Nothing,
-    // It has no memory.
+    /// It has no memory.
     NoMemory,
 }
 
 impl Part {
+    /// The plan of a text, `nothing`, or `no memory`.
+    pub fn of(alloc: Global, text: &str) -> Result<Part, Fail> {
+        match text {
+            "nothing" => Ok(Part::Nothing),
+            "no memory" => Ok(Part::NoMemory),
+            _ => Ok(Part::Plan(plan_of(alloc, text)?)),
+        }
+    }
+
     // The plan that is offered.
     fn plan(&self, alloc: Global) -> Result<Option<Plan>, Memory> {
         match self {
@@ -36,21 +45,10 @@ impl Part {
 #[derive(Drop)]
 pub struct Actor {
     pub standing: Standing,
-    part: Part,
+    pub part: Part,
 }
 
 impl Actor {
-    // A helper that offers the plan of a text, nothing, or has no memory.
-    pub fn new(alloc: Global, id: u64, text: &str) -> Result<Actor, Fail> {
-        let part = match text {
-            "nothing" => Part::Nothing,
-            "no memory" => Part::NoMemory,
-            _ => Part::Plan(plan_of(alloc, text)?),
-        };
-        let standing = Standing::new(id);
-        Ok(Actor { standing, part })
-    }
-
     // Counts the offer of a plan with this verdict.
     fn count(&mut self, verdict: Verdict)
         requires { self.old.standing.fouls < 1000 }

@@ -1,8 +1,9 @@
 // What helpers do to each other and to the best plan, for the cases of `data/helper_rounds`.
 
-use crate::actor::Actor;
+use crate::actor::{Actor, Part};
 use carp_base::{Instance, Memory};
 use deadhead_paths::{single_tours, tidy};
+use helper_frame::Standing;
 use helper_rounds::{Heard, ask_all, consult, dismiss};
 use samples::{instance_of, number, part, push_listed};
 use std::alloc::Global;
@@ -22,11 +23,14 @@ pub fn answer(alloc: Global, over: &str, call: &str, input: &str) -> Result<Stri
 fn heard(alloc: Global, inst: &Instance, text: &str) -> Result<String, Fail> {
     let dist = cost_distances(alloc, inst)?;
     let mut best = single_tours(alloc, inst, &dist)?;
-    let mut helper = Actor::new(alloc, 5, text)?;
-    let heard = word_of(consult(alloc, inst, &dist, &mut best, &mut helper));
+    let mut helper = Actor {
+        standing: Standing::new(5),
+        part: Part::of(alloc, text)?,
+    };
+    let heard = consult(alloc, inst, &dist, &mut best, &mut helper);
     let cost = lawful_cost(alloc, inst, &best)?;
-    let fouls = helper.standing.fouls;
-    Ok(format!(in alloc; "{heard} {cost} {fouls}")?)
+    let (word, fouls) = (word_of(heard), helper.standing.fouls);
+    Ok(format!(in alloc; "{word} {cost} {fouls}")?)
 }
 
 fn word_of(heard: Result<Heard, Memory>) -> &'static str {
@@ -51,8 +55,9 @@ fn asked(alloc: Global, inst: &Instance, word: u64, texts: &str) -> Result<Strin
 fn helpers_of(alloc: Global, texts: &str) -> Result<Vec<Actor>, Fail> {
     let mut helpers = Vec::new(alloc);
     for (place, text) in texts.split('/').enumerate() {
-        let helper = Actor::new(alloc, place as u64, text.trim())?;
-        helpers.push(helper)?;
+        let part = Part::of(alloc, text.trim())?;
+        let standing = Standing::new(place as u64);
+        helpers.push(Actor { standing, part })?;
     }
     Ok(helpers)
 }
