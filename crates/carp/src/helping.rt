@@ -44,35 +44,31 @@ pub(crate) fn run_with_helpers<H: Shelf, O: Sink, W: Watch>(
     out: &mut O,
     watch: &mut W,
 ) -> Status {
-    let (scanner, merger, splitter, mover) = four_helpers();
-    let (Ok(scanner), Ok(merger), Ok(splitter), Ok(mover)) = (
-        Box::new(alloc, scanner),
-        Box::new(alloc, merger),
-        Box::new(alloc, splitter),
-        Box::new(alloc, mover),
-    ) else {
-        return Status::Memory;
-    };
-    let four: [Box<dyn Proposer>; 4] = [scanner, merger, splitter, mover];
-    let mut helpers: Vec<Box<dyn Proposer>> = Vec::new(alloc);
-    for helper in four {
-        if helpers.push(helper).is_err() {
-            return Status::Memory;
-        }
+    match run_with_boxes(alloc, words, shelf, out, watch) {
+        Ok(status) => status,
+        Err(Memory) => Status::Memory,
     }
-    let mut advisers: Vec<Box<dyn Adviser>> = Vec::new(alloc);
-    if push_advisers(alloc, &mut advisers).is_err() {
-        return Status::Memory;
-    }
-    let status = run_with(alloc, words, shelf, out, &mut helpers, &mut advisers, watch);
-    dismiss(&mut helpers);
-    status
 }
 
-// Puts the three advisers behind those of the list.
-fn push_advisers(alloc: Global, advisers: &mut Vec<Box<dyn Adviser>>) -> Result<(), Memory> {
+// The same, if there is memory for the boxes of the helpers and advisers.
+fn run_with_boxes<H: Shelf, O: Sink, W: Watch>(
+    alloc: Global,
+    words: &[String],
+    shelf: &mut H,
+    out: &mut O,
+    watch: &mut W,
+) -> Result<Status, Memory> {
+    let (scanner, merger, splitter, mover) = four_helpers();
+    let mut helpers: Vec<Box<dyn Proposer>> = Vec::new(alloc);
+    helpers.push(Box::new(alloc, scanner)?)?;
+    helpers.push(Box::new(alloc, merger)?)?;
+    helpers.push(Box::new(alloc, splitter)?)?;
+    helpers.push(Box::new(alloc, mover)?)?;
+    let mut advisers: Vec<Box<dyn Adviser>> = Vec::new(alloc);
     advisers.push(Box::new(alloc, ShoreAdviser)?)?;
     advisers.push(Box::new(alloc, AscentAdviser)?)?;
     advisers.push(Box::new(alloc, LeafPrograms::new(alloc))?)?;
-    Ok(())
+    let status = run_with(alloc, words, shelf, out, &mut helpers, &mut advisers, watch);
+    dismiss(&mut helpers);
+    Ok(status)
 }
