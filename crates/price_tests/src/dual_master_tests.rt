@@ -1,5 +1,5 @@
 // Answers of the best of the floors and of raised sets, for the cases of `data/dual_master`.
-ghost use Rattle.std.specs.Prelude.{◌≡◌, [], All, IfOk, OnOk};
+ghost use Rattle.std.specs.Prelude.{◌≡◌, [], All, IfOk, OnOk, length};
 ghost use Rattle.branch_rules.specs.Laws.{FitsBranch};
 ghost use Rattle.branch_rules.specs.Limits.{IsShoreOf};
 ghost use Rattle.carp_base.specs.Problem.{Problem};
@@ -18,12 +18,14 @@ use samples::{instance_of, push_listed, vertices};
 use std::alloc::{AllocError, Global};
 use std::test::Fail;
 use task_tours::cost_distances;
+use tight_prices::fits;
 
 pub fn answer(alloc: Global, over: &str, call: &str, input: &str) -> Result<String, Fail> {
     let inst = instance_of(alloc, over)?;
     match call {
         "floor" => floor(alloc, &inst),
         "raised" => raised(alloc, &inst, input.parse::<u32>()?),
+        "from" => from_price(alloc, &inst, input.parse::<i32>()?),
         _ => Err("no such call")?,
     }
 }
@@ -131,4 +133,36 @@ fn raised_set(
     let root = no_decisions(alloc);
     let set = raise(alloc, inst, net, table, pool, &root, start, rounds)?;
     Ok(set)
+}
+
+// The value of a set of one price in units of 1, once it is raised over no shores and by no rounds.
+fn from_price(alloc: Global, inst: &Instance, price: i32) -> Result<String, Fail> {
+    if inst.required() != 1 {
+        return Err("one required edge")?;
+    }
+    let start = one_price(alloc, price)?;
+    raised_from(alloc, inst, &start)
+}
+
+fn one_price(alloc: Global, price: i32) -> Result<PriceSet, Fail>
+    ensures one { IfOk result (λ set. length set.services ≡ 1) }
+    ensures none { IfOk result (λ set. set.weights ≡ []) }
+{
+    let set = PriceSet::new(alloc, 1, &[i64::from(price)], &[])?;
+    Ok(set)
+}
+
+fn raised_from(alloc: Global, inst: &Instance, start: &PriceSet) -> Result<String, Fail>
+    requires one_each { length start.now.services ≡ inst.now.required }
+    requires none { start.now.weights ≡ [] }
+{
+    let net = Network::new(alloc, inst)?;
+    let mut table = Table::new(alloc, inst)?;
+    let mut pool = no_shores(alloc);
+    let root = no_decisions(alloc);
+    if !fits(alloc, inst, &net, &mut table, &pool, &root, start)? {
+        return Err("the set does not fit")?;
+    }
+    let set = raised_set(alloc, inst, &net, &mut table, &mut pool, start, 0)?;
+    value_text(alloc, inst, &pool, &set)
 }
