@@ -51,3 +51,25 @@ impl<I:Iterator> CollectIn for I{}
 
 pub struct BinaryHeap<T>(pub std::collections::BinaryHeap<T>);
 impl<T:Ord> BinaryHeap<T>{pub fn new(_:Global)->Self{BinaryHeap(Default::default())} pub fn push(&mut self,x:T)->Result<(),AllocFailed<T>>{self.0.push(x);Ok(())} pub fn pop(&mut self)->Option<T>{self.0.pop()} pub fn len(&self)->usize{self.0.len()} pub fn is_empty(&self)->bool{self.0.is_empty()}}
+pub mod itoa{ pub struct Buffer(String); impl Buffer{pub fn new()->Self{Buffer(String::new())} pub fn format<T:std::fmt::Display>(&mut self,n:T)->&str{self.0=n.to_string();&self.0}} pub trait Integer:std::fmt::Display+Copy{} impl Integer for u8{} impl Integer for u32{} impl Integer for u64{} impl Integer for u128{} impl Integer for i64{} impl Integer for i128{} impl Integer for usize{} impl Integer for i32{} }
+pub mod arrayvec{ #[derive(Debug,Clone,PartialEq,Eq)] pub struct ArrayVec<T,const N:usize>(pub std::vec::Vec<T>); impl<T,const N:usize> ArrayVec<T,N>{pub fn new()->Self{ArrayVec(vec![])} pub fn push(&mut self,x:T){self.0.push(x)} pub fn try_push(&mut self,x:T)->Result<(),T>{if self.0.len()<N{self.0.push(x);Ok(())}else{Err(x)}} pub fn len(&self)->usize{self.0.len()} pub fn is_full(&self)->bool{self.0.len()==N} pub fn is_empty(&self)->bool{self.0.is_empty()} pub fn clear(&mut self){self.0.clear()} pub fn as_slice(&self)->&[T]{&self.0}} impl<T,const N:usize> std::ops::Deref for ArrayVec<T,N>{type Target=[T];fn deref(&self)->&[T]{&self.0}} impl<T,const N:usize> std::ops::DerefMut for ArrayVec<T,N>{fn deref_mut(&mut self)->&mut [T]{&mut self.0}} }
+#[derive(Debug,Clone,PartialEq,Eq,PartialOrd,Ord,Hash)] pub struct String(pub std::string::String);
+impl String{pub fn new(_:Global)->Self{String(Default::default())} pub fn from_str(_:Global,s:&str)->Result<Self,AllocError>{Ok(String(s.to_string()))} pub fn push_str(&mut self,s:&str)->Result<(),AllocError>{self.0.push_str(s);Ok(())} pub fn push(&mut self,c:char)->Result<(),AllocError>{self.0.push(c);Ok(())} pub fn as_str(&self)->&str{&self.0} pub fn as_bytes(&self)->&[u8]{self.0.as_bytes()} pub fn into_bytes(self)->Vec<u8>{Vec(self.0.into_bytes())} pub fn write_fmt(&mut self,a:std::fmt::Arguments)->Result<(),AllocError>{self.0.push_str(&a.to_string());Ok(())} pub fn is_empty(&self)->bool{self.0.is_empty()}}
+impl std::ops::Deref for String{type Target=str;fn deref(&self)->&str{&self.0}}
+impl std::fmt::Display for String{fn fmt(&self,f:&mut std::fmt::Formatter)->std::fmt::Result{f.write_str(&self.0)}}
+#[macro_export] macro_rules! fmt_in{($($x:tt)*)=>{std::result::Result::<crate::shim::String,crate::shim::AllocError>::Ok(crate::shim::String(format!($($x)*)))};}
+pub const CALLS: usize = 2000;
+static REACHED: [std::sync::atomic::AtomicBool; CALLS] = [const { std::sync::atomic::AtomicBool::new(false) }; CALLS];
+static GIVEN: std::sync::OnceLock<usize> = std::sync::OnceLock::new();
+pub fn gives_up(call: usize) -> bool {
+    REACHED[call].store(true, std::sync::atomic::Ordering::Relaxed);
+    *GIVEN.get_or_init(|| std::env::var("GIVES_UP").ok().map(|x| x.parse().unwrap()).unwrap_or(usize::MAX)) == call
+}
+pub fn list_reached() {
+    if let Ok(name) = std::env::var("REACHED") {
+        let mut text = std::string::String::new();
+        for i in 0..CALLS { if REACHED[i].load(std::sync::atomic::Ordering::Relaxed) { text.push_str(&format!("{i}\n")); } }
+        use std::io::Write;
+        std::fs::OpenOptions::new().append(true).create(true).open(name).unwrap().write_all(text.as_bytes()).unwrap();
+    }
+}
