@@ -88,10 +88,33 @@ fn value_text(
 fn floor(alloc: Global, inst: &Instance) -> Result<String, Fail> {
     let net = Network::new(alloc, inst)?;
     let mut table = Table::new(alloc, inst)?;
+    floor_over(alloc, inst, &net, &mut table)
+}
+
+fn floor_over(
+    alloc: Global,
+    inst: &Instance,
+    net: &Network,
+    table: &mut Table,
+) -> Result<String, Fail>
+    requires net { net.now ≡ inst.now }
+    requires room { IsRoom inst.now table.old }
+{
     let mut pool = no_shores(alloc);
-    let set = best(alloc, inst, &net, &mut table, &mut pool)?;
-    let value = value_text(alloc, inst, &pool, &set)?;
-    let held = pool_text(alloc, &pool)?;
+    let set = best(alloc, inst, net, table, &mut pool)?;
+    floor_text(alloc, inst, &pool, &set)
+}
+
+fn floor_text(
+    alloc: Global,
+    inst: &Instance,
+    pool: &ShorePool,
+    set: &PriceSet,
+) -> Result<String, Fail>
+    requires { All (λ w. IsShoreOf inst.now pool.now w.shore) set.now.weights }
+{
+    let value = value_text(alloc, inst, pool, set)?;
+    let held = pool_text(alloc, pool)?;
     Ok(format!(in alloc; "{value}; {held}")?)
 }
 
@@ -158,11 +181,26 @@ fn raised_from(alloc: Global, inst: &Instance, start: &PriceSet) -> Result<Strin
 {
     let net = Network::new(alloc, inst)?;
     let mut table = Table::new(alloc, inst)?;
+    raised_over(alloc, inst, &net, &mut table, start)
+}
+
+fn raised_over(
+    alloc: Global,
+    inst: &Instance,
+    net: &Network,
+    table: &mut Table,
+    start: &PriceSet,
+) -> Result<String, Fail>
+    requires net { net.now ≡ inst.now }
+    requires room { IsRoom inst.now table.old }
+    requires one_each { length start.now.services ≡ inst.now.required }
+    requires none { start.now.weights ≡ [] }
+{
     let mut pool = no_shores(alloc);
     let root = no_decisions(alloc);
-    if !fits(alloc, inst, &net, &mut table, &pool, &root, start)? {
+    if !fits(alloc, inst, net, table, &pool, &root, start)? {
         return Err("the set does not fit")?;
     }
-    let set = raised_set(alloc, inst, &net, &mut table, &mut pool, start, 0)?;
+    let set = raised_set(alloc, inst, net, table, &mut pool, start, 0)?;
     value_text(alloc, inst, &pool, &set)
 }
