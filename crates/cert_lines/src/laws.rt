@@ -79,7 +79,8 @@ pub fn read_is_spelled()
 {}
 
 /// A certificate can be spelled if its numbers are in range, its shores rise and are different, its weights rise and
-/// are not 0, its pairs have the lesser edge first, and its nodes are a tree in preorder.
+/// are not 0, its pairs have the lesser edge first, its nodes are a tree in preorder, and it has the numbers of its
+/// instance if a price set has a group.
 pub fn fine_is_spellable()
     ensures { FineIsSpellable }
 {}
