@@ -2,7 +2,6 @@
 ghost use Rattle.std.specs.Prelude.{◌≡◌};
 
 use augment_merge::Merger;
-use carp_base::Memory;
 use carp_cli::{Status, run_with};
 use carp_engine::dismiss;
 use carp_outside::{Shelf, Sink};
@@ -44,31 +43,31 @@ pub(crate) fn run_with_helpers<H: Shelf, O: Sink, W: Watch>(
     out: &mut O,
     watch: &mut W,
 ) -> Status {
-    match run_with_boxes(alloc, words, shelf, out, watch) {
-        Ok(status) => status,
-        Err(Memory) => Status::Memory,
-    }
-}
-
-// The same, if there is memory for the boxes of the helpers and advisers.
-fn run_with_boxes<H: Shelf, O: Sink, W: Watch>(
-    alloc: Global,
-    words: &[String],
-    shelf: &mut H,
-    out: &mut O,
-    watch: &mut W,
-) -> Result<Status, Memory> {
     let (scanner, merger, splitter, mover) = four_helpers();
-    let mut helpers: Vec<Box<dyn Proposer>> = Vec::new(alloc);
-    helpers.push(Box::new(alloc, scanner)?)?;
-    helpers.push(Box::new(alloc, merger)?)?;
-    helpers.push(Box::new(alloc, splitter)?)?;
-    helpers.push(Box::new(alloc, mover)?)?;
-    let mut advisers: Vec<Box<dyn Adviser>> = Vec::new(alloc);
-    advisers.push(Box::new(alloc, ShoreAdviser)?)?;
-    advisers.push(Box::new(alloc, AscentAdviser)?)?;
-    advisers.push(Box::new(alloc, LeafPrograms::new(alloc))?)?;
+    let (Ok(scanner), Ok(merger), Ok(splitter), Ok(mover)) = (
+        Box::new(alloc, scanner),
+        Box::new(alloc, merger),
+        Box::new(alloc, splitter),
+        Box::new(alloc, mover),
+    ) else {
+        return Status::Memory;
+    };
+    let (Ok(shores), Ok(ascent), Ok(programs)) = (
+        Box::new(alloc, ShoreAdviser),
+        Box::new(alloc, AscentAdviser),
+        Box::new(alloc, LeafPrograms::new(alloc)),
+    ) else {
+        return Status::Memory;
+    };
+    let four: [Box<dyn Proposer>; 4] = [scanner, merger, splitter, mover];
+    let three: [Box<dyn Adviser>; 3] = [shores, ascent, programs];
+    let (Ok(mut helpers), Ok(mut advisers)) = (
+        Vec::from_array(alloc, four),
+        Vec::from_array(alloc, three),
+    ) else {
+        return Status::Memory;
+    };
     let status = run_with(alloc, words, shelf, out, &mut helpers, &mut advisers, watch);
     dismiss(&mut helpers);
-    Ok(status)
+    status
 }
