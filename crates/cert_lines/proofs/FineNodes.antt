@@ -75,11 +75,11 @@ some_nodes (price set) = omega arith
 some_nodes void = omega arith
 some_nodes fixed = omega arith
 
-front_all : (P : Node → Type 0) (xs ys : List Node) → AllByRecursion P (xs ++ ys) → AllByRecursion P xs
+pub front_all : (P : Node → Type 0) (xs ys : List Node) → AllByRecursion P (xs ++ ys) → AllByRecursion P xs
 front_all P [] ys all = tt
 front_all P (x ∷ xs) ys all = (all.0, front_all P xs ys all.1)
 
-back_all : (P : Node → Type 0) (xs ys : List Node) → AllByRecursion P (xs ++ ys) → AllByRecursion P ys
+pub back_all : (P : Node → Type 0) (xs ys : List Node) → AllByRecursion P (xs ++ ys) → AllByRecursion P ys
 back_all P [] ys all = all
 back_all P (x ∷ xs) ys all = back_all P xs ys all.1
 

@@ -18,4 +18,6 @@ pub mod Shapeless
 pub mod SpellableNodes
 pub mod SpellableLists
 pub mod Spellable
+pub mod Rooms
 pub mod Lengths
+pub mod LightLengths

@@ -8,5 +8,6 @@ pub mod Ranges
 pub mod Agreement
 pub mod Texts
 pub mod Spelling
+pub mod Lengths
 pub mod Laws
 pub mod Examples

@@ -25,6 +25,7 @@ ghost use Rattle.cert_lines.specs.Laws.{
   TextIsShort,
   SpellingIsShort,
 };
+ghost use Rattle.cert_lines.specs.Lengths.{LightTextsAreShort};
 
 /// A number of 64 bits is spelled as std writes it.
 pub fn numerals_are_decimals()
@@ -100,4 +101,10 @@ pub fn shores_are_fine()
 pub fn texts_are_short()
     ensures text { TextIsShort }
     ensures spelling { SpellingIsShort }
+{}
+
+/// The text of a light certificate has at most 64,000,000 bytes. A certificate is light if its plan has at most 600
+/// tours, the groups of each price set have at most 1,000 edges together, and no cut is at a number above 9,999.
+pub fn light_texts_are_short()
+    ensures { LightTextsAreShort }
 {}

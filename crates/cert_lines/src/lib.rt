@@ -32,9 +32,9 @@ pub use counts::Counts;
 pub use fault::CertFault;
 pub use item::Item;
 pub use laws::{
-    fine_is_spellable, lines_are_cut, lines_are_unique, numerals_are_decimals, numerals_grow,
-    read_is_spelled, readings_are_unique, shores_are_fine, spellable_is_fine, spelled_is_read,
-    texts_are_short, texts_are_unique,
+    fine_is_spellable, light_texts_are_short, lines_are_cut, lines_are_unique,
+    numerals_are_decimals, numerals_grow, read_is_spelled, readings_are_unique, shores_are_fine,
+    spellable_is_fine, spelled_is_read, texts_are_short, texts_are_unique,
 };
 pub use next::Next;
 pub use word::Word;
