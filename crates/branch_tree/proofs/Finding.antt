@@ -15,8 +15,7 @@ use Rattle.grown_trees.specs.declared.growing.GrowingNode.{GrowingNode}
 use Rattle.task_tours.specs.ShortLaws.{ShortPlansCostLittle}
 use Rattle.branch_tree.specs.Founds.{IsFound}
 use Rattle.branch_tree.specs.Searches.{IsHeld, State, support_in}
-use Rattle.branch_tree.specs.Values.{just_above}
-use Rattle.branch_tree.proofs.Numbers.{bound_within}
+use Rattle.branch_tree.proofs.Numbers.{shown_within}
 
 -- Each node shows no less than the base.
 
@@ -43,7 +42,7 @@ module _ (law : SoundIsTree) (costs : ShortPlansCostLittle) (p : Problem) (s : S
   small = omega (arith, held.cost_is, costs p s.plan held.valid held.allowed.lawful held.allowed.few_steps)
 
   is_tree : IsSoundTree (support_in p s) held.tree s.nodes
-  is_tree = law (support_in p s) (just_above s.least) held.tree s.nodes held.sound
+  is_tree = law (support_in p s) s.base held.tree s.nodes held.sound
 
   same : found ≡ preorder held.tree
   same = are ∙ sym is_tree.nodes
@@ -74,4 +73,4 @@ module _ (law : SoundIsTree) (costs : ShortPlansCostLittle) (p : Problem) (s : S
   pub no_less : s.least ≤ bound
   no_less =
       greatest s.least (omega (arith, held.cost_is, held.below s.plan held.allowed.lawful))
-      (λ k d less. bound_within s.least (get_or s.nodes k d).shows (each_enough (support_in p s) (just_above s.least) (stands [] held.tree) s.nodes held.sound k d less))
+      (λ k d less. shown_within s.base.unit s.least (get_or s.nodes k d).shows s.base.value held.shown (each_enough (support_in p s) s.base (stands [] held.tree) s.nodes held.sound k d less))

@@ -17,3 +17,5 @@ mod Shortness
 mod Tightness
 mod Cheaper
 mod Holding
+mod Preorders
+mod Reaching

@@ -109,7 +109,7 @@ turn_failed p before after r failed search turns least as_before = record {
 }
 
 pub as_before_same : (s : State) → IsAsBefore s s
-as_before_same s = record { grown = same_pool s.pool; sets = refl; nodes = refl; plan = refl; cost = refl; done = refl }
+as_before_same s = record { grown = same_pool s.pool; sets = refl; nodes = refl; plan = refl; cost = refl; done = refl; base = refl }
 
 -- a step for which there was no memory after other changes of the search that left its state as it was
 pub failed_framed : (p : Problem) (before after : Search) (r : Result Turn Memory) → IsErr r → IsSearch p before → IsFramed before after → state_of after ≡ state_of before → IsTurn p before after r
@@ -119,7 +119,7 @@ failed_framed p before after r failed search framed same =
     (subst (IsAsBefore (state_of before)) (sym same) (as_before_same (state_of before)))
 
 pub as_before_with : (s : State) (pool : List (List ℕ)) → IsGrown s.pool pool → IsAsBefore s (with_pool s pool)
-as_before_with s pool grown = record { grown = grown; sets = refl; nodes = refl; plan = refl; cost = refl; done = refl }
+as_before_with s pool grown = record { grown = grown; sets = refl; nodes = refl; plan = refl; cost = refl; done = refl; base = refl }
 
 -- what a leaf is that is neither void nor fixed
 module _ (known : Known) (p : Problem) (s : State) (held : IsHeld p s) (place : ℕ) (branch : List Decision) (at : IsAtLeaf s place branch) (not_void : ¬ (IsVoid p s.pool branch))

@@ -23,7 +23,7 @@ use Rattle.branch_tree.specs.Searches.{State, set_in, support_in}
 abbrev pub AreClosed : State → Type 0
 AreClosed s = All (λ entry. s.cost ≤ entry.shows) s.nodes
 
--- the tree, the price sets and the best plan are as before; there may be more shores
+-- the tree, the price sets, the best plan and the fraction that the price leaves reach are as before; there may be more shores
 pub record IsAsBefore (before after : State) : Type 0 where
   pub grown : IsGrown before.pool after.pool
   pub sets : after.sets ≡ before.sets
@@ -31,6 +31,7 @@ pub record IsAsBefore (before after : State) : Type 0 where
   pub plan : after.plan ≡ before.plan
   pub cost : after.cost ≡ before.cost
   pub done : after.done ≡ before.done
+  pub base : after.base ≡ before.base
 
 -- the first leaf that showed least, and not the best plan's cost, gave way to other nodes; its branch is the decisions on the way to it
 pub record IsTaken (before after : State) (branch : List Decision) (old : GrowingNode) (news : List GrowingNode) : Type 0 where
@@ -100,11 +101,12 @@ Does p before after Done = AreClosed before × IsAsBefore before after
 Does p before after Closed = IsClosing p before after
 Does p before after Split = IsSplitting p before after
 
--- a step leaves more turns behind it, unless there was nothing to do; shores are only added
+-- a step leaves more turns behind it, unless there was nothing to do; shores are only added, and the price leaves reach the same fraction
 pub record IsStep (p : Problem) (before after : State) (turn : Turn) : Type 0 where
   pub does : Does p before after turn
   pub grown : IsGrown before.pool after.pool
   pub more_done : AreClosed before ⊎ (before.done < after.done)
+  pub base : after.base ≡ before.base
 
 -- What became of a plan that the program of a leaf showed, by the answer: it is the best plan, short and cheaper than the one before; or the best
 -- plan is as before.
@@ -112,12 +114,13 @@ abbrev pub HasTaken : Problem → State → State → Bool → Type 0
 HasTaken p before after true = IsShortPlan p after.plan × (after.cost < before.cost)
 HasTaken p before after false = (after.plan ≡ before.plan) × (after.cost ≡ before.cost)
 
--- the shores, the price sets, the tree and its bound at the beginning are as before, and the turns are counted for the cost of the best plan
+-- the shores, the price sets, the tree, its bound at the beginning and the fraction that its price leaves reach are as before, and the turns are counted for the cost of the best plan
 pub record IsOffered (p : Problem) (before after : State) (taken : Bool) : Type 0 where
   pub pool : after.pool ≡ before.pool
   pub sets : after.sets ≡ before.sets
   pub nodes : after.nodes ≡ before.nodes
   pub least : after.least ≡ before.least
+  pub base : after.base ≡ before.base
   pub plan : HasTaken p before after taken
   pub done : after.done ≡ turns_in after.cost before.nodes
   pub no_fewer : before.done ≤ after.done

@@ -1,13 +1,14 @@
 // How a search begins.
-ghost use Rattle.std.specs.Prelude.{◌≡◌, ◌≤◌, ◌∷◌, [], IfOk};
+ghost use Rattle.std.specs.Prelude.{◌≡◌, ◌≤◌, ◌*◌, ◌≤ℤ◌, ◌∷◌, [], pos, IfOk};
 ghost use Rattle.plan_model.specs.Plans.{plan_cost};
 ghost use Rattle.task_tours.specs.Shorts.{IsAllowedPlan};
+ghost use Rattle.dual_master.specs.Floors.{plain_value};
 ghost use Rattle.branch_tree.specs.Beginnings.{AreTools, IsFloor, IsRoot};
 ghost use Rattle.branch_tree.specs.Searches.{IsBegun, IsSearch, state_of};
 
 use crate::changing::price_leaf;
 use crate::raising::FIRST_ROUNDS;
-use crate::search::Search;
+use crate::search::{Base, Search};
 use crate::values::shown_under;
 use branch_rules::{Branch, PriceSet, prices_bound};
 use carp_base::{Instance, Memory};
@@ -40,7 +41,9 @@ impl Search {
     /// A search for an instance from a plan on, for a budget of turns from 1 to 1,048,576.
     ///
     /// The plan is lawful and has at most 100,000 tours and 2,000,000 steps. The tree is one leaf with the best set of
-    /// the floors (`dual_master::floors`), and the pool is as `floors` leaves it.
+    /// the floors (`dual_master::floors`), and the pool is as `floors` leaves it. The value of that set, divided by its
+    /// denominator, is at least each floor. What each price leaf names is worth no less, at this and at each later
+    /// moment, and never rounded ([`searches_reach_floors`](crate::searches_reach_floors)).
     ///
     /// The only error is want of memory. It takes the time of least paths between all pairs of vertices and of the
     /// floors.
@@ -56,6 +59,7 @@ impl Search {
         let cost = allowed_cost(alloc, inst, &best)?;
         let mut tools = tools_of(alloc, inst)?;
         let floor = floor_of(alloc, inst, &mut tools)?;
+        let base = base_of(alloc, inst, &floor, cost);
         let mut tree = plant(alloc, inst, &floor)?;
         let sets = one_set(alloc, floor.set)?;
         let least = tree.node(0).shows;
@@ -73,6 +77,7 @@ impl Search {
             done,
             turns,
             least,
+            base,
             rounds: FIRST_ROUNDS,
         })
     }
@@ -120,6 +125,23 @@ fn floor_of(alloc: Global, inst: &Instance, tools: &mut Tools) -> Result<Floor, 
     )?;
     let _ = set.unit();
     Ok(Floor { pool, set })
+}
+
+// What the first set is worth without decisions. A lawful plan costs no less, so that the value has a place.
+fn base_of(alloc: Global, inst: &Instance, floor: &Floor, cost: u64) -> Base
+    requires floor { IsFloor inst.now floor.now }
+    requires covered { plain_value inst.now floor.now.pool floor.now.set ≤ℤ pos (floor.now.set.unit * cost) }
+    requires little { cost ≤ 2000000000000 }
+    ensures unit { result.unit ≡ floor.now.set.unit }
+    ensures value { result.value ≡ plain_value inst.now floor.now.pool floor.now.set }
+{
+    match Branch::new(alloc).value_at(inst, &floor.pool, &floor.set) {
+        Ok(value) => Base {
+            unit: floor.set.unit(),
+            value,
+        },
+        Err(_) => unreachable!(),
+    }
 }
 
 // The tree of one leaf that names the first set.

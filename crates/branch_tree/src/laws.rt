@@ -1,6 +1,7 @@
-// The laws that a search stands on, as one, and a law on what it holds.
+// The laws that a search stands on, as one, and laws on what it holds.
 ghost use Rattle.branch_tree.specs.Counts.{SearchesHoldFewSets};
 ghost use Rattle.branch_tree.specs.Known.{Known};
+ghost use Rattle.branch_tree.specs.Reaching.{SearchesReachFloors};
 
 use decision_chains::fixed_values_compare;
 use dual_master::growth_keeps_sets;
@@ -21,6 +22,15 @@ pub(crate) fn known_laws()
     growth_keeps_sets();
     fixed_values_compare();
     short_plans_cost_little();
+}
+
+/// Each price leaf of a search names a set whose value under its decisions, divided by its denominator, is at least each
+/// floor, if the base of the search reaches the floors. It does so when a search has just begun, and each step, one for
+/// which memory did not suffice, and each plan that is taken keep it.
+pub fn searches_reach_floors()
+    ensures { SearchesReachFloors }
+{
+    sound_trees_are_lean();
 }
 
 /// A search that began anew holds at most one price set more than it has turns, at each moment: it does so when it has

@@ -4,10 +4,11 @@ ghost use Rattle.task_tours.specs.Shorts.{IsAllowedPlan};
 ghost use Rattle.grown_trees.specs.Growth.{turns_in};
 ghost use Rattle.branch_tree.specs.Resumes.{IsResumed, MayResume, ResumedTreesHaveTurns};
 ghost use Rattle.branch_tree.specs.Searches.{IsSearch, state_of};
+ghost use Rattle.branch_tree.specs.Values.{millionths};
 
 use crate::beginning::{allowed_cost, tools_of};
 use crate::raising::FIRST_ROUNDS;
-use crate::search::Search;
+use crate::search::{Base, Search};
 use branch_rules::PriceSet;
 use carp_base::{Instance, Memory};
 use cut_pool::ShorePool;
@@ -67,8 +68,20 @@ impl Search {
             done,
             turns: budget,
             least,
+            base: base_above(least),
             rounds: FIRST_ROUNDS,
         })
+    }
+}
+
+// A bound less 1, and a millionth more.
+fn base_above(least: u64) -> Base
+    ensures unit { result.unit ≡ 1000000 }
+    ensures value { result.value ≡ millionths least }
+{
+    Base {
+        unit: 1_000_000,
+        value: 1_000_000 * i128::from(least) - 999_999,
     }
 }
 

@@ -54,7 +54,9 @@ impl Search {
     ///   first pair of required edges that is not determined. Both new leaves name the set.
     /// - If the search has 256 price sets, both new leaves name the set of the leaf.
     ///
-    /// A short best plan stays short.
+    /// A short best plan stays short. If the search began anew, the set of each price leaf stays worth at least each
+    /// floor: its value under the leaf's decisions, divided by its denominator and never rounded
+    /// ([`searches_reach_floors`](crate::searches_reach_floors)).
     ///
     /// It is what [`step_with`](Search::step_with) does with no advisers. The turns of the search are below its budget.
     /// The only error is want of memory. Then the tree, the price sets and the best plan are as before.

@@ -20,7 +20,7 @@ shown_under-shows-requires-clause-fits c =
 pub shown_under-shows-requires-clause-some : goal.shown_under-shows-requires-clause-some
 shown_under-shows-requires-clause-some c =
     subst (λ (b : List Decision). 1 ≤ c.args.floor.now.set.unit → IsShown c.args.floor.now.set.unit (value_of (rules_of c.args.inst.now c.args.floor.now.pool b) c.args.floor.now.set) 0) (sym c.new.ensures)
-    (λ some. shown_0 c.args.floor.now.set.unit (plain_value c.args.inst.now c.args.floor.now.pool c.args.floor.now.set) some (omega (arith, ints, c.requires.floors.services)))
+    (λ some. shown_0 c.args.floor.now.set.unit (plain_value c.args.inst.now c.args.floor.now.pool c.args.floor.now.set) some (omega (arith, ints, c.requires.floors.floors.services)))
 
 pub returns : goal.returns
 returns c =

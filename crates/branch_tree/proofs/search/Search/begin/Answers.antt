@@ -1,8 +1,10 @@
-use Rattle.std.proofs.Common.{◌≡◌, ◌∙◌, ap, arith, refl, sym, subst, length, map, get_or}
+use Rattle.std.proofs.Common.{◌≡◌, ◌∙◌, ℕ, ◌*◌, pos, ◌≤ℤ◌, ap, arith, refl, sym, subst, length, map, get_or}
+use Rattle.dual_master.specs.Floors.{plain_value}
 use Rattle.grown_trees.specs.Growth.{Growth, turns_in}
 use Rattle.grown_trees.specs.declared.growing.GrowingNode.{GrowingNode}
 use Rattle.branch_tree.specs.Beginnings.{IsRoot}
-use Rattle.branch_tree.proofs.Root.{begun_floored, begun_held}
+use Rattle.branch_tree.specs.Values.{ReachesFloors}
+use Rattle.branch_tree.proofs.Root.{base_is, begun_floored, begun_held}
 use Rattle.branch_tree.proofs.search.Search.begin.Goals as goal
 
 pub returns-clause-search : goal.returns-clause-search
@@ -23,7 +25,7 @@ returns-clause-search c =
       turns_in_range = c.requires.turns_in_range;
       few = omega (arith, ap (λ (t : Growth). length t.nodes) root.leaf, c.requires.some_turns);
       held = begun_held c.short_plans_cost_little.ensures p floor c.in_ok-floor.ensures.floor c.args.best c.requires.allowed tree root c.in_ok-sets.sets.items c.in_ok-sets.ensures c.in_ok-cost.cost c.in_ok-cost.ensures c.turns-done.result turns
-          c.node-least.result.shows (ap (λ (x : GrowingNode). x.shows) leaf);
+          c.node-least.result.shows (ap (λ (x : GrowingNode). x.shows) leaf) (record { unit = c.base_of-base.result.unit; value = c.base_of-base.result.value }) (base_is p floor c.base_of-base.result c.base_of-base.ensures.unit c.base_of-base.ensures.value);
     }
 
 pub returns-clause-begun : goal.returns-clause-begun
@@ -40,6 +42,12 @@ returns-clause-begun c =
       one_set = c.in_ok-sets.ensures;
       pool = c.in_ok-floor.ensures.floor.held;
       leaf = ap (λ (t : Growth). map (λ (entry : GrowingNode). entry.node) t.nodes) root.leaf;
-      reached = c.in_ok-floor.ensures.floor.floors;
+      base_is = base_is p floor c.base_of-base.result c.base_of-base.ensures.unit c.base_of-base.ensures.value;
+      reached = subst (ReachesFloors p) (sym (base_is p floor c.base_of-base.result c.base_of-base.ensures.unit c.base_of-base.ensures.value)) c.in_ok-floor.ensures.floor.floors;
       floored = begun_floored c.short_plans_cost_little.ensures p floor c.in_ok-floor.ensures.floor c.args.best c.requires.allowed tree root c.node-least.result.shows (ap (λ (x : GrowingNode). x.shows) leaf);
     }
+
+pub base_of-base-requires-clause-covered : goal.base_of-base-requires-clause-covered
+base_of-base-requires-clause-covered c =
+    let floor = c.in_ok-floor.floor in
+    subst (λ (n : ℕ). plain_value c.args.inst.now floor.pool floor.set ≤ℤ pos (floor.set.unit * n)) (sym c.in_ok-cost.ensures) (c.in_ok-floor.ensures.floor.floors.below c.args.best c.requires.allowed.lawful)

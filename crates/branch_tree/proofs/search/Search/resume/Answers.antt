@@ -22,7 +22,7 @@ returns-clause-search c =
       turns_in_range = omega (arith, c.budget_from-budget.ensures);
       few = omega (arith, few, most, ap (λ (es : List GrowingNode). length es) entries, c.turns_for-done.ensures, c.budget_from-budget.ensures);
       held =
-          subst (λ (ns : List GrowingNode). IsHeld p (record { pool = c.args.pool; sets = c.args.sets.items; nodes = ns; plan = c.args.best; cost = c.in_ok-cost.cost; done = c.turns_for-done.result; least = c.args.least }))
+          subst (λ (ns : List GrowingNode). IsHeld p (record { pool = c.args.pool; sets = c.args.sets.items; nodes = ns; plan = c.args.best; cost = c.in_ok-cost.cost; done = c.turns_for-done.result; least = c.args.least; base = just_above c.args.least }))
           (sym entries)
           (resumed_held c.short_plans_cost_little.ensures p c.validity.ensures c.args.best c.requires.allowed c.args.pool c.args.sets.items c.args.least c.args.nodes.now c.requires.may
           c.in_ok-cost.cost c.turns_for-done.result c.in_ok-cost.ensures c.turns_for-done.ensures);
