@@ -26,12 +26,13 @@ each_enough c base (s ∷ ss) [] sound k d less = absurd sound
 each_enough c base (s ∷ ss) (e ∷ es) sound zero d less = sound.0.enough
 each_enough c base (s ∷ ss) (e ∷ es) sound (suc k) d less = each_enough c base ss es sound.1 k d (omega (arith, less))
 
--- There are no more nodes than a budget of turns can make.
+-- There are no more nodes than there is room for.
 
-pub node_count : (entries : List GrowingNode) (found : List Node) → found ≡ map (λ (entry : GrowingNode). entry.node) entries → (turns : ℕ) → length entries ≤ 2 * turns + 1 → turns ≤ 1048576 → length found ≤ 2097153
-node_count entries found are turns few within =
+pub node_count : (entries : List GrowingNode) (found : List Node) → found ≡ map (λ (entry : GrowingNode). entry.node) entries → (room turns : ℕ) → length entries ≤ room → room ≡ 2 * turns + 1 → turns ≤ 1048576 →
+    length found ≤ 2097153
+node_count entries found are room turns few is within =
     let long : length found ≡ length entries = ap (λ (ns : List Node). length ns) are ∙ length-map entries (λ (entry : GrowingNode). entry.node) in
-    omega (arith, long, few, within)
+    omega (arith, long, few, is, within)
 
 -- What was found.
 

@@ -104,10 +104,10 @@ pub base_is : (p : Problem) (floor : Floor) (base : Base) → base.unit ≡ floo
 base_is p floor base unit value = λ i. record { unit = unit i; value = value i }
 
 -- the parts of a search that has just begun
-pub begun_held : ShortPlansCostLittle → (p : Problem) (floor : Floor) → IsFloor p floor → (plan : List (List Step)) → IsAllowedPlan p plan → (tree : Growth) (root : IsRoot p floor tree) →
+pub begun_held : ShortPlansCostLittle → (p : Problem) (floor : Floor) → IsFloor p floor → (plan : List (List Step)) → IsAllowedPlan p plan → (turns : ℕ) (tree : Growth) (root : IsRoot p turns floor tree) →
     (sets : List Prices) → sets ≡ floor.set ∷ [] → (cost : ℕ) → cost ≡ plan_cost p plan → (done : ℕ) → done ≡ turns_in cost tree.nodes → (least : ℕ) → least ≡ root.shows →
     (base : Fraction) → base ≡ fraction_of p floor → IsHeld p (record { pool = floor.pool; sets = sets; nodes = tree.nodes; plan = plan; cost = cost; done = done; least = least; base = base })
-begun_held costs p floor is plan allowed tree root sets sets_are cost cost_is done done_is least least_is base base_is =
+begun_held costs p floor is plan allowed turns tree root sets sets_are cost cost_is done done_is least least_is base base_is =
     let nodes : tree.nodes ≡ record { node = Price 1; shows = root.shows } ∷ [] = ap (λ (t : Growth). t.nodes) root.leaf in
     let s : State = at_root costs p floor is plan allowed root.shows root.shown in
     let same : s ≡ record { pool = floor.pool; sets = sets; nodes = tree.nodes; plan = plan; cost = cost; done = done; least = least; base = base } =
@@ -115,8 +115,8 @@ begun_held costs p floor is plan allowed tree root sets sets_are cost cost_is do
     subst (IsHeld p) same (root_held costs p floor is plan allowed root.shows root.shown)
 
 -- the bound that the leaf shows is at least each floor
-pub begun_floored : ShortPlansCostLittle → (p : Problem) (floor : Floor) → IsFloor p floor → (plan : List (List Step)) → IsAllowedPlan p plan → (tree : Growth) (root : IsRoot p floor tree) →
+pub begun_floored : ShortPlansCostLittle → (p : Problem) (floor : Floor) → IsFloor p floor → (plan : List (List Step)) → IsAllowedPlan p plan → (turns : ℕ) (tree : Growth) (root : IsRoot p turns floor tree) →
     (least : ℕ) → least ≡ root.shows → IsFloored p least
-begun_floored costs p floor is plan allowed tree root least least_is =
+begun_floored costs p floor is plan allowed turns tree root least least_is =
     subst (IsFloored p) (sym least_is)
     (record { base = fraction_of p floor; floors = is.floors; above = covered costs p floor is plan allowed root.shows root.shown })

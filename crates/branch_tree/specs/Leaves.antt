@@ -90,15 +90,16 @@ pub record IsSplitNode (p : Problem) (pool : List (List ℕ)) (branch : List Dec
   pub spelled : IsSpelledNode 0 node
   pub lean : IsLeanNode p pool branch (4 - cuts_of branch) node
 
--- the instance, the distances, the table, the budget and the bound of the beginning are as before, and the tree has no more nodes than a
--- budget of turns can make, if it had no more before
+-- the instance, the distances, the table, the budget, the bound of the beginning and the room for nodes are as before, and the tree has no
+-- more nodes than that, if it had no more before
 pub record IsFramed (before after : Search) : Type 0 where
   pub net : after.net ≡ before.net
   pub dist : after.dist ≡ before.dist
   pub table : after.table ≡ before.table
   pub turns : after.turns ≡ before.turns
   pub least : after.least ≡ before.least
-  pub few : length before.tree.nodes ≤ 2 * before.turns + 1 → length after.tree.nodes ≤ 2 * after.turns + 1
+  pub room : after.tree.room ≡ before.tree.room
+  pub few : length before.tree.nodes ≤ before.tree.room → length after.tree.nodes ≤ after.tree.room
 
 -- so they are, except the table, which is one for the instance
 pub record IsRepriced (p : Problem) (before after : Search) : Type 0 where
@@ -107,7 +108,8 @@ pub record IsRepriced (p : Problem) (before after : Search) : Type 0 where
   pub table : IsRoom p after.table
   pub turns : after.turns ≡ before.turns
   pub least : after.least ≡ before.least
-  pub few : length before.tree.nodes ≤ 2 * before.turns + 1 → length after.tree.nodes ≤ 2 * after.turns + 1
+  pub room : after.tree.room ≡ before.tree.room
+  pub few : length before.tree.nodes ≤ before.tree.room → length after.tree.nodes ≤ after.tree.room
 
 -- a search with another pool
 abbrev pub with_pool : State → List (List ℕ) → State

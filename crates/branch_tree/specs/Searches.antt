@@ -83,7 +83,7 @@ pub record IsHeld (p : Problem) (s : State) : Type 0 where
   pub done_is : s.done ≡ turns_in s.cost s.nodes
   pub few_nodes : length s.nodes ≤ 2 * s.done + 1
 
--- a search for an instance, whose tree has no more nodes than a budget of turns can make
+-- a search for an instance, whose tree has memory for all nodes that a budget of turns can make, and no more nodes
 pub record IsSearch (p : Problem) (s : Search) : Type 0 where
   pub net : s.net ≡ p
   pub problem : s.dist.problem ≡ p
@@ -91,7 +91,8 @@ pub record IsSearch (p : Problem) (s : Search) : Type 0 where
   pub table : IsRoom p s.table
   pub some_turns : 1 ≤ s.turns
   pub turns_in_range : s.turns ≤ 1048576
-  pub few : length s.tree.nodes ≤ 2 * s.turns + 1
+  pub room : s.tree.room ≡ 2 * s.turns + 1
+  pub few : length s.tree.nodes ≤ s.tree.room
   pub held : IsHeld p (state_of s)
 
 -- a search that has just begun: the tree is one price leaf, which names the best set of the floors, and the pool is as the floors leave it;

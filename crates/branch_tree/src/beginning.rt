@@ -45,8 +45,11 @@ impl Search {
     /// denominator, is at least each floor. What each price leaf names is worth no less, at this and at each later
     /// moment, and never rounded ([`searches_reach_floors`](crate::searches_reach_floors)).
     ///
+    /// It takes the memory for all nodes that the budget can make, `2 * turns + 1`, so that no later step is refused
+    /// one.
+    ///
     /// The only error is want of memory. It takes the time of least paths between all pairs of vertices and of the
-    /// floors.
+    /// floors, and in proportion to the budget.
     pub fn begin(alloc: Global, inst: &Instance, turns: u64, best: Plan) -> Result<Search, Memory>
         requires some_turns { 1 ≤ turns }
         requires turns_in_range { turns ≤ 1048576 }
@@ -60,7 +63,7 @@ impl Search {
         let mut tools = tools_of(alloc, inst)?;
         let floor = floor_of(alloc, inst, &mut tools)?;
         let base = base_of(alloc, inst, &floor, cost);
-        let mut tree = plant(alloc, inst, &floor)?;
+        let mut tree = plant(alloc, inst, turns, &floor)?;
         let sets = one_set(alloc, floor.set)?;
         let least = tree.node(0).shows;
         let done = tree.turns(cost) as u64;
@@ -144,13 +147,15 @@ fn base_of(alloc: Global, inst: &Instance, floor: &Floor, cost: u64) -> Base
     }
 }
 
-// The tree of one leaf that names the first set.
-fn plant(alloc: Global, inst: &Instance, floor: &Floor) -> Result<GrowingTree, Memory>
-    requires { IsFloor inst.now floor.now }
-    ensures { IfOk result (IsRoot inst.now floor.now) }
+// The tree of one leaf that names the first set, with memory for all nodes that so many turns can make.
+fn plant(alloc: Global, inst: &Instance, turns: u64, floor: &Floor) -> Result<GrowingTree, Memory>
+    requires turns { turns ≤ 1048576 }
+    requires floor { IsFloor inst.now floor.now }
+    ensures { IfOk result (IsRoot inst.now turns floor.now) }
 {
     let shows = shown_under(inst, &floor.pool, &Branch::new(alloc), &floor.set);
-    GrowingTree::new(alloc, price_leaf(1, shows))
+    let room = 2 * turns as usize + 1;
+    GrowingTree::new(alloc, price_leaf(1, shows), room)
 }
 
 // The list of one price set.

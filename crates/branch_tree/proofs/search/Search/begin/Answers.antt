@@ -13,7 +13,7 @@ returns-clause-search c =
     let floor = c.in_ok-floor.floor in
     let tree = c.turns-done.new.self in
     let same : tree ≡ c.in_ok-tree.tree = c.turns-done.ensures.same in
-    let root : IsRoot p floor tree = subst (λ (t : Growth). IsRoot p floor t) (sym same) c.in_ok-tree.ensures in
+    let root : IsRoot p c.args.turns floor tree = subst (λ (t : Growth). IsRoot p c.args.turns floor t) (sym same) c.in_ok-tree.ensures in
     let leaf = c.node-least.ensures ∙ ap (λ (t : Growth). get_or t.nodes 0 c.node-least.result) (sym same ∙ root.leaf) in
     let turns = c.turns-done.ensures.turns ∙ ap (λ (t : Growth). turns_in c.in_ok-cost.cost t.nodes) (sym same) in
     record {
@@ -23,8 +23,9 @@ returns-clause-search c =
       table = c.floor_of.ensures.tools.table;
       some_turns = c.requires.some_turns;
       turns_in_range = c.requires.turns_in_range;
-      few = omega (arith, ap (λ (t : Growth). length t.nodes) root.leaf, c.requires.some_turns);
-      held = begun_held c.short_plans_cost_little.ensures p floor c.in_ok-floor.ensures.floor c.args.best c.requires.allowed tree root c.in_ok-sets.sets.items c.in_ok-sets.ensures c.in_ok-cost.cost c.in_ok-cost.ensures c.turns-done.result turns
+      room = ap (λ (t : Growth). t.room) root.leaf;
+      few = omega (arith, ap (λ (t : Growth). length t.nodes) root.leaf, ap (λ (t : Growth). t.room) root.leaf);
+      held = begun_held c.short_plans_cost_little.ensures p floor c.in_ok-floor.ensures.floor c.args.best c.requires.allowed c.args.turns tree root c.in_ok-sets.sets.items c.in_ok-sets.ensures c.in_ok-cost.cost c.in_ok-cost.ensures c.turns-done.result turns
           c.node-least.result.shows (ap (λ (x : GrowingNode). x.shows) leaf) (record { unit = c.base_of-base.result.unit; value = c.base_of-base.result.value }) (base_is p floor c.base_of-base.result c.base_of-base.ensures.unit c.base_of-base.ensures.value);
     }
 
@@ -34,7 +35,7 @@ returns-clause-begun c =
     let floor = c.in_ok-floor.floor in
     let tree = c.turns-done.new.self in
     let same : tree ≡ c.in_ok-tree.tree = c.turns-done.ensures.same in
-    let root : IsRoot p floor tree = subst (λ (t : Growth). IsRoot p floor t) (sym same) c.in_ok-tree.ensures in
+    let root : IsRoot p c.args.turns floor tree = subst (λ (t : Growth). IsRoot p c.args.turns floor t) (sym same) c.in_ok-tree.ensures in
     let leaf = c.node-least.ensures ∙ ap (λ (t : Growth). get_or t.nodes 0 c.node-least.result) (sym same ∙ root.leaf) in
     record {
       best = refl;
@@ -44,7 +45,7 @@ returns-clause-begun c =
       leaf = ap (λ (t : Growth). map (λ (entry : GrowingNode). entry.node) t.nodes) root.leaf;
       base_is = base_is p floor c.base_of-base.result c.base_of-base.ensures.unit c.base_of-base.ensures.value;
       reached = subst (ReachesFloors p) (sym (base_is p floor c.base_of-base.result c.base_of-base.ensures.unit c.base_of-base.ensures.value)) c.in_ok-floor.ensures.floor.floors;
-      floored = begun_floored c.short_plans_cost_little.ensures p floor c.in_ok-floor.ensures.floor c.args.best c.requires.allowed tree root c.node-least.result.shows (ap (λ (x : GrowingNode). x.shows) leaf);
+      floored = begun_floored c.short_plans_cost_little.ensures p floor c.in_ok-floor.ensures.floor c.args.best c.requires.allowed c.args.turns tree root c.node-least.result.shows (ap (λ (x : GrowingNode). x.shows) leaf);
     }
 
 pub base_of-base-requires-clause-covered : goal.base_of-base-requires-clause-covered
