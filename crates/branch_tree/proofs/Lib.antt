@@ -19,3 +19,4 @@ mod Cheaper
 mod Holding
 mod Preorders
 mod Reaching
+mod Lightness

@@ -126,6 +126,7 @@ module _ (known : Known) (p : Problem) (s : State) (held : IsHeld p s) (place : 
       tight = subst (λ (xs : List (List ℕ)). IsTight p xs (length s.pool) branch set) (sym pool_is) tight;
       number = number;
       named = names.named no_entry;
+      few_edges = may.few_edges;
       no_lower = subst (λ (xs : List (List ℕ)). IsNoLower p branch xs (set_in s.sets number) xs set) (sym pool_is) may.no_lower;
     }
 
@@ -209,6 +210,7 @@ module _ (known : Known) (p : Problem) (s : State) (held : IsHeld p s) (place : 
                   first = record { node = nodes.Price (length s.sets + 1); shows = c.first };
                   second = record { node = nodes.Price (length s.sets + 1); shows = c.second };
                   taken = taken known p s held place branch names.at after (split_nodes node (length s.sets + 1) c) refl;
+                  short = by.node_in.short;
                   not_void = then_names.not_void;
                   not_fixed = then_names.not_fixed;
                   set = length s.sets + 1;
@@ -261,6 +263,7 @@ module _ (known : Known) (p : Problem) (s : State) (held : IsHeld p s) (place : 
         first = record { node = nodes.Price number; shows = c.first };
         second = record { node = nodes.Price number; shows = c.second };
         taken = taken known p s held place branch names.at (split_state s.sets) (split_nodes node number c) refl;
+        short = by.node_in.short;
         not_void = names.not_void;
         not_fixed = names.not_fixed;
         set = number;

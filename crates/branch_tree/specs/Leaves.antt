@@ -15,7 +15,7 @@ use Rattle.branch_rules.specs.declared.node.Node.{Node}
 use Rattle.branch_rules.specs.declared.node.Node.TheVariants as nodes
 use Rattle.route_pricing.specs.Tables.{IsRoom}
 use Rattle.tight_prices.specs.Tight.{IsTight}
-use Rattle.dual_master.specs.Raising.{HasGroupsFrom, IsNoLower}
+use Rattle.dual_master.specs.Raising.{HasFewGroupEdges, HasGroupsFrom, IsNoLower}
 use Rattle.grown_trees.specs.Growth.{IsLeastOpen, IsSpelledNode, turns_in}
 use Rattle.grown_trees.specs.Places.{IsFineNode, branch_to}
 use Rattle.grown_trees.specs.declared.growing.GrowingNode.{GrowingNode}
@@ -26,7 +26,7 @@ use Rattle.branch_tree.specs.declared.search.Search.{Search}
 use Rattle.branch_tree.specs.Searches.{HasGroupsInRange, IsSearch, State, set_in, state_of}
 use Rattle.branch_tree.specs.declared.search.Turn.{Turn}
 use Rattle.branch_tree.specs.declared.search.Turn.TheVariants.{Closed, Split}
-use Rattle.branch_tree.specs.Steps.{IsAsBefore, IsOffered, IsStep}
+use Rattle.branch_tree.specs.Steps.{IsAsBefore, IsOffered, IsShortCut, IsStep}
 use Rattle.task_tours.specs.Shorts.{IsShortPlan}
 use Rattle.branch_tree.specs.Splits.{IsInner}
 use Rattle.grown_trees.specs.Values.{IsMostShown}
@@ -50,13 +50,14 @@ pub record NamesSet (p : Problem) (s : State) (place : ℕ) (branch : List Decis
   pub named : (other : GrowingNode) → (slice_index_or s.nodes place other).node ≡ nodes.Price set
 
 -- A price set that may stand at such a leaf: it fits there, its shores are in the pool and belong to the instance, the edges of its groups
--- are in range, and its value, divided by its denominator, is no less than that of the leaf's set.
+-- are in range, and few if those of the leaf's set are, and its value, divided by its denominator, is no less than that of the leaf's set.
 pub record MayStand (p : Problem) (s : State) (branch : List Decision) (number : ℕ) (set : Prices) : Type 0 where
   pub some_unit : 1 ≤ set.unit
   pub from_unit : 1 ≤ (set_in s.sets number).unit
   pub fits : FitsBranch p s.pool branch set
   pub shores : All (λ w. IsShoreOf p s.pool w.shore) set.weights
   pub groups : HasGroupsInRange set
+  pub few_edges : HasFewGroupEdges (set_in s.sets number) → HasFewGroupEdges set
   pub no_lower : IsNoLower p branch s.pool (set_in s.sets number) s.pool set
 
 -- the set of a number may be raised under a branch
@@ -69,12 +70,13 @@ pub record MayBegin (p : Problem) (pool : List (List ℕ)) (branch : List Decisi
   pub groups : HasGroupsInRange (set_in sets number)
 
 -- a set that is tight under a branch, from the set of a number, after shores were added to the pool; its groups are those of that set, or
--- groups of the instance
+-- groups of the instance, and has few edges in groups if that set has few
 pub record IsRaisedFrom (p : Problem) (pool : List (List ℕ)) (branch : List Decision) (sets : List Prices) (number : ℕ) (after : List (List ℕ)) (set : Prices) : Type 0 where
   pub from_unit : 1 ≤ (set_in sets number).unit
   pub tight : IsTight p after (length pool) branch set
   pub shores : All (λ w. IsShoreOf p after w.shore) set.weights
   pub groups : HasGroupsFrom p (set_in sets number) set
+  pub few_edges : HasFewGroupEdges (set_in sets number) → HasFewGroupEdges set
   pub no_lower : IsNoLower p branch pool (set_in sets number) after set
 
 -- what a set shows under the decisions of both children of a node
@@ -89,6 +91,7 @@ pub record IsSplitNode (p : Problem) (pool : List (List ℕ)) (branch : List Dec
   pub fine : IsFineNode node
   pub spelled : IsSpelledNode 0 node
   pub lean : IsLeanNode p pool branch (4 - cuts_of branch) node
+  pub short : IsShortCut node
 
 -- the instance, the distances, the table, the budget, the bound of the beginning and the room for nodes are as before, and the tree has no
 -- more nodes than that, if it had no more before

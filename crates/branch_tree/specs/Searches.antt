@@ -95,12 +95,14 @@ pub record IsSearch (p : Problem) (s : Search) : Type 0 where
   pub few : length s.tree.nodes ≤ s.tree.room
   pub held : IsHeld p (state_of s)
 
--- a search that has just begun: the tree is one price leaf, which names the best set of the floors, and the pool is as the floors leave it;
+-- a search that has just begun: the tree is one price leaf, which names the best set of the floors, which has no groups, and the pool is as
+-- the floors leave it;
 -- the base is the value of the set, divided by its denominator, which is at least each floor, and so is the bound that it shows
 pub record IsBegun (p : Problem) (plan : List (List Step)) (s : State) : Type 0 where
   pub best : s.plan ≡ plan
   pub set : Prices
   pub one_set : s.sets ≡ set ∷ []
+  pub no_groups : set.groups ≡ []
   pub pool : IsFloorPool p s.pool set
   pub leaf : map (λ entry. entry.node) s.nodes ≡ nodes.Price 1 ∷ []
   pub base_is : s.base ≡ record { unit = set.unit; value = plain_value p s.pool set }

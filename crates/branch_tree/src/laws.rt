@@ -1,5 +1,5 @@
 // The laws that a search stands on, as one, and laws on what it holds.
-ghost use Rattle.branch_tree.specs.Counts.{SearchesHoldFewSets};
+ghost use Rattle.branch_tree.specs.Counts.{SearchesHoldFewSets, SearchesStayLight};
 ghost use Rattle.branch_tree.specs.Known.{Known};
 ghost use Rattle.branch_tree.specs.Reaching.{SearchesReachFloors};
 
@@ -37,4 +37,11 @@ pub fn searches_reach_floors()
 /// just begun, and each step and each plan that it takes keep that.
 pub fn searches_hold_few_sets()
     ensures { SearchesHoldFewSets }
+{}
+
+/// A search that began anew is light at each moment: each of its price sets has at most 1,000 edges in groups, and the
+/// number of each cut of its tree is at most 9,999. It is so when it has just begun, and each step and each plan that it
+/// takes keep that.
+pub fn searches_stay_light()
+    ensures { SearchesStayLight }
 {}

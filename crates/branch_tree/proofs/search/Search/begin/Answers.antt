@@ -41,6 +41,7 @@ returns-clause-begun c =
       best = refl;
       set = floor.set;
       one_set = c.in_ok-sets.ensures;
+      no_groups = c.in_ok-floor.ensures.floor.no_groups;
       pool = c.in_ok-floor.ensures.floor.held;
       leaf = ap (λ (t : Growth). map (λ (entry : GrowingNode). entry.node) t.nodes) root.leaf;
       base_is = base_is p floor c.base_of-base.result c.base_of-base.ensures.unit c.base_of-base.ensures.value;
