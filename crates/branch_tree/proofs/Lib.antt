@@ -10,6 +10,7 @@ mod Standing
 mod Turning
 mod Turns
 mod Regrown
+mod Bits
 mod Root
 mod Finding
 mod Groups

@@ -1,5 +1,5 @@
 -- The leaf that a step takes, and what is put in its place. No public contract speaks of this.
-use Rattle.std.specs.Prelude.{◌≡◌, ℕ, ◌+◌, ◌-◌, ◌*◌, ◌≤◌, List, [], ◌∷◌, ◌++◌, take, drop, map, length, slice_index_or, if◌then◌else◌, nat_lt, Bool, Result, IfOk, OnErr}
+use Rattle.std.specs.Prelude.{◌≡◌, ℕ, ◌+◌, ◌-◌, ◌≤◌, List, [], ◌∷◌, ◌++◌, take, drop, map, length, slice_index_or, if◌then◌else◌, nat_lt, Bool, Result, IfOk, OnErr}
 use Rattle.std.specs.List.{All}
 use Rattle.carp_base.specs.declared.fail.Memory.{Memory}
 use Rattle.carp_base.specs.Problem.{Problem}

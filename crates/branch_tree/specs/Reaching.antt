@@ -25,9 +25,10 @@ NodeIsAtLeastFloors c branch nodes.Fixed = Unit {0}
 abbrev pub LeavesAreAtLeastFloors : Support → Tree → Type 0
 LeavesAreAtLeastFloors c tree = All (λ (s : Stand). NodeIsAtLeastFloors c s.branch s.node) (stands [] tree)
 
--- If the base of a search reaches the floors, so does each price leaf of the tree of its nodes. When a search has just begun its base reaches the floors (`IsBegun`),
--- and each step, one for which memory did not suffice and each plan that is taken keep the base (`IsStep`, `IsAsBefore`, `IsOffered`). So
--- this is true at each moment of a search that began anew. A value is compared as it is, and never rounded.
+-- If the base of a search reaches the floors, the set of each price leaf of the tree of its nodes is worth at least each floor. When a search
+-- has just begun its base reaches the floors (`IsBegun`), and each step, one for which memory did not suffice, and each plan that is taken
+-- keep the base (`IsStep`, `IsAsBefore`, `IsOffered`). So this is true at each moment of a search that began anew. A value is compared as
+-- it is, and never rounded.
 abbrev pub SearchesReachFloors : Type 0
 SearchesReachFloors =
     (p : Problem) (s : State) → IsHeld p s → ReachesFloors p s.base →

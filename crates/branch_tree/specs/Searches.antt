@@ -95,9 +95,9 @@ pub record IsSearch (p : Problem) (s : Search) : Type 0 where
   pub few : length s.tree.nodes ≤ s.tree.room
   pub held : IsHeld p (state_of s)
 
--- a search that has just begun: the tree is one price leaf, which names the best set of the floors, which has no groups, and the pool is as
--- the floors leave it;
--- the base is the value of the set, divided by its denominator, which is at least each floor, and so is the bound that it shows
+-- a search that has just begun: the tree is one price leaf, which names the best set of the floors, a set without groups, and the pool is as
+-- the floors leave it; the base is the value of the set, divided by its denominator, which is at least each floor, and so is the bound
+-- that it shows
 pub record IsBegun (p : Problem) (plan : List (List Step)) (s : State) : Type 0 where
   pub best : s.plan ≡ plan
   pub set : Prices
