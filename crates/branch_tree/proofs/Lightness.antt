@@ -13,7 +13,7 @@ use Rattle.branch_rules.specs.Prices.{Prices}
 use Rattle.branch_rules.specs.Trees.{no_prices}
 use Rattle.branch_rules.specs.declared.node.Node.{Node}
 use Rattle.branch_rules.specs.declared.node.Node.TheVariants as nodes
-use Rattle.dual_master.specs.Raising.{HasFewGroupEdges}
+use Rattle.dual_master.specs.Raising.{HasShortGroups}
 use Rattle.grown_trees.specs.Places.{IsLeaf}
 use Rattle.grown_trees.specs.declared.growing.GrowingNode.{GrowingNode}
 use Rattle.branch_tree.specs.declared.search.Turn.{Turn}
@@ -24,25 +24,25 @@ use Rattle.branch_tree.specs.Steps.{HasNewSet, IsAsBefore, IsClosedBy, IsOffered
 
 -- price sets
 
-none_few : (set : Prices) → set.groups ≡ [] → HasFewGroupEdges set
+none_few : (set : Prices) → set.groups ≡ [] → HasShortGroups set
 none_few set none = subst (λ (groups : List GroupWeight). sum_by (λ (w : GroupWeight). length w.edges) groups ≤ 1000) (sym none) (omega arith)
 
-few_at : (sets : List Prices) (number : ℕ) → All HasFewGroupEdges sets → HasFewGroupEdges (set_in sets number)
+few_at : (sets : List Prices) (number : ℕ) → All HasShortGroups sets → HasShortGroups (set_in sets number)
 few_at sets zero all = omega arith
 few_at sets (suc k) all = elim (cases_lt k (length sets)) [
   | inl less ↦ all k no_prices less
-  | inr past ↦ subst HasFewGroupEdges (sym (get_or_past sets k no_prices past)) (omega arith)
+  | inr past ↦ subst HasShortGroups (sym (get_or_past sets k no_prices past)) (omega arith)
 ]
 
-same_few : (before after : List Prices) → after ≡ before → All HasFewGroupEdges before → All HasFewGroupEdges after
-same_few before after same all = subst (All HasFewGroupEdges) (sym same) all
+same_few : (before after : List Prices) → after ≡ before → All HasShortGroups before → All HasShortGroups after
+same_few before after same all = subst (All HasShortGroups) (sym same) all
 
-one_more : (p : Problem) (before after : State) (branch : List Decision) (old : GrowingNode) → HasNewSet p before after branch old → All HasFewGroupEdges before.sets → All HasFewGroupEdges after.sets
+one_more : (p : Problem) (before after : State) (branch : List Decision) (old : GrowingNode) → HasNewSet p before after branch old → All HasShortGroups before.sets → All HasShortGroups after.sets
 one_more p before after branch old new all =
-    same_few (before.sets ++ new.set ∷ []) after.sets new.added (All-push HasFewGroupEdges before.sets new.set all (new.few_edges (few_at before.sets new.number all)))
+    same_few (before.sets ++ new.set ∷ []) after.sets new.added (All-push HasShortGroups before.sets new.set all (new.short_groups (few_at before.sets new.number all)))
 
 by_closing : (p : Problem) (before after : State) (branch : List Decision) (old leaf : GrowingNode) (node : Node) → IsClosedBy p before after branch old leaf node →
-    All HasFewGroupEdges before.sets → All HasFewGroupEdges after.sets
+    All HasShortGroups before.sets → All HasShortGroups after.sets
 by_closing p before after branch old leaf (nodes.Pair a b) by all = absurd by
 by_closing p before after branch old leaf (nodes.Cut shore k) by all = absurd by
 by_closing p before after branch old leaf (nodes.Price set) by all = one_more p before after branch old by.3 all
@@ -84,34 +84,34 @@ taken_short before after branch old news is all short =
 
 pub at_begin : (p : Problem) (plan : List (List Step)) (s : State) → IsBegun p plan s → IsLight s
 at_begin p plan s is = record {
-  few_edges = same_few (is.set ∷ []) s.sets is.one_set (All-cons HasFewGroupEdges is.set [] (none_few is.set is.no_groups) (All-nil HasFewGroupEdges));
+  short_groups = same_few (is.set ∷ []) s.sets is.one_set (All-cons HasShortGroups is.set [] (none_few is.set is.no_groups) (All-nil HasShortGroups));
   short = each_short s.nodes (subst (All IsShortCut) (sym is.leaf) (All-cons IsShortCut (nodes.Price 1) [] tt (All-nil IsShortCut)));
 }
 
 pub where_failed : (before after : State) → IsAsBefore before after → IsLight before → IsLight after
 where_failed before after is light =
-    record { few_edges = same_few before.sets after.sets is.sets light.few_edges; short = same_short before.nodes after.nodes is.nodes light.short }
+    record { short_groups = same_few before.sets after.sets is.sets light.short_groups; short = same_short before.nodes after.nodes is.nodes light.short }
 
 pub at_offer : (p : Problem) (before after : State) (taken : Bool) → IsOffered p before after taken → IsLight before → IsLight after
 at_offer p before after taken is light =
-    record { few_edges = same_few before.sets after.sets is.sets light.few_edges; short = same_short before.nodes after.nodes is.nodes light.short }
+    record { short_groups = same_few before.sets after.sets is.sets light.short_groups; short = same_short before.nodes after.nodes is.nodes light.short }
 
 pub at_step : (p : Problem) (before after : State) (turn : Turn) → length before.sets ≤ 256 → IsStep p before after turn → IsLight before → IsLight after
 at_step p before after Done most is light = where_failed before after is.does.1 light
 at_step p before after Closed most is light =
     let d = is.does in
     record {
-      few_edges = by_closing p before after d.branch d.old d.leaf d.leaf.node d.by light.few_edges;
+      short_groups = by_closing p before after d.branch d.old d.leaf d.leaf.node d.by light.short_groups;
       short = taken_short before after d.branch d.old (d.leaf ∷ []) d.taken light.short (All-cons IsShort d.leaf [] (leaf_short d.leaf.node d.is_leaf) (All-nil IsShort));
     }
 at_step p before after Split most is light =
     let d = is.does in
     record {
-      few_edges = elim (cases_eq (length before.sets) 256) [
-        | inl full ↦ same_few before.sets after.sets (d.old_set full).0 light.few_edges
+      short_groups = elim (cases_eq (length before.sets) 256) [
+        | inl full ↦ same_few before.sets after.sets (d.old_set full).0 light.short_groups
         | inr other ↦
             let below : length before.sets < 256 = omega (arith, most, other) in
-            one_more p before after d.branch d.old (d.new_set below).1 light.few_edges
+            one_more p before after d.branch d.old (d.new_set below).1 light.short_groups
       ];
       short =
           taken_short before after d.branch d.old (d.inner ∷ d.first ∷ d.second ∷ []) d.taken light.short

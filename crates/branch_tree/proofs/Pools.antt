@@ -160,6 +160,6 @@ may_stand law p valid s number branch after set grown some shores groups raised 
   fits = raised.tight.fits;
   shores = raised.shores;
   groups = kept_in_range p valid (set_in s.sets number) set raised.groups groups;
-  few_edges = raised.few_edges;
+  short_groups = raised.short_groups;
   no_lower = no_lower_now law p s number branch after set grown shores raised;
 }

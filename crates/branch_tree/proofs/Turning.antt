@@ -126,7 +126,7 @@ module _ (known : Known) (p : Problem) (s : State) (held : IsHeld p s) (place : 
       tight = subst (λ (xs : List (List ℕ)). IsTight p xs (length s.pool) branch set) (sym pool_is) tight;
       number = number;
       named = names.named no_entry;
-      few_edges = may.few_edges;
+      short_groups = may.short_groups;
       no_lower = subst (λ (xs : List (List ℕ)). IsNoLower p branch xs (set_in s.sets number) xs set) (sym pool_is) may.no_lower;
     }
 

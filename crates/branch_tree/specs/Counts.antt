@@ -3,7 +3,7 @@ use Rattle.std.specs.Prelude.{◌+◌, ◌≤◌, Bool, List, length}
 use Rattle.std.specs.List.{All}
 use Rattle.carp_base.specs.Problem.{Problem}
 use Rattle.plan_model.specs.declared.step.Step.{Step}
-use Rattle.dual_master.specs.Raising.{HasFewGroupEdges}
+use Rattle.dual_master.specs.Raising.{HasShortGroups}
 use Rattle.branch_tree.specs.declared.search.Turn.{Turn}
 use Rattle.branch_tree.specs.Searches.{IsBegun, State}
 use Rattle.branch_tree.specs.Steps.{IsAsBefore, IsOffered, IsShortCut, IsStep}
@@ -20,9 +20,9 @@ pub record SearchesHoldFewSets : Type 0 where
   pub failed : (before after : State) → IsAsBefore before after → HoldsFewSets before → HoldsFewSets after
   pub offered : (p : Problem) (before after : State) (taken : Bool) → IsOffered p before after taken → HoldsFewSets before → HoldsFewSets after
 
--- no price set has many edges in groups, and no cut has a long number
+-- the groups of each price set are short, and no cut has a long number
 pub record IsLight (s : State) : Type 0 where
-  pub few_edges : All HasFewGroupEdges s.sets
+  pub short_groups : All HasShortGroups s.sets
   pub short : All (λ entry. IsShortCut entry.node) s.nodes
 
 -- A search that has just begun is light. Each step keeps that, also one for which memory did not suffice, and so does each plan that is

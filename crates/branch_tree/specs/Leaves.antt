@@ -15,7 +15,7 @@ use Rattle.branch_rules.specs.declared.node.Node.{Node}
 use Rattle.branch_rules.specs.declared.node.Node.TheVariants as nodes
 use Rattle.route_pricing.specs.Tables.{IsRoom}
 use Rattle.tight_prices.specs.Tight.{IsTight}
-use Rattle.dual_master.specs.Raising.{HasFewGroupEdges, HasGroupsFrom, IsNoLower}
+use Rattle.dual_master.specs.Raising.{HasShortGroups, HasGroupsFrom, IsNoLower}
 use Rattle.grown_trees.specs.Growth.{IsLeastOpen, IsSpelledNode, turns_in}
 use Rattle.grown_trees.specs.Places.{IsFineNode, branch_to}
 use Rattle.grown_trees.specs.declared.growing.GrowingNode.{GrowingNode}
@@ -57,7 +57,7 @@ pub record MayStand (p : Problem) (s : State) (branch : List Decision) (number :
   pub fits : FitsBranch p s.pool branch set
   pub shores : All (λ w. IsShoreOf p s.pool w.shore) set.weights
   pub groups : HasGroupsInRange set
-  pub few_edges : HasFewGroupEdges (set_in s.sets number) → HasFewGroupEdges set
+  pub short_groups : HasShortGroups (set_in s.sets number) → HasShortGroups set
   pub no_lower : IsNoLower p branch s.pool (set_in s.sets number) s.pool set
 
 -- the set of a number may be raised under a branch
@@ -70,13 +70,13 @@ pub record MayBegin (p : Problem) (pool : List (List ℕ)) (branch : List Decisi
   pub groups : HasGroupsInRange (set_in sets number)
 
 -- a set that is tight under a branch, from the set of a number, after shores were added to the pool; its groups are those of that set, or
--- groups of the instance, and has few edges in groups if that set has few
+-- groups of the instance, and has short groups if that set has
 pub record IsRaisedFrom (p : Problem) (pool : List (List ℕ)) (branch : List Decision) (sets : List Prices) (number : ℕ) (after : List (List ℕ)) (set : Prices) : Type 0 where
   pub from_unit : 1 ≤ (set_in sets number).unit
   pub tight : IsTight p after (length pool) branch set
   pub shores : All (λ w. IsShoreOf p after w.shore) set.weights
   pub groups : HasGroupsFrom p (set_in sets number) set
-  pub few_edges : HasFewGroupEdges (set_in sets number) → HasFewGroupEdges set
+  pub short_groups : HasShortGroups (set_in sets number) → HasShortGroups set
   pub no_lower : IsNoLower p branch pool (set_in sets number) after set
 
 -- what a set shows under the decisions of both children of a node

@@ -11,7 +11,7 @@ use Rattle.branch_rules.specs.declared.node.Node.{Node}
 use Rattle.branch_rules.specs.declared.node.Node.TheVariants as nodes
 use Rattle.task_tours.specs.Shorts.{IsShortPlan}
 use Rattle.tight_prices.specs.Tight.{IsTight}
-use Rattle.dual_master.specs.Raising.{HasFewGroupEdges, IsNoLower}
+use Rattle.dual_master.specs.Raising.{HasShortGroups, IsNoLower}
 use Rattle.grown_trees.specs.Growth.{IsLeastOpen, turns_in}
 use Rattle.grown_trees.specs.Places.{IsLeaf, branch_to}
 use Rattle.grown_trees.specs.declared.growing.GrowingNode.{GrowingNode}
@@ -45,7 +45,7 @@ pub record IsTaken (before after : State) (branch : List Decision) (old : Growin
   pub nodes : after.nodes ≡ take place before.nodes ++ (news ++ drop (place + 1) before.nodes)
 
 -- One price set was added. It is tight under the decisions on the way to the leaf and the shores of the step's beginning, and its value,
--- divided by its denominator, is no less there than that of the set that the leaf named. If that set has few edges in groups, so has it.
+-- divided by its denominator, is no less there than that of the set that the leaf named. If that set has short groups, so has it.
 pub record HasNewSet (p : Problem) (before after : State) (branch : List Decision) (old : GrowingNode) : Type 0 where
   pub set : Prices
   pub added : after.sets ≡ before.sets ++ set ∷ []
@@ -53,7 +53,7 @@ pub record HasNewSet (p : Problem) (before after : State) (branch : List Decisio
   pub number : ℕ
   pub named : old.node ≡ nodes.Price number
   pub no_lower : IsNoLower p branch after.pool (set_in before.sets number) after.pool set
-  pub few_edges : HasFewGroupEdges (set_in before.sets number) → HasFewGroupEdges set
+  pub short_groups : HasShortGroups (set_in before.sets number) → HasShortGroups set
 
 -- What closes a leaf, by its new node: a void or a fixed branch, with the price sets as they were; or one that is neither, and a new set,
 -- which the leaf names. The best plan is another one only if a fixed leaf shows its cost, which is less than before; it is short then.
@@ -77,10 +77,10 @@ pub record IsClosing (p : Problem) (before after : State) : Type 0 where
   pub by : IsClosedBy p before after branch old leaf leaf.node
   pub no_dearer : after.cost ≤ before.cost
 
--- the number of a cut has at most four digits
+-- the number of a cut is at most 999
 abbrev pub IsShortCut : Node → Type 0
 IsShortCut (nodes.Pair a b) = Unit {0}
-IsShortCut (nodes.Cut shore k) = k ≤ 9999
+IsShortCut (nodes.Cut shore k) = k ≤ 999
 IsShortCut (nodes.Price set) = Unit {0}
 IsShortCut nodes.Void = Unit {0}
 IsShortCut nodes.Fixed = Unit {0}

@@ -18,7 +18,7 @@ use decision_chains::{excluded_is_symmetric, is_pair, yes_pairs_join};
 use std::alloc::Global;
 
 // The greatest number of a cut that a search takes, so that no line of a certificate is long.
-const MOST_CUT: u64 = 9_999;
+const MOST_CUT: u64 = 999;
 
 // A node that splits a branch that is neither void nor fixed: the one that is proposed, if it may stand, and else the
 // first pair of edges that is not determined.

@@ -39,9 +39,9 @@ pub fn searches_hold_few_sets()
     ensures { SearchesHoldFewSets }
 {}
 
-/// A search that began anew is light at each moment: each of its price sets has at most 1,000 edges in groups, and the
-/// number of each cut of its tree is at most 9,999. It is so when it has just begun, and each step and each plan that it
-/// takes keep that.
+/// A search that began anew is light at each moment: the edges of the groups of each of its price sets, and six for each
+/// group, are at most 5,000 together, and the number of each cut of its tree is at most 999. It is so when it has just
+/// begun, and each step and each plan that it takes keep that.
 pub fn searches_stay_light()
     ensures { SearchesStayLight }
 {}

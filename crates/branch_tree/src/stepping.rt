@@ -86,7 +86,7 @@ impl Search {
 
     /// The same with advisers. They are asked for prices of a leaf that is neither void nor fixed
     /// (`dual_master::raise_with`), and then for a node to split it by: the first one that is offered is taken if it may
-    /// stand there, and if it is no cut of a number above 9,999. Who the advisers are is no matter to what a step
+    /// stand there, and if it is no cut of a number above 999. Who the advisers are is no matter to what a step
     /// promises.
     ///
     /// The only error is want of memory. Then the tree, the price sets and the best plan are as before, and shores may

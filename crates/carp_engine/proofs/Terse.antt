@@ -5,7 +5,7 @@ use Rattle.carp_base.specs.Problem.{Problem}
 use Rattle.branch_rules.specs.Prices.{Prices}
 use Rattle.branch_rules.specs.declared.node.Node.{Node}
 use Rattle.branch_rules.specs.declared.node.Node.TheVariants as nodes
-use Rattle.dual_master.specs.Raising.{HasFewGroupEdges}
+use Rattle.dual_master.specs.Raising.{HasShortGroups}
 use Rattle.grown_trees.specs.declared.growing.GrowingNode.{GrowingNode}
 use Rattle.branch_tree.specs.Counts.{IsLight, SearchesStayLight}
 use Rattle.branch_tree.specs.Founds.{Findings, IsFound}
@@ -32,7 +32,7 @@ after_turn law p before middle after turn taken few step offered light = law.off
 pub terse_found : (p : Problem) (s : State) (f : Findings) (c : Certificate) → IsCertified p f c → f.sets ≡ s.sets → f.nodes ≡ map (λ (entry : GrowingNode). entry.node) s.nodes → IsLight s → IsTerse c
 terse_found p s f c certified sets nodes_are light =
     subst IsTerse (sym certified.certificate) (record {
-      few_edges = subst (All HasFewGroupEdges) (sym sets) light.few_edges;
+      short_groups = subst (All HasShortGroups) (sym sets) light.short_groups;
       short_cuts = subst (All IsShortCut) (sym nodes_are) (All-map IsShortCut (λ (entry : GrowingNode). entry.node) s.nodes light.short);
     })
 
@@ -49,6 +49,6 @@ short_text laws p f turns found limits short terse =
     laws.texts (certificate_by p f) (record {
       fine = is_fine laws p f turns found limits;
       few_tours = omega (arith, short.few_tours, found.valid.few_required);
-      few_edges = terse.few_edges;
+      short_groups = terse.short_groups;
       short_cuts = All-weaker IsShortCut texts.IsShortCut short_cut f.nodes terse.short_cuts;
     })

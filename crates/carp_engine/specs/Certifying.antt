@@ -8,7 +8,7 @@ use Rattle.cut_pool.specs.Pools.{AreDifferent}
 use Rattle.cut_pool.specs.Shores.{IsShore}
 use Rattle.branch_rules.specs.Limits.{IsPriceSet}
 use Rattle.branch_rules.specs.Prices.{Prices}
-use Rattle.dual_master.specs.Raising.{HasFewGroupEdges}
+use Rattle.dual_master.specs.Raising.{HasShortGroups}
 use Rattle.branch_tree.specs.Steps.{IsShortCut}
 use Rattle.branch_tree.specs.Founds.{Findings, IsFound}
 use Rattle.branch_tree.specs.Values.{IsFloored}
@@ -39,9 +39,9 @@ pub record IsCertified (p : Problem) (f : Findings) (c : Certificate) : Type 0 w
   pub limits : AreWithinLimits f.pool f.sets
   pub certificate : c ≡ certificate_by p f
 
--- the groups of each price set have few edges, and the number of each cut is small
+-- the groups of each price set are short, and the number of each cut is small
 pub record IsTerse (c : Certificate) : Type 0 where
-  pub few_edges : All HasFewGroupEdges c.sets
+  pub short_groups : All HasShortGroups c.sets
   pub short_cuts : All IsShortCut c.nodes
 
 -- what a search from a plan and a bound on found, and its certificate: the plan costs no more and is short if the first one was, the bound is

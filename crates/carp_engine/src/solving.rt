@@ -44,7 +44,7 @@ pub struct Solved {
 /// ([`solve_with`]).
 ///
 /// The text of the certificate has at most 64,000,000 bytes: the plan has no more tours than there are required edges,
-/// and the search takes no price set with many edges in its groups and no cut with a great number.
+/// and the search takes no price set with long groups and no cut with a great number.
 ///
 /// Beside what the helpers take, it takes time in proportion to n (n + m) log n with n vertices and m edges, that of
 /// the floors (`dual_master::floors`), and that of the turns.

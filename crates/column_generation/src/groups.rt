@@ -18,8 +18,11 @@ const MOST_GROUPS: usize = 500;
 
 const MOST_EDGES: usize = 120;
 
-// No set is taken whose groups have more edges together.
-const MOST_EDGES_TOGETHER: usize = 1_000;
+// No set is taken whose groups are longer together, in numbers: the edges of each, and six more for its weight and its
+// size.
+const LONGEST_GROUPS: usize = 5_000;
+
+const HEAD: usize = 6;
 
 /// The edges of a group, by their rising numbers.
 #[derive(Drop)]
@@ -97,7 +100,8 @@ pub(crate) fn is_small_group(inst: &Instance, edges: &[u32]) -> bool
 }
 
 /// The groups with a weight above 0, and the pairs to be served together with the negative of theirs: at most 500 of at
-/// most 120 edges each. Where they have more than 1,000 edges together, the lightest are left out.
+/// most 120 edges each. Where their edges, and six for
+/// each group, are more than 5,000 together, the lightest are left out.
 pub(crate) fn weighted_groups(
     alloc: Global,
     inst: &Instance,
@@ -112,13 +116,13 @@ pub(crate) fn weighted_groups(
     Ok(groups)
 }
 
-// Leaves the lightest group out, of equal ones the last, until the groups have few enough edges together.
+// Leaves the lightest group out, of equal ones the last, until the groups are short enough together.
 fn leave_lightest_out(inst: &Instance, groups: &mut Vec<WeightedGroup>)
     requires { AreOffered inst.now groups.old.items }
     ensures { AreOffered inst.now groups.new.items }
 {
     for _ in 0..groups.len() {
-        if edges_together(groups) <= MOST_EDGES_TOGETHER {
+        if length_of(groups) <= LONGEST_GROUPS {
             return;
         }
         leave_out(inst, groups);
@@ -136,13 +140,13 @@ fn leave_out(inst: &Instance, groups: &mut Vec<WeightedGroup>)
     }
 }
 
-// How many edges groups have together.
-fn edges_together(groups: &[WeightedGroup]) -> usize {
-    let mut edges: usize = 0;
+// How long groups are as text, in numbers.
+fn length_of(groups: &[WeightedGroup]) -> usize {
+    let mut length: usize = 0;
     for group in groups {
-        edges = edges.saturating_add(group.edges().len());
+        length = length.saturating_add(group.edges().len().saturating_add(HEAD));
     }
-    edges
+    length
 }
 
 // The place of the lightest group, of equal ones the last.
