@@ -63,6 +63,7 @@ def conv(s,crate):
     s=s.replace('crate::crate::','crate::').replace(f'crate::{crate}::shim','crate::shim')
     s=re.sub(r'(trait \w+(?:<[^>]*>)?): Drop ',r'\1 ',s)
     s=re.sub(r'<(\w+): Drop>',r'<\1>',s); s=re.sub(r' \+ Drop\b','',s); s=re.sub(r': Drop \+ ',': ',s)
+    s=re.sub(r'\.sort_unstable(?=\(|_by_key\()','.sort_as_rattle',s)
     s=s.replace('.collect(alloc)?','.collect_in()?'); s=s.replace('use std::collections::BinaryHeap;','use crate::shim::BinaryHeap;'); s=re.sub(r'<(\w+): Drop, ',r'<\1, ',s); s=re.sub(r', (\w+): Drop>',r', \1>',s)
     s=re.sub(r'^//!.*\n','',s,flags=re.M)
     return s.replace('RUNNOW()','crate::run::now()')

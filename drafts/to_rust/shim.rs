@@ -73,3 +73,6 @@ pub fn list_reached() {
         std::fs::OpenOptions::new().append(true).create(true).open(name).unwrap().write_all(text.as_bytes()).unwrap();
     }
 }
+#[path = "sorting.rs"]
+mod sorting;
+pub use sorting::SortAsRattle;

@@ -26,7 +26,7 @@ use Rattle.branch_tree.specs.Resumes.{MayResume, support_on}
 use Rattle.branch_tree.specs.Searches.{IsHeld, IsHeldSet}
 use Rattle.branch_tree.specs.Values.{just_above}
 use Rattle.branch_tree.proofs.Counting.{is_shown}
-use Rattle.branch_tree.proofs.Numbers.{bound_covers, shown_reaches}
+use Rattle.branch_tree.proofs.Numbers.{bound_covers, millionths_show, shown_reaches}
 
 join_all : {X : Type 0} (P : X → Type 0) (xs ys : List X) → AllByRecursion P xs → AllByRecursion P ys → AllByRecursion P (xs ++ ys)
 join_all P [] ys first second = second
@@ -239,10 +239,13 @@ module _ (costs : ShortPlansCostLittle) (p : Problem) (valid : IsValid p) (plan 
   in_range = omega (arith, as_many (support_on p pool sets) (stands [] may.tree) entries may.noted, stands_long [] may.tree, may.few_nodes)
 
   pub resumed_held : (cost done : ℕ) → cost ≡ plan_cost p plan → done ≡ turns_in cost entries →
-      IsHeld p (record { pool = pool; sets = sets; nodes = entries; plan = plan; cost = cost; done = done; least = least })
+      IsHeld p (record { pool = pool; sets = sets; nodes = entries; plan = plan; cost = cost; done = done; least = least; base = just_above least })
   resumed_held cost done cost_is done_is = record {
     valid = valid;
     below = may.below;
+    some_unit = omega arith;
+    shown = millionths_show least;
+    beneath = λ other lawful. bound_covers least (plan_cost p other) (may.below other lawful);
     tree = may.tree;
     sound = resumed_sound p pool sets least entries may (omega (arith, small, may.below plan allowed.lawful));
     sets = may.held;

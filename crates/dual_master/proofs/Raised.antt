@@ -14,7 +14,7 @@ use Rattle.branch_rules.specs.Limits.{IsShoreOf}
 use Rattle.branch_rules.specs.Prices.{Prices, value_of}
 use Rattle.branch_rules.specs.declared.weight.Weight.{Weight}
 use Rattle.dual_master.specs.Growth.{GrowthKeepsSets, IsAsBefore}
-use Rattle.dual_master.specs.Raising.{HasFewGroupEdges, HasGroupsFrom, HasGroupsOf, IsAccepted, IsNoLower, IsRaised}
+use Rattle.dual_master.specs.Raising.{HasShortGroups, HasGroupsFrom, HasGroupsOf, IsAccepted, IsNoLower, IsRaised}
 use Rattle.dual_master.proofs.Chosen.{shore_of_grown}
 
 neg_times : (n m : ℕ) → (pos n *ℤ neg_ℤ (pos m)) +ℤ pos (n * m) ≡ pos 0
@@ -130,7 +130,7 @@ of_instance p start set (inl same) of = subst (All (λ (w : GroupWeight). IsGrou
 of_instance p start set (inr own) of = own
 
 -- a set with the groups of one with few edges in them has few
-pub few_of : (start set : Prices) → start.groups ≡ set.groups → HasFewGroupEdges start → HasFewGroupEdges set
+pub few_of : (start set : Prices) → start.groups ≡ set.groups → HasShortGroups start → HasShortGroups set
 few_of start set same few = subst (λ (ws : List GroupWeight). sum_by (λ (w : GroupWeight). length w.edges) ws ≤ 1000) same few
 
 pub both_ok : {X E : Type 0} (r : Result X E) (P Q R : X → Type 0) → ((x : X) → P x → Q x → R x) → IfOk r P → IfOk r Q → IfOk r R
@@ -146,7 +146,7 @@ raised_since law p branch pool after grown start from offered shores groups (Ok 
       fits = accepted.fits;
       shores = shores;
       groups = groups;
-      few_edges = accepted.few_edges;
+      short_groups = accepted.short_groups;
       no_lower = no_lower_before law p branch pool after grown start from offered accepted.no_lower;
     })
 raised_since law p branch pool after grown start from offered shores groups (Ok None) accepted = tt

@@ -1,5 +1,5 @@
 // Price sets that are raised.
-ghost use Rattle.std.specs.Prelude.{◌≡◌, ◌≤◌, ◌↔◌, All, IfOk, IfSome, IsTrue, length, sum_by, unwrap_or};
+ghost use Rattle.std.specs.Prelude.{◌≡◌, ◌+◌, ◌≤◌, ◌↔◌, All, IfOk, IfSome, IsTrue, length, sum_by, unwrap_or};
 ghost use Rattle.cut_pool.specs.Pools.{IsGrown};
 ghost use Rattle.cut_pool.specs.Shores.{Belongs};
 ghost use Rattle.branch_rules.specs.Bonds.{GroupWeight};
@@ -9,7 +9,7 @@ ghost use Rattle.decision_chains.specs.Pairs.{ArePairsIn};
 ghost use Rattle.route_pricing.specs.Tables.{IsRoom};
 ghost use Rattle.tight_prices.specs.Tight.{IsTight};
 ghost use Rattle.leaf_adviser.specs.Leaves.{AreOf, IsLeaf};
-ghost use Rattle.dual_master.specs.Raising.{HasFewGroupEdges, HasGroupsFrom, IsAccepted, IsHeld, IsNoLower, IsRaised, IsStanding};
+ghost use Rattle.dual_master.specs.Raising.{HasShortGroups, HasGroupsFrom, IsAccepted, IsHeld, IsNoLower, IsRaised, IsStanding};
 
 use crate::laws::growth_keeps_sets;
 use crate::values::{is_no_more, value_under};
@@ -22,15 +22,17 @@ use route_pricing::Table;
 use std::alloc::Global;
 use tight_prices::{fits, tighten};
 
-// No offer is taken whose groups have more edges together.
-const MOST_GROUP_EDGES: usize = 1_000;
+// No offer is taken whose groups are longer together.
+const LONGEST_GROUPS: usize = 5_000;
+// What a group takes in a text besides its edges, in numbers: its weight and its size.
+const HEAD: usize = 6;
 
 /// A price set that fits under a branch and whose value, divided by its denominator, is no less than that of a start
 /// that fits there. No single number of it can be raised: neither a price, nor the weight of a shore of one vertex that
 /// the pool held before and over which some deadhead is needed (`tight_prices`).
 ///
-/// It is what [`raise_with`] gives with no advisers, so the number of rounds says nothing. If the groups of the start
-/// have at most 1,000 edges together, so have those of what it gives.
+/// It is what [`raise_with`] gives with no advisers, so the number of rounds says nothing. If the edges of the
+/// groups of the start, and six for each group, are at most 5,000 together, so are those of what it gives.
 pub fn raise(
     alloc: Global,
     inst: &Instance,
@@ -50,7 +52,7 @@ pub fn raise(
     ensures tight { IfOk result (IsTight inst.now pool.new (length pool.old) branch.now) }
     ensures no_lower { IfOk result (IsNoLower inst.now branch.now pool.old start.now pool.new) }
     ensures groups { IfOk result (HasGroupsFrom inst.now start.now) }
-    ensures few_edges { HasFewGroupEdges start.now → IfOk result HasFewGroupEdges }
+    ensures short_groups { HasShortGroups start.now → IfOk result HasShortGroups }
     ensures shores { IfOk result (λ set. All (λ w. IsShoreOf inst.now pool.new w.shore) set.weights) }
     ensures grown { IsGrown pool.old pool.new }
     ensures belong { All (Belongs inst.now) pool.new }
@@ -72,9 +74,9 @@ pub fn raise(
 /// It asks each adviser once, in the order of the list, with the best set so far. An offer takes the place of the best
 /// one if it fits and its value divided by its denominator is greater. The best one is made tight at the end. Shores
 /// with a weight are placed in the pool behind those that it held, while it holds fewer than 2,000. The weights on
-/// groups are those of the start, or they are on groups of the instance. An offer whose groups have more than 1,000
-/// edges together is not taken, so that certificates stay short: if the groups of the start have no more, so have those
-/// of what it gives.
+/// groups are those of the start, or they are on groups of the instance. An offer whose groups are
+/// long is not taken, so that certificates stay short: if the edges of the groups of the start, and six for each group,
+/// are at most 5,000 together, so are those of what it gives.
 ///
 /// It asks for a leaf, for a table that was made for its instance, which it fills, and for a pool whose shores belong to
 /// the instance. The shores that it adds belong to the instance too. What the advisers are is no matter to what it
@@ -97,7 +99,7 @@ pub fn raise_with<A: Adviser>(
     ensures tight { IfOk result (IsTight leaf.now.inst.now pool.new (length pool.old) leaf.now.branch.now) }
     ensures no_lower { IfOk result (IsNoLower leaf.now.inst.now leaf.now.branch.now pool.old start.now pool.new) }
     ensures groups { IfOk result (HasGroupsFrom leaf.now.inst.now start.now) }
-    ensures few_edges { HasFewGroupEdges start.now → IfOk result HasFewGroupEdges }
+    ensures short_groups { HasShortGroups start.now → IfOk result HasShortGroups }
     ensures shores { IfOk result (λ set. All (λ w. IsShoreOf leaf.now.inst.now pool.new w.shore) set.weights) }
     ensures grown { IsGrown pool.old pool.new }
     ensures belong { All (Belongs leaf.now.inst.now) pool.new }
@@ -218,7 +220,7 @@ fn if_better(
     ensures accepted { IfOk result (λ better. IfSome better (IsAccepted leaf.now.inst.now leaf.now.branch.now pool.now offered start.now)) }
     ensures room { IsRoom leaf.now.inst.now table.new }
 {
-    if !has_few_group_edges(&offered) {
+    if !has_short_groups(&offered) {
         return Ok(None);
     }
     if !fits(
@@ -239,23 +241,23 @@ fn if_better(
     }
 }
 
-// Whether the groups of a set have few edges together.
-fn has_few_group_edges(set: &PriceSet) -> bool
-    ensures { IsTrue result ↔ HasFewGroupEdges set.now }
+// Whether the groups of a set are short.
+fn has_short_groups(set: &PriceSet) -> bool
+    ensures { IsTrue result ↔ HasShortGroups set.now }
 {
-    edges_of(set.groups()) <= MOST_GROUP_EDGES
+    length_of(set.groups()) <= LONGEST_GROUPS
 }
 
-// How many edges groups have together.
-fn edges_of(groups: &[WeightedGroup]) -> usize
+// How long groups are as text, in numbers.
+fn length_of(groups: &[WeightedGroup]) -> usize
     requires { length groups.now ≤ 2000 }
-    ensures { result ≡ sum_by (λ (w : GroupWeight). length w.edges) groups.now }
+    ensures { result ≡ sum_by (λ (w : GroupWeight). length w.edges + 6) groups.now }
 {
-    let mut edges = 0;
+    let mut length = 0;
     for group in groups {
-        edges += group.edges().len();
+        length += group.edges().len() + HEAD;
     }
-    edges
+    length
 }
 
 // Whether the value of the first set divided by its denominator is above that of the second.

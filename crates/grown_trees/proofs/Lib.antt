@@ -11,3 +11,4 @@ pub mod Leasts
 pub mod Keeping
 pub mod Rounding
 pub mod Light
+pub mod Filling

@@ -1,5 +1,5 @@
 -- Nodes in blocks, and what a block knows of its nodes. No public contract speaks of this but by the list of all nodes.
-use Rattle.std.specs.Prelude.{◌≡◌, ℕ, ◌+◌, ◌-◌, ◌<◌, ◌≤◌, max, List, [], ◌∷◌, ◌++◌, length, map}
+use Rattle.std.specs.Prelude.{◌≡◌, ℕ, ◌+◌, ◌-◌, ◌*◌, ◌<◌, ◌≤◌, max, List, [], ◌∷◌, ◌++◌, length, map}
 use Rattle.std.specs.List.{All}
 use Rattle.branch_rules.specs.declared.node.Node.{Node}
 use Rattle.branch_rules.specs.declared.node.Node.TheVariants as nodes
@@ -13,6 +13,18 @@ use Rattle.grown_trees.specs.declared.blocks.Spot.{Spot}
 abbrev pub joined : List (List GrowingNode) → List GrowingNode
 joined [] = []
 joined (nodes ∷ rest) = nodes ++ joined rest
+
+-- how many nodes there would have to be more, so that each of the blocks holds at least 511
+abbrev pub lacking : List (List GrowingNode) → ℕ
+lacking [] = 0
+lacking (nodes ∷ rest) = (511 - length nodes) + lacking rest
+
+-- The blocks of a tree, with so many spare ones and memory for so many blocks in their list, do for a room of so many nodes. A half of a
+-- block that was divided holds at least 511 nodes, so only the last block that the tree was made with can lack some.
+pub record IsProvided (blocks : List (List GrowingNode)) (spare room capacity : ℕ) : Type 0 where
+  pub filled : lacking blocks ≤ 511
+  pub enough : room + 511 ≤ 511 * (length blocks + spare)
+  pub taken : length blocks + spare ≤ capacity
 
 -- the least of a cost and the numbers of the nodes
 pub record IsLeast (cost : ℕ) (entries : List GrowingNode) (least : ℕ) : Type 0 where

@@ -13,9 +13,10 @@ use Rattle.grown_trees.specs.Places.{IsFineNode}
 use Rattle.grown_trees.specs.Stands.{Stand, IsShownStand, IsLeanStand, IsFitStand}
 use Rattle.grown_trees.specs.declared.growing.GrowingNode.{GrowingNode}
 
--- the nodes of a tree in preorder
+-- the nodes of a tree in preorder, and how many of them it has memory for
 pub record Growth : Type 0 where
   pub nodes : List GrowingNode
+  pub room : ℕ
 
 -- a number of parts of a unit
 pub record Fraction : Type 0 where

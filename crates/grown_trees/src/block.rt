@@ -13,6 +13,8 @@ use std::marker::Model;
 pub(crate) const MOST_NODES: usize = 1024;
 // The nodes of each block of a tree that is made of many nodes, and of the first half of a block that is divided.
 pub(crate) const HALF: usize = 512;
+// The fewest nodes of a half: a block is divided only where no two nodes more go into it.
+pub(crate) const LEAST_HALF: usize = 511;
 
 // What a way needs to go past a block without a decision, and what it gains there.
 #[derive(Clone, Copy)]
@@ -89,18 +91,24 @@ impl Model for Block {
 }
 
 impl Block {
-    // The block of these nodes, whose turns are counted for a cost. The only error is want of memory.
-    pub(crate) fn of(alloc: Global, nodes: &[GrowingNode], cost: u64) -> Result<Block, Memory>
-        requires { length nodes.now ≤ 1024 }
-        ensures { IfOk result (λ block. block ≡ nodes.now) }
+    // The block of no nodes, with memory for all that it can hold. The only error is want of memory.
+    pub(crate) fn new(alloc: Global) -> Result<Block, Memory>
+        ensures { IfOk result (λ block. block ≡ []) }
     {
-        let mut all = Vec::with_capacity(alloc, MOST_NODES)?;
-        all.extend_from_slice(nodes)?;
-        let summary = summary_of(&all, cost);
         Ok(Block {
-            nodes: all,
-            summary,
+            nodes: Vec::with_capacity(alloc, MOST_NODES)?,
+            summary: summary_of(&[], 0),
         })
+    }
+
+    // Puts these nodes in the place of all, and counts their turns for a cost. It takes no memory.
+    pub(crate) fn refill(&mut self, nodes: &[GrowingNode], cost: u64)
+        requires { length nodes.now ≤ 1024 }
+        ensures { self.new ≡ nodes.now }
+    {
+        self.nodes.clear();
+        self.nodes.extend_from_slice(nodes).unwrap();
+        self.summary = summary_of(&self.nodes, cost);
     }
 
     // The number of nodes.
@@ -167,13 +175,13 @@ impl Block {
         self.summary = summary_of(&self.nodes, self.summary.cost);
     }
 
-    // The nodes from the half on, as a block.
-    pub(crate) fn upper_half(&self, alloc: Global) -> Result<Block, Memory>
+    // Puts the nodes from the half on into another block, in the place of all that it holds.
+    pub(crate) fn copy_upper_half(&self, other: &mut Block)
         requires { 512 ≤ length self.now }
-        ensures { IfOk result (λ block. block ≡ drop 512 self.now) }
+        ensures { other.new ≡ drop 512 self.now }
     {
         let (_, upper) = self.nodes.split_at(HALF);
-        Block::of(alloc, upper, self.summary.cost)
+        other.refill(upper, self.summary.cost);
     }
 
     // Takes away the nodes from the half on.

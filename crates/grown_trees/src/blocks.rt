@@ -1,10 +1,10 @@
 // The blocks of a tree: their nodes, one block behind the other, are those of the tree in preorder.
-ghost use Rattle.std.specs.Prelude.{◌≡◌, ◌+◌, ◌-◌, ◌^◌, ◌<◌, ◌≤◌, ◌++◌, ◌∷◌, [], List, length, map, take, drop, slice_index_or, position, IfOk, OnOk, OnErr};
-ghost use Rattle.grown_trees.specs.Blocks.{IsLeast, IsRoomySpot, IsSpot, joined};
+ghost use Rattle.std.specs.Prelude.{◌≡◌, ◌+◌, ◌-◌, ◌*◌, ◌^◌, ◌<◌, ◌≤◌, ◌++◌, ◌∷◌, [], List, length, map, take, drop, slice_index_or, position, vec_capacity, IfOk};
+ghost use Rattle.grown_trees.specs.Blocks.{IsLeast, IsRoomySpot, IsSpot, joined, lacking};
 ghost use Rattle.grown_trees.specs.Growth.{shows_just, turns_in};
 ghost use Rattle.grown_trees.specs.declared.growing.GrowingNode.{GrowingNode as Entry};
 
-use crate::block::{Block, HALF};
+use crate::block::{Block, HALF, LEAST_HALF};
 use crate::growing::GrowingNode;
 use branch_rules::Tree;
 use carp_base::Memory;
@@ -19,18 +19,46 @@ pub(crate) struct Spot {
     pub(crate) inner: usize,
 }
 
-// The blocks of these nodes, each but the last half full. The only error is want of memory.
-pub(crate) fn blocks_of(alloc: Global, nodes: &[GrowingNode]) -> Result<Vec<Block>, Memory>
-    ensures { IfOk result (λ blocks. joined blocks.items ≡ nodes.now) }
+// The number of blocks to take for a tree of at most so many nodes. All blocks but one hold at least 511 nodes, so n
+// nodes have at most n / 511 + 1 blocks, and one more is spare at each split.
+pub(crate) fn most_blocks(room: usize) -> usize
+    ensures { room + 511 ≤ 511 * result }
 {
-    let mut blocks = Vec::new(alloc);
+    room / LEAST_HALF + 2
+}
+
+// The blocks of these nodes, each but the last half full, in a list with memory for so many. The only error is want of
+// memory.
+pub(crate) fn blocks_of(
+    alloc: Global,
+    nodes: &[GrowingNode],
+    most: usize,
+) -> Result<Vec<Block>, Memory>
+    ensures nodes { IfOk result (λ blocks. joined blocks.items ≡ nodes.now) }
+    ensures filled { IfOk result (λ blocks. lacking blocks.items ≤ 511) }
+    ensures capacity { IfOk result (λ blocks. most ≤ vec_capacity blocks) }
+{
+    let mut blocks = Vec::with_capacity(alloc, most)?;
     let mut rest = nodes;
     while rest.len() > 0 {
         let (first, behind) = rest.split_at(rest.len().min(HALF));
-        blocks.push(Block::of(alloc, first, 0)?)?;
+        let mut block = Block::new(alloc)?;
+        block.refill(first, 0);
+        blocks.push(block)?;
         rest = behind;
     }
     Ok(blocks)
+}
+
+// So many blocks of no nodes. The only error is want of memory.
+pub(crate) fn spare_blocks(alloc: Global, number: usize) -> Result<Vec<Block>, Memory>
+    ensures { IfOk result (λ spare. length spare.items ≡ number) }
+{
+    let mut spare = Vec::with_capacity(alloc, number)?;
+    for _ in 0..number {
+        spare.push(Block::new(alloc)?)?;
+    }
+    Ok(spare)
 }
 
 // Where the node at a place stands.
@@ -61,55 +89,67 @@ pub(crate) fn node_in(blocks: &[Block], place: usize) -> GrowingNode
 // Puts another node in the place of a node.
 pub(crate) fn replace_in(blocks: &mut Vec<Block>, place: usize, leaf: GrowingNode)
     requires { place < length (joined blocks.old.items) }
-    ensures { joined blocks.new.items ≡ take place (joined blocks.old.items) ++ ((leaf ∷ []) ++ drop (place + 1) (joined blocks.old.items)) }
+    ensures nodes { joined blocks.new.items ≡ take place (joined blocks.old.items) ++ ((leaf ∷ []) ++ drop (place + 1) (joined blocks.old.items)) }
+    ensures filled { lacking blocks.new.items ≤ lacking blocks.old.items }
+    ensures number { length blocks.new.items ≡ length blocks.old.items }
+    ensures capacity { vec_capacity blocks.new ≡ vec_capacity blocks.old }
 {
     let spot = find(blocks, place);
     blocks[spot.block].replace(spot.inner, leaf);
 }
 
-// Puts a node with two behind it in the place of a node. Without memory the nodes stay as they were.
+// Puts a node with two behind it in the place of a node. A block may be taken from the spare ones.
 pub(crate) fn split_in(
-    alloc: Global,
     blocks: &mut Vec<Block>,
+    spare: &mut Vec<Block>,
     place: usize,
     inner: GrowingNode,
     first: GrowingNode,
     second: GrowingNode,
-) -> Result<(), Memory>
-    requires { place < length (joined blocks.old.items) }
-    ensures ok { OnOk result (joined blocks.new.items ≡ take place (joined blocks.old.items) ++ ((inner ∷ first ∷ second ∷ []) ++ drop (place + 1) (joined blocks.old.items))) }
-    ensures err { OnErr result (joined blocks.new.items ≡ joined blocks.old.items) }
+)
+    requires place { place < length (joined blocks.old.items) }
+    requires spare { 0 < length spare.old.items }
+    requires taken { length blocks.old.items < vec_capacity blocks.old }
+    ensures nodes { joined blocks.new.items ≡ take place (joined blocks.old.items) ++ ((inner ∷ first ∷ second ∷ []) ++ drop (place + 1) (joined blocks.old.items)) }
+    ensures filled { lacking blocks.new.items ≤ lacking blocks.old.items }
+    ensures number { length blocks.new.items + length spare.new.items ≡ length blocks.old.items + length spare.old.items }
+    ensures capacity { vec_capacity blocks.old ≤ vec_capacity blocks.new }
 {
-    let spot = roomy_spot(alloc, blocks, place)?;
+    let spot = roomy_spot(blocks, spare, place);
     blocks[spot.block].split(spot.inner, inner, first, second);
-    Ok(())
 }
 
 // Where the node at a place stands, in a block with room for two nodes more. A block without it is divided before.
-fn roomy_spot(alloc: Global, blocks: &mut Vec<Block>, place: usize) -> Result<Spot, Memory>
-    requires { place < length (joined blocks.old.items) }
+fn roomy_spot(blocks: &mut Vec<Block>, spare: &mut Vec<Block>, place: usize) -> Spot
+    requires place { place < length (joined blocks.old.items) }
+    requires spare { 0 < length spare.old.items }
+    requires taken { length blocks.old.items < vec_capacity blocks.old }
     ensures same { joined blocks.new.items ≡ joined blocks.old.items }
-    ensures spot { IfOk result (λ spot. IsRoomySpot blocks.new.items place spot) }
+    ensures spot { IsRoomySpot blocks.new.items place result }
+    ensures filled { lacking blocks.new.items ≤ lacking blocks.old.items }
+    ensures number { length blocks.new.items + length spare.new.items ≡ length blocks.old.items + length spare.old.items }
+    ensures capacity { vec_capacity blocks.old ≤ vec_capacity blocks.new }
 {
     let spot = find(blocks, place);
     if blocks[spot.block].is_roomy() {
-        return Ok(spot);
+        return spot;
     }
-    divide(alloc, blocks, spot.block)?;
-    Ok(spot_in_halves(spot))
+    let upper = spare.pop().unwrap();
+    divide(blocks, upper, spot.block);
+    spot_in_halves(spot)
 }
 
-// Divides a block into two: its first 512 nodes, and the others. Without memory all blocks stay as they were.
-fn divide(alloc: Global, blocks: &mut Vec<Block>, block: usize) -> Result<(), Memory>
+// Divides a block into two: its first 512 nodes, and the others, which are put into a block that was spare.
+fn divide(blocks: &mut Vec<Block>, mut upper: Block, block: usize)
     requires block { block < length blocks.old.items }
     requires full { 512 ≤ length (slice_index_or blocks.old.items block []) }
-    ensures ok { OnOk result ((before behind : List (List Entry)) (here : List Entry) → blocks.old.items ≡ before ++ (here ∷ behind) → block ≡ length before → blocks.new.items ≡ before ++ (take 512 here ∷ drop 512 here ∷ behind)) }
-    ensures err { OnErr result (blocks.new.items ≡ blocks.old.items) }
+    requires taken { length blocks.old.items < vec_capacity blocks.old }
+    ensures divided { (before behind : List (List Entry)) (here : List Entry) → blocks.old.items ≡ before ++ (here ∷ behind) → block ≡ length before → blocks.new.items ≡ before ++ (take 512 here ∷ drop 512 here ∷ behind) }
+    ensures capacity { vec_capacity blocks.old ≤ vec_capacity blocks.new }
 {
-    let upper = blocks[block].upper_half(alloc)?;
-    blocks.insert(block + 1, upper)?;
+    blocks[block].copy_upper_half(&mut upper);
+    blocks.insert(block + 1, upper).unwrap();
     blocks[block].keep_lower_half();
-    Ok(())
 }
 
 // Where a node stands after its block was divided.
@@ -131,6 +171,7 @@ fn spot_in_halves(spot: Spot) -> Spot
 pub(crate) fn turns_of(blocks: &mut Vec<Block>, cost: u64) -> usize
     requires { length (joined blocks.old.items) < 2 ^ 64 }
     ensures same { blocks.new.items ≡ blocks.old.items }
+    ensures capacity { vec_capacity blocks.new ≡ vec_capacity blocks.old }
     ensures turns { result ≡ turns_in cost (joined blocks.old.items) }
 {
     let mut turns = 0;

@@ -1,12 +1,13 @@
 // Trees that grow at their leaves.
-ghost use Rattle.std.specs.Prelude.{◌≡◌, ℕ, ◌+◌, ◌<◌, ◌≤◌, ◌++◌, ◌∷◌, [], length, map, take, drop, slice_index_or, All, IfOk, OnOk, OnErr, IfSome, IfNone};
+ghost use Rattle.std.specs.Prelude.{◌≡◌, ℕ, ◌+◌, ◌<◌, ◌≤◌, ◌++◌, ◌∷◌, [], length, map, take, drop, slice_index_or, All, IfOk, IfSome, IfNone};
 ghost use Rattle.branch_rules.specs.Trees.{Tree as DecisionTree, preorder};
 ghost use Rattle.grown_trees.specs.Growth.{IsLeastOpen, turns_in};
 ghost use Rattle.grown_trees.specs.Places.{IsFineNode, branch_to};
 
 use crate::block::Block;
 use crate::blocks::{
-    blocks_of, first_that_shows, least_of, node_in, replace_in, split_in, tree_of, turns_of,
+    blocks_of, first_that_shows, least_of, most_blocks, node_in, replace_in, spare_blocks,
+    split_in, tree_of, turns_of,
 };
 use crate::way::branch_at;
 use branch_rules::{Branch, Node, Tree};
@@ -25,44 +26,57 @@ pub struct GrowingNode {
 /// The nodes of a tree in preorder, each with the greatest bound that it shows by itself.
 ///
 /// The nodes stand in blocks of at most 1,024, and a full block is divided into two. Contracts see the list of all
-/// nodes. With n nodes, `len` takes the same time whatever the tree; `node`, `replace`, `split`, `shown`, `open_leaf`,
-/// and `turns` for the cost of the last call take time in proportion to 1,024 + n / 512. `branch_to` takes that time
-/// once, and once more for each decision on the way at most. `of`, `tree`, and `turns` for another cost take time in
-/// proportion to n.
+/// nodes, and the number of nodes for which there is memory, the room. All of it is taken when the tree is made, in
+/// room / 511 + 2 blocks with memory for 1,024 nodes each: about 2.004 entries for each node of the room, and 2,048
+/// more. A tree that is made of more nodes than that takes a block for each 512 of them. `replace`, `split` and `turns`
+/// take no memory.
+///
+/// With n nodes, `len` takes the same time whatever the tree; `node`, `replace`, `split`, `shown`, `open_leaf`, and
+/// `turns` for the cost of the last call take time in proportion to 1,024 + n / 512. `branch_to` takes that time once,
+/// and once more for each decision on the way at most. `tree`, and `turns` for another cost, take time in proportion to
+/// n; `new` and `of` in proportion to n and the room / 511.
 #[derive(Drop)]
 pub struct GrowingTree {
     blocks: Vec<Block>,
+    // Blocks for nodes to come.
+    spare: Vec<Block>,
     len: usize,
+    room: usize,
 }
 
 impl Model for GrowingTree {
-    ghost use Rattle.std.specs.Prelude.{◌≡◌, ◌^◌, ◌<◌, length};
+    ghost use Rattle.std.specs.Prelude.{◌≡◌, ◌^◌, ◌<◌, length, vec_capacity};
     ghost use Rattle.grown_trees.specs.Growth.{Growth};
 
     ghost Value = { Growth };
 
-    ghost use Rattle.grown_trees.specs.Blocks.{joined};
+    ghost use Rattle.grown_trees.specs.Blocks.{IsProvided, joined};
 
-    ghost view = { λ t. record { nodes = joined t.blocks.items } };
+    ghost view = { λ t. record { nodes = joined t.blocks.items; room = t.room } };
 
-    ghost invariant = { λ t. (t.len ≡ length (joined t.blocks.items)) × (t.len < 2 ^ 64) };
+    ghost invariant = { λ t. (t.len ≡ length (joined t.blocks.items)) × ((t.len < 2 ^ 64) × IsProvided t.blocks.items (length t.spare.items) t.room (vec_capacity t.blocks)) };
 }
 
 impl GrowingTree {
-    /// The tree of one node. The only error is want of memory.
-    pub fn new(alloc: Global, root: GrowingNode) -> Result<GrowingTree, Memory>
-        ensures { IfOk result (λ tree. tree ≡ record { nodes = root ∷ [] }) }
+    /// The tree of one node, with memory for so many. The only error is want of memory.
+    pub fn new(alloc: Global, root: GrowingNode, room: usize) -> Result<GrowingTree, Memory>
+        ensures { IfOk result (λ tree. tree ≡ record { nodes = root ∷ []; room = room }) }
     {
-        GrowingTree::of(alloc, &[root])
+        GrowingTree::of(alloc, &[root], room)
     }
 
-    /// The tree of these nodes. The only error is want of memory.
-    pub fn of(alloc: Global, nodes: &[GrowingNode]) -> Result<GrowingTree, Memory>
-        ensures { IfOk result (λ tree. tree ≡ record { nodes = nodes.now }) }
+    /// The tree of these nodes, with memory for so many. The only error is want of memory.
+    pub fn of(alloc: Global, nodes: &[GrowingNode], room: usize) -> Result<GrowingTree, Memory>
+        ensures { IfOk result (λ tree. tree ≡ record { nodes = nodes.now; room = room }) }
     {
+        let most = most_blocks(room);
+        let blocks = blocks_of(alloc, nodes, most)?;
+        let spare = spare_blocks(alloc, most.saturating_sub(blocks.len()))?;
         Ok(GrowingTree {
-            blocks: blocks_of(alloc, nodes)?,
+            blocks,
+            spare,
             len: nodes.len(),
+            room,
         })
     }
 
@@ -95,32 +109,33 @@ impl GrowingTree {
     /// Puts another node in the place of a node. The list stays that of a tree if both are leaves. It takes no memory.
     pub fn replace(&mut self, place: usize, leaf: GrowingNode)
         requires { place < length self.old.nodes }
-        ensures { self.new ≡ record { nodes = take place self.old.nodes ++ ((leaf ∷ []) ++ drop (place + 1) self.old.nodes) } }
+        ensures { self.new ≡ record { nodes = take place self.old.nodes ++ ((leaf ∷ []) ++ drop (place + 1) self.old.nodes); room = self.old.room } }
     {
         replace_in(&mut self.blocks, place, leaf);
     }
 
     /// Puts a node with two behind it in the place of a node. The list stays that of a tree if the first is an inner
-    /// node, and the two and the one that gives way are leaves. The only error is want of memory, and then the list is
-    /// as it was.
+    /// node, and the two and the one that gives way are leaves. It takes no memory.
     pub fn split(
         &mut self,
-        alloc: Global,
         place: usize,
         inner: GrowingNode,
         first: GrowingNode,
         second: GrowingNode,
-    ) -> Result<(), Memory>
-        requires { place < length self.old.nodes }
-        ensures ok { OnOk result (self.new ≡ record { nodes = take place self.old.nodes ++ ((inner ∷ first ∷ second ∷ []) ++ drop (place + 1) self.old.nodes) }) }
-        ensures err { OnErr result (self.new ≡ self.old) }
+    )
+        requires place { place < length self.old.nodes }
+        requires room { length self.old.nodes + 2 ≤ self.old.room }
+        ensures { self.new ≡ record { nodes = take place self.old.nodes ++ ((inner ∷ first ∷ second ∷ []) ++ drop (place + 1) self.old.nodes); room = self.old.room } }
     {
-        let Some(len) = self.len.checked_add(2) else {
-            return Err(Memory);
-        };
-        split_in(alloc, &mut self.blocks, place, inner, first, second)?;
-        self.len = len;
-        Ok(())
+        split_in(
+            &mut self.blocks,
+            &mut self.spare,
+            place,
+            inner,
+            first,
+            second,
+        );
+        self.len += 2;
     }
 
     /// The number of nodes that show a cost by themselves: the inner nodes, and the leaves that are closed for the

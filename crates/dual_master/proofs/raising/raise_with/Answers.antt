@@ -35,12 +35,12 @@ returns-in-Some-clause-groups g c =
     let better = subst (λ (found : Option Prices). IfSome found (IsBetter p c.args.leaf.now.branch.now c.best_offer.new.pool c.args.start.now)) c.in-Some.is c.in_ok-best.ensures.standing.better in
     IfOk-weaker c.tighten.result _ _ (λ set no_lower. inr (of_instance p c.in-Some.set set (inl (sym no_lower.groups)) better.groups)) c.tighten.ensures.no_lower
 
-pub returns-in-None-clause-few_edges : goal.returns-in-None-clause-few_edges
-returns-in-None-clause-few_edges g c = λ few.
+pub returns-in-None-clause-short_groups : goal.returns-in-None-clause-short_groups
+returns-in-None-clause-short_groups g c = λ few.
     IfOk-weaker c.tighten-in-None.result _ _ (λ set no_lower. few_of c.args.start.now set no_lower.groups few) c.tighten-in-None.ensures.no_lower
 
-pub returns-in-Some-clause-few_edges : goal.returns-in-Some-clause-few_edges
-returns-in-Some-clause-few_edges g c = λ _.
+pub returns-in-Some-clause-short_groups : goal.returns-in-Some-clause-short_groups
+returns-in-Some-clause-short_groups g c = λ _.
     let p = c.args.leaf.now.inst.now in
     let better = subst (λ (found : Option Prices). IfSome found (IsBetter p c.args.leaf.now.branch.now c.best_offer.new.pool c.args.start.now)) c.in-Some.is c.in_ok-best.ensures.standing.better in
-    IfOk-weaker c.tighten.result _ _ (λ set no_lower. few_of c.in-Some.set set no_lower.groups better.few_edges) c.tighten.ensures.no_lower
+    IfOk-weaker c.tighten.result _ _ (λ set no_lower. few_of c.in-Some.set set no_lower.groups better.short_groups) c.tighten.ensures.no_lower

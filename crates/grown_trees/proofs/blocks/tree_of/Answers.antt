@@ -1,4 +1,4 @@
-use Rattle.std.proofs.Common.{◌+◌, ◌++◌, ◌∙◌, List, length, map, take, ap, arith, sym}
+use Rattle.std.proofs.Common.{◌++◌, ◌∙◌, List, length, map, take, ap, arith, sym}
 use Rattle.std.proofs.lemmas.List.{length-map}
 use Rattle.branch_rules.specs.Trees.{NodeList}
 use Rattle.branch_rules.specs.declared.node.Node.{Node}
