@@ -36,7 +36,7 @@ module _ (laws : Known) (p : Problem) (budget : ℕ) (plan : List (List Step)) (
     no_dearer = cheaper;
     not_above = s.is_found.at_most;
     greatest = λ other most shows. s.is_found.greatest other most shows;
-    services = reached p s.found floored (required_cost p) floored.floors.services;
+    services = reached p s.found floored (required_cost p) floored.floors.floors.services;
     floors = above_floors p s.found floored;
     turns_are = s.is_found.turns_are;
     small = short_text laws p s.found turns s.is_found s.certified.limits (s.short short) (subst IsTerse s.certified.certificate anew.terse);

@@ -1,5 +1,5 @@
 -- A set over a pool that grew, and sets that are no lower.
-use Rattle.std.proofs.Common.{◌≡◌, ℕ, zero, suc, ◌*◌, ◌≤◌, List, [], ◌++◌, length, sum_by, sym, subst, ap, ◌∙◌, arith, ℤ, pos, negsuc, neg_ℤ, ◌+ℤ◌, ◌*ℤ◌, ◌≤ℤ◌, Option, Some, None, IfSome, Result, Ok, Err, IfOk, All, append_assoc, length-append, inl, inr}
+use Rattle.std.proofs.Common.{◌≡◌, ℕ, zero, suc, ◌+◌, ◌*◌, ◌≤◌, List, [], ◌++◌, length, sum_by, sym, subst, ap, ◌∙◌, arith, ℤ, pos, negsuc, neg_ℤ, ◌+ℤ◌, ◌*ℤ◌, ◌≤ℤ◌, Option, Some, None, IfSome, Result, Ok, Err, IfOk, All, append_assoc, length-append, inl, inr}
 use Rattle.std.proofs.Math.Nat.{mul-le-mul_left}
 use Rattle.std.proofs.lemmas.Bool.{cases_lt}
 use Rattle.std.proofs.lemmas.Int.{ints}
@@ -129,9 +129,9 @@ pub of_instance : (p : Problem) (start set : Prices) → HasGroupsFrom p start s
 of_instance p start set (inl same) of = subst (All (λ (w : GroupWeight). IsGroup p w.edges)) (sym same) of
 of_instance p start set (inr own) of = own
 
--- a set with the groups of one with few edges in them has few
-pub few_of : (start set : Prices) → start.groups ≡ set.groups → HasShortGroups start → HasShortGroups set
-few_of start set same few = subst (λ (ws : List GroupWeight). sum_by (λ (w : GroupWeight). length w.edges) ws ≤ 1000) same few
+-- a set with the groups of one with short groups has short groups
+pub short_of : (start set : Prices) → start.groups ≡ set.groups → HasShortGroups start → HasShortGroups set
+short_of start set same short = subst (λ (ws : List GroupWeight). sum_by (λ (w : GroupWeight). length w.edges + 6) ws ≤ 5000) same short
 
 pub both_ok : {X E : Type 0} (r : Result X E) (P Q R : X → Type 0) → ((x : X) → P x → Q x → R x) → IfOk r P → IfOk r Q → IfOk r R
 both_ok (Ok x) P Q R all p q = all x p q
