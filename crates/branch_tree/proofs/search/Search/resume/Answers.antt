@@ -40,5 +40,6 @@ returns-clause-resumed c = record {
   sets_are = refl;
   nodes_are = ap (λ (t : Growth). t.nodes) c.in_ok-tree.ensures;
   least_is = refl;
+  base_is = base_is c.args.least c.base_above-base.result c.base_above-base.ensures.unit c.base_above-base.ensures.value;
   done_is = c.turns_for-done.ensures ∙ ap (λ (n : ℕ). turns_in n c.args.nodes.now) c.in_ok-cost.ensures;
 }
