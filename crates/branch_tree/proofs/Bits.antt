@@ -1,5 +1,5 @@
 -- The value of the first set has a place in 128 bits.
-use Rattle.std.proofs.Common.{◌≡◌, ℕ, ◌*◌, ◌≤◌, ◌<◌, List, arith, to_z, of_z, SFits, ℤ, pos, negsuc, ◌≤ℤ◌, ◌<ℤ◌}
+use Rattle.std.proofs.Common.{◌≡◌, ℕ, ◌*◌, ◌≤◌, List, arith, to_z, of_z, SFits, ℤ, pos, negsuc, ◌≤ℤ◌, ◌<ℤ◌}
 use mir.Syntax.{w128}
 use Rattle.std.specs.Prelude.{IsSome}
 use Rattle.std.proofs.Math.Nat.{mul-le-mul}

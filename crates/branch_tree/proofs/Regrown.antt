@@ -15,7 +15,7 @@ use Rattle.branch_rules.specs.Prices.{Prices, value_of}
 use Rattle.branch_rules.specs.Trees.{Tree, pair, cut, price, void, fixed, preorder, HasTurns, IsLean, IsLeanNode, Shows, Support, no_prices, set_at}
 use Rattle.branch_rules.specs.declared.node.Node.{Node}
 use Rattle.branch_rules.specs.declared.node.Node.TheVariants as nodes
-use Rattle.grown_trees.specs.Growth.{AreNoted, AreSound, IsNotedNode, IsSoundNode, IsSpelledNode, NodeReaches, turns_in}
+use Rattle.grown_trees.specs.Growth.{AreNoted, AreSound, Fraction, IsNotedNode, IsSoundNode, IsSpelledNode, NodeReaches, turns_in}
 use Rattle.grown_trees.specs.Laws.{SoundIsTree}
 use Rattle.grown_trees.specs.Places.{IsFineNode}
 use Rattle.grown_trees.specs.Stands.{IsLeanStand, IsShownStand, NodeFits, NodeShows, Stand, stands}
@@ -24,7 +24,8 @@ use Rattle.task_tours.specs.ShortLaws.{ShortPlansCostLittle}
 use Rattle.task_tours.specs.Shorts.{IsAllowedPlan}
 use Rattle.branch_tree.specs.Resumes.{MayResume, support_on}
 use Rattle.branch_tree.specs.Searches.{IsHeld, IsHeldSet}
-use Rattle.branch_tree.specs.Values.{just_above}
+use Rattle.branch_tree.specs.Values.{just_above, millionths}
+use Rattle.branch_tree.specs.declared.search.Base.{Base}
 use Rattle.branch_tree.proofs.Counting.{is_shown}
 use Rattle.branch_tree.proofs.Numbers.{bound_covers, millionths_show, shown_reaches}
 
@@ -213,6 +214,11 @@ module _ (c : Support) (cost : ℕ) (small : cost < 10 ^ 18) where
 
   pub few_noted : (tree : Tree) (es : List GrowingNode) → AreNoted c (stands [] tree) es → length es ≤ 2 * turns_in cost es + 1
   few_noted tree es noted = omega (arith, as_many c (stands [] tree) es noted, few_stands [] tree, inners_count (stands [] tree) es noted)
+
+-- The base of a search that goes on shows just the bound.
+
+pub base_is : (least : ℕ) (base : Base) → base.unit ≡ 1000000 → base.value ≡ millionths least → ◌≡◌ {A = Fraction} (record { unit = base.unit; value = base.value }) (just_above least)
+base_is least base unit value = λ i. record { unit = unit i; value = value i }
 
 -- The nodes of a tree from which a search may go on are sound.
 

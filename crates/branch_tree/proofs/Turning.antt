@@ -222,6 +222,7 @@ module _ (known : Known) (p : Problem) (s : State) (held : IsHeld p s) (place : 
                   cost = refl;
                 };
                 grown = grown;
+                base = refl;
                 more_done =
                     inr
                     (more_done known p (with_pool s pool) then_held place branch then_names.at (split_tree node (length s.sets + 1)) (split_nodes node (length s.sets + 1) c) (set ∷ []) s.plan s.cost

@@ -55,6 +55,7 @@ impl Search {
         let tools = tools_of(alloc, inst)?;
         let done = turns_for(nodes, cost);
         let budget = budget_from(done, turns);
+        let base = base_above(least);
         let room = 2 * budget as usize + 1;
         let tree = GrowingTree::of(alloc, nodes, room)?;
         Ok(Search {
@@ -70,7 +71,7 @@ impl Search {
             done,
             turns: budget,
             least,
-            base: base_above(least),
+            base,
             rounds: FIRST_ROUNDS,
         })
     }

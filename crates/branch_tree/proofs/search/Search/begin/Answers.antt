@@ -53,3 +53,9 @@ pub base_of-base-requires-clause-covered : goal.base_of-base-requires-clause-cov
 base_of-base-requires-clause-covered c =
     let floor = c.in_ok-floor.floor in
     subst (λ (n : ℕ). plain_value c.args.inst.now floor.pool floor.set ≤ℤ pos (floor.set.unit * n)) (sym c.in_ok-cost.ensures) (c.in_ok-floor.ensures.floor.floors.below c.args.best c.requires.allowed.lawful)
+
+pub base_of-base-requires-clause-little : goal.base_of-base-requires-clause-little
+base_of-base-requires-clause-little c =
+    let allowed = c.requires.allowed in
+    let little = c.short_plans_cost_little.ensures c.args.inst.now c.args.best c.in_ok-floor.ensures.floor.valid allowed.lawful allowed.few_steps in
+    omega (arith, little, c.in_ok-cost.ensures)
