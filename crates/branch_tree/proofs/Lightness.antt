@@ -24,30 +24,30 @@ use Rattle.branch_tree.specs.Steps.{HasNewSet, IsAsBefore, IsClosedBy, IsOffered
 
 -- price sets
 
-none_few : (set : Prices) → set.groups ≡ [] → HasShortGroups set
-none_few set none = subst (λ (groups : List GroupWeight). sum_by (λ (w : GroupWeight). length w.edges) groups ≤ 1000) (sym none) (omega arith)
+none_short : (set : Prices) → set.groups ≡ [] → HasShortGroups set
+none_short set none = subst (λ (groups : List GroupWeight). sum_by (λ (w : GroupWeight). length w.edges + 6) groups ≤ 5000) (sym none) (omega arith)
 
-few_at : (sets : List Prices) (number : ℕ) → All HasShortGroups sets → HasShortGroups (set_in sets number)
-few_at sets zero all = omega arith
-few_at sets (suc k) all = elim (cases_lt k (length sets)) [
+short_at : (sets : List Prices) (number : ℕ) → All HasShortGroups sets → HasShortGroups (set_in sets number)
+short_at sets zero all = omega arith
+short_at sets (suc k) all = elim (cases_lt k (length sets)) [
   | inl less ↦ all k no_prices less
   | inr past ↦ subst HasShortGroups (sym (get_or_past sets k no_prices past)) (omega arith)
 ]
 
-same_few : (before after : List Prices) → after ≡ before → All HasShortGroups before → All HasShortGroups after
-same_few before after same all = subst (All HasShortGroups) (sym same) all
+same_groups : (before after : List Prices) → after ≡ before → All HasShortGroups before → All HasShortGroups after
+same_groups before after same all = subst (All HasShortGroups) (sym same) all
 
 one_more : (p : Problem) (before after : State) (branch : List Decision) (old : GrowingNode) → HasNewSet p before after branch old → All HasShortGroups before.sets → All HasShortGroups after.sets
 one_more p before after branch old new all =
-    same_few (before.sets ++ new.set ∷ []) after.sets new.added (All-push HasShortGroups before.sets new.set all (new.short_groups (few_at before.sets new.number all)))
+    same_groups (before.sets ++ new.set ∷ []) after.sets new.added (All-push HasShortGroups before.sets new.set all (new.short_groups (short_at before.sets new.number all)))
 
 by_closing : (p : Problem) (before after : State) (branch : List Decision) (old leaf : GrowingNode) (node : Node) → IsClosedBy p before after branch old leaf node →
     All HasShortGroups before.sets → All HasShortGroups after.sets
 by_closing p before after branch old leaf (nodes.Pair a b) by all = absurd by
 by_closing p before after branch old leaf (nodes.Cut shore k) by all = absurd by
 by_closing p before after branch old leaf (nodes.Price set) by all = one_more p before after branch old by.3 all
-by_closing p before after branch old leaf nodes.Void by all = same_few before.sets after.sets by.1 all
-by_closing p before after branch old leaf nodes.Fixed by all = same_few before.sets after.sets by.1 all
+by_closing p before after branch old leaf nodes.Void by all = same_groups before.sets after.sets by.1 all
+by_closing p before after branch old leaf nodes.Fixed by all = same_groups before.sets after.sets by.1 all
 
 -- nodes
 
@@ -84,17 +84,17 @@ taken_short before after branch old news is all short =
 
 pub at_begin : (p : Problem) (plan : List (List Step)) (s : State) → IsBegun p plan s → IsLight s
 at_begin p plan s is = record {
-  short_groups = same_few (is.set ∷ []) s.sets is.one_set (All-cons HasShortGroups is.set [] (none_few is.set is.no_groups) (All-nil HasShortGroups));
+  short_groups = same_groups (is.set ∷ []) s.sets is.one_set (All-cons HasShortGroups is.set [] (none_short is.set is.no_groups) (All-nil HasShortGroups));
   short = each_short s.nodes (subst (All IsShortCut) (sym is.leaf) (All-cons IsShortCut (nodes.Price 1) [] tt (All-nil IsShortCut)));
 }
 
 pub where_failed : (before after : State) → IsAsBefore before after → IsLight before → IsLight after
 where_failed before after is light =
-    record { short_groups = same_few before.sets after.sets is.sets light.short_groups; short = same_short before.nodes after.nodes is.nodes light.short }
+    record { short_groups = same_groups before.sets after.sets is.sets light.short_groups; short = same_short before.nodes after.nodes is.nodes light.short }
 
 pub at_offer : (p : Problem) (before after : State) (taken : Bool) → IsOffered p before after taken → IsLight before → IsLight after
 at_offer p before after taken is light =
-    record { short_groups = same_few before.sets after.sets is.sets light.short_groups; short = same_short before.nodes after.nodes is.nodes light.short }
+    record { short_groups = same_groups before.sets after.sets is.sets light.short_groups; short = same_short before.nodes after.nodes is.nodes light.short }
 
 pub at_step : (p : Problem) (before after : State) (turn : Turn) → length before.sets ≤ 256 → IsStep p before after turn → IsLight before → IsLight after
 at_step p before after Done most is light = where_failed before after is.does.1 light
@@ -108,7 +108,7 @@ at_step p before after Split most is light =
     let d = is.does in
     record {
       short_groups = elim (cases_eq (length before.sets) 256) [
-        | inl full ↦ same_few before.sets after.sets (d.old_set full).0 light.short_groups
+        | inl full ↦ same_groups before.sets after.sets (d.old_set full).0 light.short_groups
         | inr other ↦
             let below : length before.sets < 256 = omega (arith, most, other) in
             one_more p before after d.branch d.old (d.new_set below).1 light.short_groups
