@@ -20,6 +20,9 @@ module _ (p : Problem) (s : State) (held : IsHeld p s) where
   held_then plan cost allowed cost_is within = record {
     valid = held.valid;
     below = held.below;
+    some_unit = held.some_unit;
+    shown = held.shown;
+    beneath = held.beneath;
     tree = held.tree;
     sound = held.sound;
     sets = held.sets;
@@ -37,6 +40,7 @@ module _ (p : Problem) (s : State) (held : IsHeld p s) where
     sets = refl;
     nodes = refl;
     least = refl;
+    base = refl;
     plan = (short, less);
     done = refl;
     no_fewer = more_turns plan cost (omega (arith, less));

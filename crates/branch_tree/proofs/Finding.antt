@@ -15,8 +15,7 @@ use Rattle.grown_trees.specs.declared.growing.GrowingNode.{GrowingNode}
 use Rattle.task_tours.specs.ShortLaws.{ShortPlansCostLittle}
 use Rattle.branch_tree.specs.Founds.{IsFound}
 use Rattle.branch_tree.specs.Searches.{IsHeld, State, support_in}
-use Rattle.branch_tree.specs.Values.{just_above}
-use Rattle.branch_tree.proofs.Numbers.{bound_within}
+use Rattle.branch_tree.proofs.Numbers.{shown_within}
 
 -- Each node shows no less than the base.
 
@@ -27,12 +26,13 @@ each_enough c base (s ∷ ss) [] sound k d less = absurd sound
 each_enough c base (s ∷ ss) (e ∷ es) sound zero d less = sound.0.enough
 each_enough c base (s ∷ ss) (e ∷ es) sound (suc k) d less = each_enough c base ss es sound.1 k d (omega (arith, less))
 
--- There are no more nodes than a budget of turns can make.
+-- There are no more nodes than there is room for.
 
-pub node_count : (entries : List GrowingNode) (found : List Node) → found ≡ map (λ (entry : GrowingNode). entry.node) entries → (turns : ℕ) → length entries ≤ 2 * turns + 1 → turns ≤ 1048576 → length found ≤ 2097153
-node_count entries found are turns few within =
+pub node_count : (entries : List GrowingNode) (found : List Node) → found ≡ map (λ (entry : GrowingNode). entry.node) entries → (room turns : ℕ) → length entries ≤ room → room ≡ 2 * turns + 1 → turns ≤ 1048576 →
+    length found ≤ 2097153
+node_count entries found are room turns few is within =
     let long : length found ≡ length entries = ap (λ (ns : List Node). length ns) are ∙ length-map entries (λ (entry : GrowingNode). entry.node) in
-    omega (arith, long, few, within)
+    omega (arith, long, few, is, within)
 
 -- What was found.
 
@@ -43,7 +43,7 @@ module _ (law : SoundIsTree) (costs : ShortPlansCostLittle) (p : Problem) (s : S
   small = omega (arith, held.cost_is, costs p s.plan held.valid held.allowed.lawful held.allowed.few_steps)
 
   is_tree : IsSoundTree (support_in p s) held.tree s.nodes
-  is_tree = law (support_in p s) (just_above s.least) held.tree s.nodes held.sound
+  is_tree = law (support_in p s) s.base held.tree s.nodes held.sound
 
   same : found ≡ preorder held.tree
   same = are ∙ sym is_tree.nodes
@@ -74,4 +74,4 @@ module _ (law : SoundIsTree) (costs : ShortPlansCostLittle) (p : Problem) (s : S
   pub no_less : s.least ≤ bound
   no_less =
       greatest s.least (omega (arith, held.cost_is, held.below s.plan held.allowed.lawful))
-      (λ k d less. bound_within s.least (get_or s.nodes k d).shows (each_enough (support_in p s) (just_above s.least) (stands [] held.tree) s.nodes held.sound k d less))
+      (λ k d less. shown_within s.base.unit s.least (get_or s.nodes k d).shows s.base.value held.shown (each_enough (support_in p s) s.base (stands [] held.tree) s.nodes held.sound k d less))

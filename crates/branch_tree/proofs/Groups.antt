@@ -10,7 +10,7 @@ use Rattle.branch_rules.specs.Prices.{Prices}
 use Rattle.branch_rules.specs.Trees.{no_prices}
 use Rattle.decision_chains.specs.declared.decision.Decision.{Decision}
 use Rattle.tight_prices.specs.Tight.{IsTight}
-use Rattle.dual_master.specs.Raising.{HasGroupsFrom, IsNoLower}
+use Rattle.dual_master.specs.Raising.{HasShortGroups, HasGroupsFrom, IsNoLower}
 use Rattle.branch_tree.specs.Leaves.{IsRaisedFrom}
 use Rattle.branch_tree.specs.Searches.{HasGroupsInRange, IsGroupInRange, set_in}
 
@@ -37,12 +37,13 @@ at_number sets (suc k) set from_one to_last is = get_or_read sets k set (omega (
 -- a set that was raised from a set was raised from that of a number
 pub raised_from : {E : Type 0} (p : Problem) (pool : List (List ℕ)) (branch : List Decision) (sets : List Prices) (number : ℕ) (after : List (List ℕ)) (start : Prices)
     (r : Result Prices E) → start ≡ set_in sets number → 1 ≤ start.unit → IfOk r (IsTight p after (length pool) branch) → IfOk r (IsNoLower p branch pool start after) →
-    IfOk r (HasGroupsFrom p start) → IfOk r (λ set. All (λ w. IsShoreOf p after w.shore) set.weights) → IfOk r (IsRaisedFrom p pool branch sets number after)
-raised_from p pool branch sets number after start (Ok set) same unit tight no_lower groups shores = record {
+    IfOk r (HasGroupsFrom p start) → (HasShortGroups start → IfOk r HasShortGroups) → IfOk r (λ set. All (λ w. IsShoreOf p after w.shore) set.weights) → IfOk r (IsRaisedFrom p pool branch sets number after)
+raised_from p pool branch sets number after start (Ok set) same unit tight no_lower groups few shores = record {
   from_unit = subst (λ (s : Prices). 1 ≤ s.unit) same unit;
   tight = tight;
   shores = shores;
   groups = subst (λ (s : Prices). HasGroupsFrom p s set) same groups;
+  short_groups = λ start_few. few (subst HasShortGroups (sym same) start_few);
   no_lower = subst (λ (s : Prices). IsNoLower p branch pool s after set) same no_lower;
 }
-raised_from p pool branch sets number after start (Err e) same unit tight no_lower groups shores = tt
+raised_from p pool branch sets number after start (Err e) same unit tight no_lower groups few shores = tt

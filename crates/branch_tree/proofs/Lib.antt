@@ -10,6 +10,7 @@ mod Standing
 mod Turning
 mod Turns
 mod Regrown
+mod Bits
 mod Root
 mod Finding
 mod Groups
@@ -17,3 +18,6 @@ mod Shortness
 mod Tightness
 mod Cheaper
 mod Holding
+mod Preorders
+mod Reaching
+mod Lightness

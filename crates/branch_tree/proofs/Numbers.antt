@@ -50,6 +50,11 @@ cancel_times u (negsuc v) (negsuc w) some less =
 at_most_through : (u v w : ℤ) → u ≤ℤ v → v ≤ℤ w → u ≤ℤ w
 at_most_through u v w one other = omega (arith, ints, one, other)
 
+pub times_turned : (n : ℕ) (v : ℤ) → (v *ℤ pos n) ≡ (pos n *ℤ v)
+times_turned n (pos v) = omega (arith, ints)
+times_turned zero (negsuc v) = omega (arith, ints)
+times_turned (suc n) (negsuc v) = omega (arith, ints)
+
 -- a value that is no less than one that reaches a base reaches it
 pub reaches_through : (unit from to : ℕ) (base v w : ℤ) → 1 ≤ from → (pos from *ℤ base) ≤ℤ (pos unit *ℤ v) → (pos to *ℤ v) ≤ℤ (pos from *ℤ w) →
     (pos to *ℤ base) ≤ℤ (pos unit *ℤ w)
@@ -77,12 +82,17 @@ one_less unit b = ap (λ (z : ℤ). pos unit *ℤ z) (minus_one b)
 pub shown_0 : (unit : ℕ) (v : ℤ) → 1 ≤ unit → pos 0 ≤ℤ v → IsShown unit v 0
 shown_0 unit v some from_none = omega (arith, ints, neg_times unit 1, some, from_none)
 
--- a value that reaches a bound shows 0
-pub reaches_some : (to least : ℕ) (v : ℤ) → 1 ≤ to → (pos to *ℤ millionths least) ≤ℤ (pos 1000000 *ℤ v) → IsShown to v 0
-reaches_some to zero v some reaches = omega (arith, ints, neg_times to 1, neg_times to 999999, some, reaches)
-reaches_some to (suc b) v some reaches =
-    let more : pos 0 ≤ℤ v = omega (arith, ints, reaches) in
-    shown_0 to v some more
+-- a value that shows a bound shows 0
+pub shown_less : (unit least : ℕ) (v : ℤ) → 1 ≤ unit → IsShown unit v least → IsShown unit v 0
+shown_less unit zero v some shown = shown
+shown_less unit (suc b) v some shown =
+    let more : pos 0 ≤ℤ v = omega (arith, ints, one_less unit b, shown) in
+    shown_0 unit v some more
+
+-- a bound in millionths shows the bound
+pub millionths_show : (least : ℕ) → IsShown 1000000 (millionths least) least
+millionths_show zero = omega (arith, ints)
+millionths_show (suc b) = omega (arith, ints, one_less 1000000 b)
 
 -- a value that shows a bound reaches it
 pub shown_reaches : (to least : ℕ) (v : ℤ) → to ≤ 1000000 → IsShown to v least → (pos to *ℤ millionths least) ≤ℤ (pos 1000000 *ℤ v)
@@ -102,14 +112,10 @@ shown_within unit (suc b) k v shown covers = elim (cases_lt b k) [
       absurd (omega (arith, ints, more, shown, one_less unit b, covers))
 ]
 
--- a bound in millionths is at most as many units, and no fewer
+-- a bound in millionths is at most as many units
 pub bound_covers : (least most : ℕ) → least ≤ most → millionths least ≤ℤ pos (1000000 * most)
 bound_covers zero most within = omega (arith, ints)
 bound_covers (suc b) most within = omega (arith, ints, within)
-
-pub bound_within : (least most : ℕ) → millionths least ≤ℤ pos (1000000 * most) → least ≤ most
-bound_within zero most covers = omega arith
-bound_within (suc b) most covers = omega (arith, ints, covers)
 
 -- what covers a value that reaches a base covers the base
 pub covers_base : (unit to : ℕ) (base v : ℤ) (most : ℕ) → 1 ≤ to → (pos to *ℤ base) ≤ℤ (pos unit *ℤ v) → v ≤ℤ pos (to * most) → base ≤ℤ pos (unit * most)

@@ -24,7 +24,6 @@ use Rattle.branch_tree.specs.Known.{Known}
 use Rattle.branch_tree.specs.Leaves.{IsRaisedFrom, MayStand, NamesSet, with_pool}
 use Rattle.branch_tree.specs.Searches.{HasGroupsInRange, IsHeld, IsHeldSet, State, set_in, support_in}
 use Rattle.branch_tree.proofs.Groups.{kept_in_range}
-use Rattle.branch_tree.specs.Values.{just_above}
 
 pub grown_at : (pool more : List (List ℕ)) (i : ℕ) → IsShoreNumber pool i → shore_at (pool ++ more) i ≡ shore_at pool i
 grown_at pool more zero is = absurd (omega (arith, is.from_one))
@@ -74,8 +73,11 @@ module _ (known : Known) (p : Problem) (s : State) (held : IsHeld p s) where
   more_shores more belong = record {
     valid = held.valid;
     below = held.below;
+    some_unit = held.some_unit;
+    shown = held.shown;
+    beneath = held.beneath;
     tree = held.tree;
-    sound = known.more_shores (support_in p s) (just_above s.least) more [] held.tree s.nodes holds_shores held.sound;
+    sound = known.more_shores (support_in p s) s.base more [] held.tree s.nodes holds_shores held.sound;
     sets = All-weaker (IsHeldSet p s.pool) (IsHeldSet p (s.pool ++ more)) (held_set_grows p s.pool more) s.sets held.sets;
     few_sets = held.few_sets;
     belong = belong;
@@ -158,5 +160,6 @@ may_stand law p valid s number branch after set grown some shores groups raised 
   fits = raised.tight.fits;
   shores = raised.shores;
   groups = kept_in_range p valid (set_in s.sets number) set raised.groups groups;
+  short_groups = raised.short_groups;
   no_lower = no_lower_now law p s number branch after set grown shores raised;
 }

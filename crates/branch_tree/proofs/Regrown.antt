@@ -15,7 +15,7 @@ use Rattle.branch_rules.specs.Prices.{Prices, value_of}
 use Rattle.branch_rules.specs.Trees.{Tree, pair, cut, price, void, fixed, preorder, HasTurns, IsLean, IsLeanNode, Shows, Support, no_prices, set_at}
 use Rattle.branch_rules.specs.declared.node.Node.{Node}
 use Rattle.branch_rules.specs.declared.node.Node.TheVariants as nodes
-use Rattle.grown_trees.specs.Growth.{AreNoted, AreSound, IsNotedNode, IsSoundNode, IsSpelledNode, NodeReaches, turns_in}
+use Rattle.grown_trees.specs.Growth.{AreNoted, AreSound, Fraction, IsNotedNode, IsSoundNode, IsSpelledNode, NodeReaches, turns_in}
 use Rattle.grown_trees.specs.Laws.{SoundIsTree}
 use Rattle.grown_trees.specs.Places.{IsFineNode}
 use Rattle.grown_trees.specs.Stands.{IsLeanStand, IsShownStand, NodeFits, NodeShows, Stand, stands}
@@ -24,9 +24,10 @@ use Rattle.task_tours.specs.ShortLaws.{ShortPlansCostLittle}
 use Rattle.task_tours.specs.Shorts.{IsAllowedPlan}
 use Rattle.branch_tree.specs.Resumes.{MayResume, support_on}
 use Rattle.branch_tree.specs.Searches.{IsHeld, IsHeldSet}
-use Rattle.branch_tree.specs.Values.{just_above}
+use Rattle.branch_tree.specs.Values.{just_above, millionths}
+use Rattle.branch_tree.specs.declared.search.Base.{Base}
 use Rattle.branch_tree.proofs.Counting.{is_shown}
-use Rattle.branch_tree.proofs.Numbers.{bound_covers, shown_reaches}
+use Rattle.branch_tree.proofs.Numbers.{bound_covers, millionths_show, shown_reaches}
 
 join_all : {X : Type 0} (P : X → Type 0) (xs ys : List X) → AllByRecursion P xs → AllByRecursion P ys → AllByRecursion P (xs ++ ys)
 join_all P [] ys first second = second
@@ -214,6 +215,11 @@ module _ (c : Support) (cost : ℕ) (small : cost < 10 ^ 18) where
   pub few_noted : (tree : Tree) (es : List GrowingNode) → AreNoted c (stands [] tree) es → length es ≤ 2 * turns_in cost es + 1
   few_noted tree es noted = omega (arith, as_many c (stands [] tree) es noted, few_stands [] tree, inners_count (stands [] tree) es noted)
 
+-- The base of a search that goes on shows just the bound.
+
+pub base_is : (least : ℕ) (base : Base) → base.unit ≡ 1000000 → base.value ≡ millionths least → ◌≡◌ {A = Fraction} (record { unit = base.unit; value = base.value }) (just_above least)
+base_is least base unit value = λ i. record { unit = unit i; value = value i }
+
 -- The nodes of a tree from which a search may go on are sound.
 
 module _ (p : Problem) (pool : List (List ℕ)) (sets : List Prices) (least : ℕ) (entries : List GrowingNode) (may : MayResume p pool sets least entries) (small : least < 10 ^ 18) where
@@ -239,10 +245,13 @@ module _ (costs : ShortPlansCostLittle) (p : Problem) (valid : IsValid p) (plan 
   in_range = omega (arith, as_many (support_on p pool sets) (stands [] may.tree) entries may.noted, stands_long [] may.tree, may.few_nodes)
 
   pub resumed_held : (cost done : ℕ) → cost ≡ plan_cost p plan → done ≡ turns_in cost entries →
-      IsHeld p (record { pool = pool; sets = sets; nodes = entries; plan = plan; cost = cost; done = done; least = least })
+      IsHeld p (record { pool = pool; sets = sets; nodes = entries; plan = plan; cost = cost; done = done; least = least; base = just_above least })
   resumed_held cost done cost_is done_is = record {
     valid = valid;
     below = may.below;
+    some_unit = omega arith;
+    shown = millionths_show least;
+    beneath = λ other lawful. bound_covers least (plan_cost p other) (may.below other lawful);
     tree = may.tree;
     sound = resumed_sound p pool sets least entries may (omega (arith, small, may.below plan allowed.lawful));
     sets = may.held;

@@ -27,8 +27,7 @@ use Rattle.branch_tree.specs.Searches.{HasGroupsInRange, IsHeld, IsHeldSet, Stat
 use Rattle.branch_tree.specs.Splits.{split_tree}
 use Rattle.grown_trees.specs.Values.{IsMostShown, IsShown}
 use Rattle.branch_tree.specs.declared.children.Children.{Children}
-use Rattle.branch_tree.specs.Values.{just_above}
-use Rattle.branch_tree.proofs.Numbers.{bound_covers, covers_base, reaches_more, reaches_some, reaches_through}
+use Rattle.branch_tree.proofs.Numbers.{at_most_more, covers_base, reaches_more, reaches_through, shown_less, shown_through}
 use Rattle.branch_tree.proofs.Taking.{no_entry, old, small_cost, sound}
 
 set_in_same : (c : Support) (number : ℕ) → set_at c number ≡ set_in c.sets number
@@ -41,12 +40,15 @@ held_set p pool sets (suc k) all from_one to_last = All-get_or (IsHeldSet p pool
 
 module _ (known : Known) (p : Problem) (s : State) (held : IsHeld p s) where
   abbrev base : Fraction
-  base = just_above s.least
+  base = s.base
 
   -- what is above all bounds is no less than the base
   enough_above : (most : ℕ) → s.cost ≤ most → base.value ≤ℤ pos (base.unit * most)
-  enough_above most within =
-      bound_covers s.least most (omega (arith, within, held.cost_is, held.below s.plan held.allowed.lawful))
+  enough_above most within = at_most_more s.base.unit s.base.value (plan_cost p s.plan) most (omega (arith, within, held.cost_is)) (held.beneath s.plan held.allowed.lawful)
+
+  -- the base shows 0
+  base_some : IsShown s.base.unit s.base.value 0
+  base_some = shown_less s.base.unit s.least s.base.value held.some_unit held.shown
 
   -- a price set under some decisions
   module _ (more : List Prices) (branch : List Decision) (pairs : ArePairsIn p branch) (shores : AreShoresIn p s.pool branch) where
@@ -125,7 +127,7 @@ module _ (known : Known) (p : Problem) (s : State) (held : IsHeld p s) where
               λ shows. omega (arith, shows.enough, known.fixed_once p branch shows.value value shows.fixed has_value),
               λ within. record { settled = is; value = value; fixed = has_value; enough = within },
             );
-            enough = bound_covers s.least value (omega (arith, value_is, held.below plan lawful));
+            enough = at_most_more s.base.unit s.base.value (plan_cost p plan) value (omega (arith, value_is)) (held.beneath plan lawful);
           },
           tt,
         )
@@ -244,7 +246,7 @@ module _ (known : Known) (p : Problem) (s : State) (held : IsHeld p s) where
           split_sound [] number named plain from_one (omega (arith, to_last, length-append s.sets [])) some named_fits named_reaches
 
       pub named_some : 1 ≤ named.unit → IsShown named.unit (value_of (rules_of p s.pool branch) named) 0
-      named_some some = reaches_some named.unit s.least (value_of (rules_of p s.pool branch) named) some named_reaches
+      named_some some = shown_through s.base.unit named.unit s.base.value (value_of (rules_of p s.pool branch) named) held.some_unit some base_some named_reaches
 
       no_lower_reaches : (set : Prices) → IsNoLower p branch s.pool named s.pool set → 1 ≤ named.unit → (pos set.unit *ℤ base.value) ≤ℤ (pos base.unit *ℤ value_of (rules_of p s.pool branch) set)
       no_lower_reaches set no_lower some =
@@ -252,7 +254,8 @@ module _ (known : Known) (p : Problem) (s : State) (held : IsHeld p s) where
 
       -- a set that is no lower shows 0
       pub raised_value_some : (set : Prices) → IsNoLower p branch s.pool named s.pool set → 1 ≤ named.unit → 1 ≤ set.unit → IsShown set.unit (value_of (rules_of p s.pool branch) set) 0
-      raised_value_some set no_lower some set_some = reaches_some set.unit s.least (value_of (rules_of p s.pool branch) set) set_some (no_lower_reaches set no_lower some)
+      raised_value_some set no_lower some set_some =
+          shown_through s.base.unit set.unit s.base.value (value_of (rules_of p s.pool branch) set) held.some_unit set_some base_some (no_lower_reaches set no_lower some)
 
       -- a set that may stand there
       module _ (set : Prices) (may : MayStand p s branch number set) where

@@ -21,7 +21,6 @@ use Rattle.branch_tree.specs.Leaves.{IsAtLeaf}
 use Rattle.task_tours.specs.Shorts.{IsAllowedPlan}
 use Rattle.branch_tree.specs.Searches.{IsHeld, IsHeldSet, State, support_in}
 use Rattle.branch_tree.specs.Steps.{IsTaken}
-use Rattle.branch_tree.specs.Values.{just_above}
 use Rattle.branch_tree.proofs.Counting.{nodes_then, turns_rise}
 
 abbrev pub no_entry : GrowingNode
@@ -32,7 +31,7 @@ module _ (known : Known) (p : Problem) (s : State) (held : IsHeld p s) where
   small_cost = omega (arith, held.cost_is, known.costs p s.plan held.valid held.allowed.lawful held.allowed.few_steps)
 
   is_tree : IsSoundTree (support_in p s) held.tree s.nodes
-  is_tree = known.tree (support_in p s) (just_above s.least) held.tree s.nodes held.sound
+  is_tree = known.tree (support_in p s) s.base held.tree s.nodes held.sound
 
   pub all_fine : All (λ (entry : GrowingNode). IsFineNode entry.node) s.nodes
   all_fine = λ k d less.
@@ -51,16 +50,16 @@ module _ (known : Known) (p : Problem) (s : State) (held : IsHeld p s) where
     way = at.way held.tree is_tree.nodes
 
     -- the leaf is sound
-    pub sound : IsSoundNode (support_in p s) (just_above s.least) (record { branch = branch; node = old.node }) old
+    pub sound : IsSoundNode (support_in p s) s.base (record { branch = branch; node = old.node }) old
     sound =
-        subst (λ (b : List Decision). IsSoundNode (support_in p s) (just_above s.least) (record { branch = b; node = (get_or s.nodes place no_entry).node }) (get_or s.nodes place no_entry)) (sym way)
-        (known.place (support_in p s) (just_above s.least) held.tree s.nodes place no_entry held.sound at.least.inside)
+        subst (λ (b : List Decision). IsSoundNode (support_in p s) s.base (record { branch = b; node = (get_or s.nodes place no_entry).node }) (get_or s.nodes place no_entry)) (sym way)
+        (known.place (support_in p s) s.base held.tree s.nodes place no_entry held.sound at.least.inside)
 
     pub below : old.shows < s.cost
     below = at.least.not_shown no_entry
 
     leaf_at : IsLeafAt held.tree place
-    leaf_at = known.leaf (support_in p s) (just_above s.least) held.tree s.nodes place no_entry held.sound at.least.inside (omega (arith, at.least.not_shown no_entry, small_cost))
+    leaf_at = known.leaf (support_in p s) s.base held.tree s.nodes place no_entry held.sound at.least.inside (omega (arith, at.least.not_shown no_entry, small_cost))
 
     node_is : node_at (preorder held.tree) place ≡ old.node
     node_is = ap (λ (ns : List Node). node_at ns place) is_tree.nodes ∙ get_or-map (λ (entry : GrowingNode). entry.node) s.nodes place no_entry nodes.Void at.least.inside
@@ -85,7 +84,7 @@ module _ (known : Known) (p : Problem) (s : State) (held : IsHeld p s) where
       then_nodes = take place s.nodes ++ (news ++ drop (place + 1) s.nodes)
 
       abbrev pub then_is : State
-      then_is = record { pool = s.pool; sets = s.sets ++ more; nodes = then_nodes; plan = plan; cost = cost; done = turns_in cost then_nodes; least = s.least }
+      then_is = record { pool = s.pool; sets = s.sets ++ more; nodes = then_nodes; plan = plan; cost = cost; done = turns_in cost then_nodes; least = s.least; base = s.base }
 
       -- other nodes may stand in place of the leaf, with more price sets, and with a plan that is no dearer
       pub record MayFollow : Type 0 where
@@ -97,7 +96,7 @@ module _ (known : Known) (p : Problem) (s : State) (held : IsHeld p s) where
         pub few_sets : length (s.sets ++ more) ≤ 256
         pub few_news : length news ≤ 3
         pub turn : 1 ≤ turns_in cost news
-        pub sound : AreSound (with_sets (support_in p s) more) (just_above s.least) (stands branch sub) news
+        pub sound : AreSound (with_sets (support_in p s) more) s.base (stands branch sub) news
 
       rises : MayFollow → s.done + 1 ≤ turns_in cost then_nodes
       rises m = omega (arith, turns_rise s.cost s.nodes place no_entry at.least.inside cost news m.no_dearer below, held.done_is, m.turn)
@@ -110,10 +109,13 @@ module _ (known : Known) (p : Problem) (s : State) (held : IsHeld p s) where
           record {
             valid = held.valid;
             below = held.below;
+            some_unit = held.some_unit;
+            shown = held.shown;
+            beneath = held.beneath;
             tree = grown held.tree place sub;
             sound =
-                known.grown (with_sets support more) (just_above s.least) held.tree sub place s.nodes news leaf_at (known.more_sets support (just_above s.least) more [] held.tree s.nodes held.sound)
-                (subst (λ (b : List Decision). AreSound (with_sets support more) (just_above s.least) (stands b sub) news) way m.sound);
+                known.grown (with_sets support more) s.base held.tree sub place s.nodes news leaf_at (known.more_sets support s.base more [] held.tree s.nodes held.sound)
+                (subst (λ (b : List Decision). AreSound (with_sets support more) s.base (stands b sub) news) way m.sound);
             sets = All-append (IsHeldSet p s.pool) s.sets more held.sets m.sets;
             few_sets = m.few_sets;
             belong = held.belong;

@@ -81,6 +81,7 @@ raised_grows law p pool middle after branch sets number set one other raised =
       shores =
           All-weaker (λ (w : Weight). IsShoreOf p middle w.shore) (λ (w : Weight). IsShoreOf p (middle ++ other.more) w.shore) (λ w. shore_of_grown p middle other.more w.shore) set.weights raised.shores;
       groups = raised.groups;
+      short_groups = raised.short_groups;
       no_lower =
           subst (λ (z : ℤ). (pos set.unit *ℤ value_of (rules_of p pool branch) start) ≤ℤ (pos start.unit *ℤ z)) (sym (law p middle other.more branch set inside).value) raised.no_lower;
     })

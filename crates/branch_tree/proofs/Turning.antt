@@ -26,7 +26,6 @@ use Rattle.branch_tree.specs.Searches.{IsHeld, IsHeldSet, State, set_in, support
 use Rattle.task_tours.specs.Shorts.{IsAllowedPlan, IsShortPlan}
 use Rattle.branch_tree.specs.Splits.{split_tree}
 use Rattle.branch_tree.specs.Steps.{HasNewSet, IsClosedBy, IsStep}
-use Rattle.branch_tree.specs.Values.{just_above}
 use Rattle.grown_trees.specs.Values.{IsMostShown}
 use Rattle.branch_tree.specs.declared.children.Children.{Children}
 use Rattle.branch_tree.specs.declared.search.Turn.TheVariants.{Closed, Split}
@@ -52,17 +51,17 @@ pub record Goes (p : Problem) (before after : State) (answer : Turn) : Type 0 wh
 -- a leaf is closed by one that rests on the sets that are held
 module _ (known : Known) (p : Problem) (s : State) (held : IsHeld p s) (place : ℕ) (branch : List Decision) (at : IsAtLeaf s place branch) where
   -- the same with no more sets
-  plain_sets : (sub : Tree) (news : List GrowingNode) → AreSound (support_in p s) (just_above s.least) (stands branch sub) news → AreSound (with_sets (support_in p s) []) (just_above s.least) (stands branch sub) news
+  plain_sets : (sub : Tree) (news : List GrowingNode) → AreSound (support_in p s) s.base (stands branch sub) news → AreSound (with_sets (support_in p s) []) s.base (stands branch sub) news
   plain_sets sub news is =
-      subst (λ (sets : List Prices). AreSound (record { problem = p; pool = s.pool; sets = sets }) (just_above s.least) (stands branch sub) news) (sym (append-nil s.sets)) is
+      subst (λ (sets : List Prices). AreSound (record { problem = p; pool = s.pool; sets = sets }) s.base (stands branch sub) news) (sym (append-nil s.sets)) is
 
-  module _ (sub : Tree) (leaf : GrowingNode) (plan : List (List Step)) (cost : ℕ) (sound : AreSound (support_in p s) (just_above s.least) (stands branch sub) (leaf ∷ [])) (is_leaf : IsLeaf leaf.node)
+  module _ (sub : Tree) (leaf : GrowingNode) (plan : List (List Step)) (cost : ℕ) (sound : AreSound (support_in p s) s.base (stands branch sub) (leaf ∷ [])) (is_leaf : IsLeaf leaf.node)
       (no_dearer : cost ≤ s.cost) (allowed : IsAllowedPlan p plan) (cost_is : cost ≡ plan_cost p plan) (closed : cost ≤ leaf.shows)
       (by : IsClosedBy p s (with_news (record s { plan = plan; cost = cost }) place (leaf ∷ [])) branch (old known p s held place branch at) leaf leaf.node) where
     abbrev closed_state : List Prices → State
     closed_state sets =
         let entries = take place s.nodes ++ ((leaf ∷ []) ++ drop (place + 1) s.nodes) in
-        record { pool = s.pool; sets = sets; nodes = entries; plan = plan; cost = cost; done = turns_in cost entries; least = s.least }
+        record { pool = s.pool; sets = sets; nodes = entries; plan = plan; cost = cost; done = turns_in cost entries; least = s.least; base = s.base }
 
     may_close : MayFollow known p s held place branch at sub (leaf ∷ []) [] plan cost
     may_close = record {
@@ -92,6 +91,7 @@ module _ (known : Known) (p : Problem) (s : State) (held : IsHeld p s) (place : 
           no_dearer = no_dearer;
         };
         grown = same_pool s.pool;
+        base = refl;
         more_done = inr (more_done known p s held place branch at sub (leaf ∷ []) [] plan cost may_close);
       };
     }
@@ -126,6 +126,7 @@ module _ (known : Known) (p : Problem) (s : State) (held : IsHeld p s) (place : 
       tight = subst (λ (xs : List (List ℕ)). IsTight p xs (length s.pool) branch set) (sym pool_is) tight;
       number = number;
       named = names.named no_entry;
+      short_groups = may.short_groups;
       no_lower = subst (λ (xs : List (List ℕ)). IsNoLower p branch xs (set_in s.sets number) xs set) (sym pool_is) may.no_lower;
     }
 
@@ -168,6 +169,7 @@ module _ (known : Known) (p : Problem) (s : State) (held : IsHeld p s) (place : 
             no_dearer = omega arith;
           };
           grown = grown;
+          base = refl;
           more_done = inr (more_done known p (with_pool s pool) then_held place branch then_names.at (price (length s.sets + 1)) (leaf ∷ []) (set ∷ []) s.plan s.cost (may_close_new closed));
         };
       }
@@ -208,6 +210,7 @@ module _ (known : Known) (p : Problem) (s : State) (held : IsHeld p s) (place : 
                   first = record { node = nodes.Price (length s.sets + 1); shows = c.first };
                   second = record { node = nodes.Price (length s.sets + 1); shows = c.second };
                   taken = taken known p s held place branch names.at after (split_nodes node (length s.sets + 1) c) refl;
+                  short = by.node_in.short;
                   not_void = then_names.not_void;
                   not_fixed = then_names.not_fixed;
                   set = length s.sets + 1;
@@ -219,6 +222,7 @@ module _ (known : Known) (p : Problem) (s : State) (held : IsHeld p s) (place : 
                   cost = refl;
                 };
                 grown = grown;
+                base = refl;
                 more_done =
                     inr
                     (more_done known p (with_pool s pool) then_held place branch then_names.at (split_tree node (length s.sets + 1)) (split_nodes node (length s.sets + 1) c) (set ∷ []) s.plan s.cost
@@ -232,7 +236,7 @@ module _ (known : Known) (p : Problem) (s : State) (held : IsHeld p s) (place : 
   abbrev split_state : List Prices → State
   split_state sets =
       let entries = take place s.nodes ++ (split_nodes node number c ++ drop (place + 1) s.nodes) in
-      record { pool = s.pool; sets = sets; nodes = entries; plan = s.plan; cost = s.cost; done = turns_in s.cost entries; least = s.least }
+      record { pool = s.pool; sets = sets; nodes = entries; plan = s.plan; cost = s.cost; done = turns_in s.cost entries; least = s.least; base = s.base }
 
   may_split_old : MayFollow known p s held place branch names.at (split_tree node number) (split_nodes node number c) [] s.plan s.cost
   may_split_old = record {
@@ -260,6 +264,7 @@ module _ (known : Known) (p : Problem) (s : State) (held : IsHeld p s) (place : 
         first = record { node = nodes.Price number; shows = c.first };
         second = record { node = nodes.Price number; shows = c.second };
         taken = taken known p s held place branch names.at (split_state s.sets) (split_nodes node number c) refl;
+        short = by.node_in.short;
         not_void = names.not_void;
         not_fixed = names.not_fixed;
         set = number;
@@ -271,6 +276,7 @@ module _ (known : Known) (p : Problem) (s : State) (held : IsHeld p s) (place : 
         cost = refl;
       };
       grown = same_pool s.pool;
+      base = refl;
       more_done = inr (more_done known p s held place branch names.at (split_tree node number) (split_nodes node number c) [] s.plan s.cost may_split_old);
     };
   }

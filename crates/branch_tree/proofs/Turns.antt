@@ -1,5 +1,5 @@
 -- A search after a step, with what it stands on.
-use Rattle.std.proofs.Common.{◌≡◌, ℕ, ◌+◌, ◌<◌, ◌≤◌, Bool, true, false, List, [], ◌∷◌, length, get_or, refl, sym, subst, ap, ◌∙◌, arith, inl, inr, Result, Ok, Err, IfOk, All}
+use Rattle.std.proofs.Common.{◌≡◌, ℕ, ◌+◌, ◌*◌, ◌<◌, ◌≤◌, Bool, true, false, List, [], ◌∷◌, length, get_or, refl, sym, subst, ap, ◌∙◌, arith, inl, inr, Result, Ok, Err, IfOk, All}
 use Rattle.std.specs.Prelude.{IsErr, OnErr, if◌then◌else◌, nat_lt}
 use Rattle.std.proofs.lemmas.Bool.Decides.{nat_tests}
 use Rattle.std.proofs.lemmas.List.{get_or_default}
@@ -43,6 +43,7 @@ framed_repriced p before after search framed = record {
   table = subst (λ table. IsRoom p table) (sym framed.table) search.table;
   turns = framed.turns;
   least = framed.least;
+  room = framed.room;
   few = framed.few;
 }
 
@@ -53,6 +54,7 @@ framed_then p before middle after one other = record {
   table = subst (λ table. IsRoom p table) (sym other.table) one.table;
   turns = other.turns ∙ one.turns;
   least = other.least ∙ one.least;
+  room = other.room ∙ one.room;
   few = λ before_few. other.few (one.few before_few);
 }
 
@@ -63,6 +65,7 @@ framed_both before middle after one other = record {
   table = other.table ∙ one.table;
   turns = other.turns ∙ one.turns;
   least = other.least ∙ one.least;
+  room = other.room ∙ one.room;
   few = λ before_few. other.few (one.few before_few);
 }
 
@@ -74,6 +77,7 @@ search_on p before after search repriced held = record {
   table = repriced.table;
   some_turns = subst (λ (n : ℕ). 1 ≤ n) (sym repriced.turns) search.some_turns;
   turns_in_range = subst (λ (n : ℕ). n ≤ 1048576) (sym repriced.turns) search.turns_in_range;
+  room = repriced.room ∙ search.room ∙ ap (λ (n : ℕ). 2 * n + 1) (sym repriced.turns);
   few = repriced.few search.few;
   held = held;
 }
@@ -109,17 +113,10 @@ turn_failed p before after r failed search turns least as_before = record {
 }
 
 pub as_before_same : (s : State) → IsAsBefore s s
-as_before_same s = record { grown = same_pool s.pool; sets = refl; nodes = refl; plan = refl; cost = refl; done = refl }
-
--- a step for which there was no memory after other changes of the search that left its state as it was
-pub failed_framed : (p : Problem) (before after : Search) (r : Result Turn Memory) → IsErr r → IsSearch p before → IsFramed before after → state_of after ≡ state_of before → IsTurn p before after r
-failed_framed p before after r failed search framed same =
-    turn_failed p before after r failed
-    (search_on p before after search (framed_repriced p before after search framed) (subst (IsHeld p) (sym same) search.held)) framed.turns framed.least
-    (subst (IsAsBefore (state_of before)) (sym same) (as_before_same (state_of before)))
+as_before_same s = record { grown = same_pool s.pool; sets = refl; nodes = refl; plan = refl; cost = refl; done = refl; base = refl }
 
 pub as_before_with : (s : State) (pool : List (List ℕ)) → IsGrown s.pool pool → IsAsBefore s (with_pool s pool)
-as_before_with s pool grown = record { grown = grown; sets = refl; nodes = refl; plan = refl; cost = refl; done = refl }
+as_before_with s pool grown = record { grown = grown; sets = refl; nodes = refl; plan = refl; cost = refl; done = refl; base = refl }
 
 -- what a leaf is that is neither void nor fixed
 module _ (known : Known) (p : Problem) (s : State) (held : IsHeld p s) (place : ℕ) (branch : List Decision) (at : IsAtLeaf s place branch) (not_void : ¬ (IsVoid p s.pool branch))

@@ -1,5 +1,5 @@
 -- What a search begins with. No public contract speaks of this.
-use Rattle.std.specs.Prelude.{◌≡◌, ℕ, [], ◌∷◌}
+use Rattle.std.specs.Prelude.{◌≡◌, ℕ, ◌+◌, ◌*◌, [], ◌∷◌}
 use Rattle.std.specs.List.{All}
 use Rattle.carp_base.specs.Problem.{Problem, IsValid}
 use Rattle.cut_pool.specs.Shores.{Belongs}
@@ -37,8 +37,8 @@ pub record IsFloor (p : Problem) (floor : Floor) : Type 0 where
   pub held : IsFloorPool p floor.pool floor.set
   pub belong : All (Belongs p) floor.pool
 
--- one leaf that names the first set, with the greatest bound that this set shows
-pub record IsRoot (p : Problem) (floor : Floor) (tree : Growth) : Type 0 where
+-- one leaf that names the first set, with the greatest bound that this set shows, and memory for all nodes that so many turns can make
+pub record IsRoot (p : Problem) (turns : ℕ) (floor : Floor) (tree : Growth) : Type 0 where
   pub shows : ℕ
-  pub leaf : tree ≡ record { nodes = record { node = Price 1; shows = shows } ∷ [] }
+  pub leaf : tree ≡ record { nodes = record { node = Price 1; shows = shows } ∷ []; room = 2 * turns + 1 }
   pub shown : IsMostShown floor.set.unit (plain_value p floor.pool floor.set) shows

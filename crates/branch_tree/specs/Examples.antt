@@ -1,5 +1,5 @@
 -- Small searches of the examples.
-use Rattle.std.specs.Prelude.{ℕ, List, [], ◌∷◌}
+use Rattle.std.specs.Prelude.{ℕ, List, [], ◌∷◌, pos}
 use Rattle.branch_rules.specs.Prices.{Prices}
 use Rattle.branch_rules.specs.declared.node.Node.TheVariants as nodes
 use Rattle.branch_tree.specs.Searches.{State}
@@ -15,6 +15,7 @@ state_with sets shown = record {
   cost = 9;
   done = 3;
   least = 0;
+  base = record { unit = 1; value = pos 0 };
 }
 
 abbrev pub closed_state : State

@@ -1,5 +1,5 @@
 -- The leaf that a step takes, and what is put in its place. No public contract speaks of this.
-use Rattle.std.specs.Prelude.{◌≡◌, ℕ, ◌+◌, ◌-◌, ◌*◌, ◌≤◌, List, [], ◌∷◌, ◌++◌, take, drop, map, length, slice_index_or, if◌then◌else◌, nat_lt, Bool, Result, IfOk, OnErr}
+use Rattle.std.specs.Prelude.{◌≡◌, ℕ, ◌+◌, ◌-◌, ◌≤◌, List, [], ◌∷◌, ◌++◌, take, drop, map, length, slice_index_or, if◌then◌else◌, nat_lt, Bool, Result, IfOk, OnErr}
 use Rattle.std.specs.List.{All}
 use Rattle.carp_base.specs.declared.fail.Memory.{Memory}
 use Rattle.carp_base.specs.Problem.{Problem}
@@ -15,7 +15,7 @@ use Rattle.branch_rules.specs.declared.node.Node.{Node}
 use Rattle.branch_rules.specs.declared.node.Node.TheVariants as nodes
 use Rattle.route_pricing.specs.Tables.{IsRoom}
 use Rattle.tight_prices.specs.Tight.{IsTight}
-use Rattle.dual_master.specs.Raising.{HasGroupsFrom, IsNoLower}
+use Rattle.dual_master.specs.Raising.{HasShortGroups, HasGroupsFrom, IsNoLower}
 use Rattle.grown_trees.specs.Growth.{IsLeastOpen, IsSpelledNode, turns_in}
 use Rattle.grown_trees.specs.Places.{IsFineNode, branch_to}
 use Rattle.grown_trees.specs.declared.growing.GrowingNode.{GrowingNode}
@@ -26,7 +26,7 @@ use Rattle.branch_tree.specs.declared.search.Search.{Search}
 use Rattle.branch_tree.specs.Searches.{HasGroupsInRange, IsSearch, State, set_in, state_of}
 use Rattle.branch_tree.specs.declared.search.Turn.{Turn}
 use Rattle.branch_tree.specs.declared.search.Turn.TheVariants.{Closed, Split}
-use Rattle.branch_tree.specs.Steps.{IsAsBefore, IsOffered, IsStep}
+use Rattle.branch_tree.specs.Steps.{IsAsBefore, IsOffered, IsShortCut, IsStep}
 use Rattle.task_tours.specs.Shorts.{IsShortPlan}
 use Rattle.branch_tree.specs.Splits.{IsInner}
 use Rattle.grown_trees.specs.Values.{IsMostShown}
@@ -50,13 +50,14 @@ pub record NamesSet (p : Problem) (s : State) (place : ℕ) (branch : List Decis
   pub named : (other : GrowingNode) → (slice_index_or s.nodes place other).node ≡ nodes.Price set
 
 -- A price set that may stand at such a leaf: it fits there, its shores are in the pool and belong to the instance, the edges of its groups
--- are in range, and its value, divided by its denominator, is no less than that of the leaf's set.
+-- are in range, and few if those of the leaf's set are, and its value, divided by its denominator, is no less than that of the leaf's set.
 pub record MayStand (p : Problem) (s : State) (branch : List Decision) (number : ℕ) (set : Prices) : Type 0 where
   pub some_unit : 1 ≤ set.unit
   pub from_unit : 1 ≤ (set_in s.sets number).unit
   pub fits : FitsBranch p s.pool branch set
   pub shores : All (λ w. IsShoreOf p s.pool w.shore) set.weights
   pub groups : HasGroupsInRange set
+  pub short_groups : HasShortGroups (set_in s.sets number) → HasShortGroups set
   pub no_lower : IsNoLower p branch s.pool (set_in s.sets number) s.pool set
 
 -- the set of a number may be raised under a branch
@@ -69,12 +70,13 @@ pub record MayBegin (p : Problem) (pool : List (List ℕ)) (branch : List Decisi
   pub groups : HasGroupsInRange (set_in sets number)
 
 -- a set that is tight under a branch, from the set of a number, after shores were added to the pool; its groups are those of that set, or
--- groups of the instance
+-- groups of the instance, and has short groups if that set has
 pub record IsRaisedFrom (p : Problem) (pool : List (List ℕ)) (branch : List Decision) (sets : List Prices) (number : ℕ) (after : List (List ℕ)) (set : Prices) : Type 0 where
   pub from_unit : 1 ≤ (set_in sets number).unit
   pub tight : IsTight p after (length pool) branch set
   pub shores : All (λ w. IsShoreOf p after w.shore) set.weights
   pub groups : HasGroupsFrom p (set_in sets number) set
+  pub short_groups : HasShortGroups (set_in sets number) → HasShortGroups set
   pub no_lower : IsNoLower p branch pool (set_in sets number) after set
 
 -- what a set shows under the decisions of both children of a node
@@ -89,16 +91,18 @@ pub record IsSplitNode (p : Problem) (pool : List (List ℕ)) (branch : List Dec
   pub fine : IsFineNode node
   pub spelled : IsSpelledNode 0 node
   pub lean : IsLeanNode p pool branch (4 - cuts_of branch) node
+  pub short : IsShortCut node
 
--- the instance, the distances, the table, the budget and the bound of the beginning are as before, and the tree has no more nodes than a
--- budget of turns can make, if it had no more before
+-- the instance, the distances, the table, the budget, the bound of the beginning and the room for nodes are as before, and the tree has no
+-- more nodes than that, if it had no more before
 pub record IsFramed (before after : Search) : Type 0 where
   pub net : after.net ≡ before.net
   pub dist : after.dist ≡ before.dist
   pub table : after.table ≡ before.table
   pub turns : after.turns ≡ before.turns
   pub least : after.least ≡ before.least
-  pub few : length before.tree.nodes ≤ 2 * before.turns + 1 → length after.tree.nodes ≤ 2 * after.turns + 1
+  pub room : after.tree.room ≡ before.tree.room
+  pub few : length before.tree.nodes ≤ before.tree.room → length after.tree.nodes ≤ after.tree.room
 
 -- so they are, except the table, which is one for the instance
 pub record IsRepriced (p : Problem) (before after : Search) : Type 0 where
@@ -107,7 +111,8 @@ pub record IsRepriced (p : Problem) (before after : Search) : Type 0 where
   pub table : IsRoom p after.table
   pub turns : after.turns ≡ before.turns
   pub least : after.least ≡ before.least
-  pub few : length before.tree.nodes ≤ 2 * before.turns + 1 → length after.tree.nodes ≤ 2 * after.turns + 1
+  pub room : after.tree.room ≡ before.tree.room
+  pub few : length before.tree.nodes ≤ before.tree.room → length after.tree.nodes ≤ after.tree.room
 
 -- a search with another pool
 abbrev pub with_pool : State → List (List ℕ) → State

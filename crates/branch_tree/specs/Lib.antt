@@ -3,6 +3,7 @@ pub mod Values
 pub mod Searches
 pub mod Splits
 pub mod Leaves
+pub mod Reaching
 pub mod Steps
 pub mod Beginnings
 pub mod Counts

@@ -12,6 +12,7 @@ use Rattle.grown_trees.specs.Growth.{AreNoted, IsSpelledNode, turns_in}
 use Rattle.grown_trees.specs.Stands.{stands}
 use Rattle.grown_trees.specs.declared.growing.GrowingNode.{GrowingNode}
 use Rattle.branch_tree.specs.Searches.{IsHeldSet, State}
+use Rattle.branch_tree.specs.Values.{just_above}
 
 -- what a tree rests on
 abbrev pub support_on : Problem → List (List ℕ) → List Prices → Support
@@ -38,12 +39,13 @@ abbrev pub ResumedTreesHaveTurns : Type 0
 ResumedTreesHaveTurns = (p : Problem) (pool : List (List ℕ)) (sets : List Prices) (least : ℕ) (nodes : List GrowingNode) (may : MayResume p pool sets least nodes) → least < 10 ^ 18 →
     (cost : ℕ) → cost < 10 ^ 18 → HasTurns (support_on p pool sets) [] cost may.tree (turns_in cost nodes)
 
--- a search that goes on from there with a plan: it holds the plan, the shores, the price sets, the nodes and the bound that are given, and
--- its turns so far are those of the nodes for the plan's cost
+-- a search that goes on from there with a plan: it holds the plan, the shores, the price sets, the nodes and the bound that are given, its
+-- base is the bound less 1, and a millionth more, and its turns so far are those of the nodes for the plan's cost
 pub record IsResumed (p : Problem) (plan : List (List Step)) (pool : List (List ℕ)) (sets : List Prices) (least : ℕ) (nodes : List GrowingNode) (s : State) : Type 0 where
   pub best : s.plan ≡ plan
   pub pool_is : s.pool ≡ pool
   pub sets_are : s.sets ≡ sets
   pub nodes_are : s.nodes ≡ nodes
   pub least_is : s.least ≡ least
+  pub base_is : s.base ≡ just_above least
   pub done_is : s.done ≡ turns_in (plan_cost p plan) nodes

@@ -1,5 +1,5 @@
 // Changes of a search, each of them whole.
-ghost use Rattle.std.specs.Prelude.{◌≡◌, ◌<◌, ◌≤◌, ◌+◌, ◌*◌, ◌++◌, ◌∷◌, [], length, take, drop, IfOk, OnOk, OnErr};
+ghost use Rattle.std.specs.Prelude.{◌≡◌, ◌<◌, ◌≤◌, ◌+◌, ◌++◌, ◌∷◌, [], length, take, drop, OnOk, OnErr};
 ghost use Rattle.grown_trees.specs.Growth.{turns_in};
 ghost use Rattle.branch_tree.specs.Leaves.{IsFramed, split_nodes, with_cheaper, with_news, with_set};
 ghost use Rattle.branch_tree.specs.Searches.{state_of};
@@ -10,7 +10,6 @@ use branch_rules::{Node, PriceSet};
 use carp_base::Memory;
 use grown_trees::{GrowingNode, GrowingTree};
 use plan_model::Plan;
-use std::alloc::Global;
 
 impl Search {
     // Puts another leaf in the place of a leaf.
@@ -22,24 +21,15 @@ impl Search {
         self.done = replace_leaf(&mut self.tree, place, leaf, self.cost);
     }
 
-    // Puts an inner node with two price leaves of one set in the place of a leaf. Without memory all stays as it was.
-    pub(crate) fn put_split(
-        &mut self,
-        place: usize,
-        node: Node,
-        set: u32,
-        children: Children,
-    ) -> Result<(), Memory>
+    // Puts an inner node with two price leaves of one set in the place of a leaf.
+    pub(crate) fn put_split(&mut self, place: usize, node: Node, set: u32, children: Children)
         requires place { place < length self.old.tree.nodes }
-        requires few { length self.old.tree.nodes + 2 ≤ 2 * self.old.turns + 1 }
+        requires room { length self.old.tree.nodes + 2 ≤ self.old.tree.room }
         ensures framed { IsFramed self.old self.new }
-        ensures ok { OnOk result (state_of self.new ≡ with_news (state_of self.old) place (split_nodes node set children)) }
-        ensures err { OnErr result (state_of self.new ≡ state_of self.old) }
+        ensures state { state_of self.new ≡ with_news (state_of self.old) place (split_nodes node set children) }
     {
         let cost = self.cost;
-        let turns = split_leaf(self.alloc, &mut self.tree, place, node, set, children, cost)?;
-        self.done = turns;
-        Ok(())
+        self.done = split_leaf(&mut self.tree, place, node, set, children, cost);
     }
 
     // Adds a price set behind the others, and splits a leaf into two that carry it. Without memory all stays as it was.
@@ -51,26 +41,16 @@ impl Search {
         children: Children,
     ) -> Result<(), Memory>
         requires place { place < length self.old.tree.nodes }
-        requires few { length self.old.tree.nodes + 2 ≤ 2 * self.old.turns + 1 }
+        requires room { length self.old.tree.nodes + 2 ≤ self.old.tree.room }
         requires few_sets { length self.old.sets.items < 256 }
         ensures framed { IsFramed self.old self.new }
         ensures ok { OnOk result (state_of self.new ≡ with_news (with_set (state_of self.old) set) place (split_nodes node (length self.old.sets.items + 1) children)) }
         ensures err { OnErr result (state_of self.new ≡ state_of self.old) }
     {
-        self.sets.reserve(1)?;
-        let added = self.sets.len() as u32 + 1;
+        self.sets.push(set)?;
+        let added = self.sets.len() as u32;
         let cost = self.cost;
-        let turns = split_leaf(
-            self.alloc,
-            &mut self.tree,
-            place,
-            node,
-            added,
-            children,
-            cost,
-        )?;
-        self.sets.push(set).unwrap();
-        self.done = turns;
+        self.done = split_leaf(&mut self.tree, place, node, added, children, cost);
         Ok(())
     }
 
@@ -101,6 +81,7 @@ fn replace_leaf(tree: &mut GrowingTree, place: usize, leaf: GrowingNode, cost: u
     requires { place < length tree.old.nodes }
     ensures nodes { tree.new.nodes ≡ take place tree.old.nodes ++ ((leaf ∷ []) ++ drop (place + 1) tree.old.nodes) }
     ensures long { length tree.new.nodes ≡ length tree.old.nodes }
+    ensures room { tree.new.room ≡ tree.old.room }
     ensures turns { result ≡ turns_in cost tree.new.nodes }
 {
     tree.replace(place, leaf);
@@ -108,21 +89,21 @@ fn replace_leaf(tree: &mut GrowingTree, place: usize, leaf: GrowingNode, cost: u
 }
 
 // Puts an inner node with two price leaves of one set in the place of a leaf. It gives the turns of the tree for a
-// cost. Without memory the tree stays as it was.
+// cost.
 fn split_leaf(
-    alloc: Global,
     tree: &mut GrowingTree,
     place: usize,
     node: Node,
     set: u32,
     children: Children,
     cost: u64,
-) -> Result<u64, Memory>
-    requires { place < length tree.old.nodes }
-    ensures nodes { OnOk result (tree.new.nodes ≡ take place tree.old.nodes ++ (split_nodes node set children ++ drop (place + 1) tree.old.nodes)) }
-    ensures long { OnOk result (length tree.new.nodes ≡ length tree.old.nodes + 2) }
-    ensures turns { IfOk result (λ turns. turns ≡ turns_in cost tree.new.nodes) }
-    ensures err { OnErr result (tree.new ≡ tree.old) }
+) -> u64
+    requires place { place < length tree.old.nodes }
+    requires room { length tree.old.nodes + 2 ≤ tree.old.room }
+    ensures nodes { tree.new.nodes ≡ take place tree.old.nodes ++ (split_nodes node set children ++ drop (place + 1) tree.old.nodes) }
+    ensures long { length tree.new.nodes ≡ length tree.old.nodes + 2 }
+    ensures room { tree.new.room ≡ tree.old.room }
+    ensures turns { result ≡ turns_in cost tree.new.nodes }
 {
     let inner = GrowingNode {
         node,
@@ -130,8 +111,8 @@ fn split_leaf(
     };
     let first = price_leaf(set, children.first);
     let second = price_leaf(set, children.second);
-    tree.split(alloc, place, inner, first, second)?;
-    Ok(tree.turns(cost) as u64)
+    tree.split(place, inner, first, second);
+    tree.turns(cost) as u64
 }
 
 // A leaf that names a price set, and the greatest bound that it shows.

@@ -9,12 +9,16 @@ ghost use Rattle.branch_rules.specs.Trees.{IsLeanNode};
 ghost use Rattle.grown_trees.specs.Growth.{IsSpelledNode};
 ghost use Rattle.grown_trees.specs.Places.{IsFineNode};
 ghost use Rattle.branch_tree.specs.Splits.{AreSettledBelow, IsInner, IsOpenPair, IsSettledBelow};
+ghost use Rattle.branch_tree.specs.Steps.{IsShortCut};
 
-use branch_rules::{Branch, MOST_K, Node, is_shore_of};
+use branch_rules::{Branch, Node, is_shore_of};
 use carp_base::{Allowed, Instance, Memory};
 use cut_pool::ShorePool;
 use decision_chains::{excluded_is_symmetric, is_pair, yes_pairs_join};
 use std::alloc::Global;
+
+// The greatest number of a cut that a search takes, so that no line of a certificate is long.
+const MOST_CUT: u64 = 999;
 
 // A node that splits a branch that is neither void nor fixed: the one that is proposed, if it may stand, and else the
 // first pair of edges that is not determined.
@@ -32,6 +36,7 @@ pub(crate) fn choose_split(
     ensures inside { IfOk result (IsNodeIn inst.now pool.now) }
     ensures fine { IfOk result IsFineNode }
     ensures spelled { IfOk result (IsSpelledNode 0) }
+    ensures short { IfOk result IsShortCut }
     ensures lean { IfOk result (IsLeanNode inst.now pool.now branch.now (4 - cuts_of branch.now)) }
 {
     yes_pairs_join();
@@ -55,6 +60,7 @@ fn lean_proposal(
     ensures inside { IfOk result (λ found. IfSome found (IsNodeIn inst.now pool.now)) }
     ensures fine { IfOk result (λ found. IfSome found IsFineNode) }
     ensures spelled { IfOk result (λ found. IfSome found (IsSpelledNode 0)) }
+    ensures short { IfOk result (λ found. IfSome found IsShortCut) }
     ensures lean { IfOk result (λ found. IfSome found (IsLeanNode inst.now pool.now branch.now (4 - cuts_of branch.now))) }
 {
     match proposed {
@@ -76,6 +82,7 @@ fn if_lean(
     ensures inside { IfOk result (λ found. IfSome found (IsNodeIn inst.now pool.now)) }
     ensures fine { IfOk result (λ found. IfSome found IsFineNode) }
     ensures spelled { IfOk result (λ found. IfSome found (IsSpelledNode 0)) }
+    ensures short { IfOk result (λ found. IfSome found IsShortCut) }
     ensures lean { IfOk result (λ found. IfSome found (IsLeanNode inst.now pool.now branch.now (4 - cuts_of branch.now))) }
 {
     if !is_inner_in(inst, pool, &node) {
@@ -91,10 +98,11 @@ fn is_inner_in(inst: &Instance, pool: &ShorePool, node: &Node) -> bool
     ensures inside { IsTrue result → IsNodeIn inst.now pool.now node.now }
     ensures fine { IsTrue result → IsFineNode node.now }
     ensures spelled { IsTrue result → IsSpelledNode 0 node.now }
+    ensures short { IsTrue result → IsShortCut node.now }
 {
     match *node {
         Node::Pair { a, b } => a < b && is_pair(inst, a, b),
-        Node::Cut { shore, k } => k <= MOST_K && is_shore_of(inst, pool, shore),
+        Node::Cut { shore, k } => k <= MOST_CUT && is_shore_of(inst, pool, shore),
         _ => false,
     }
 }

@@ -30,8 +30,10 @@ pub struct Found {
 
 impl Search {
     /// The best plan, the tree, and the greatest bound up to the plan's cost that the tree shows. The bound is the cost
-    /// if each leaf is closed, and no less than what the tree showed at first. The only error is want of memory, and
-    /// then all is dropped.
+    /// if each leaf is closed, and no less than what the tree showed at first. If the search began anew, the set of each
+    /// price leaf is worth at least each floor, never rounded
+    /// ([`searches_reach_floors`](crate::searches_reach_floors)). The only error is want of memory, and then all is
+    /// dropped.
     ///
     /// It takes time in proportion to the number of nodes.
     pub fn finish(self, alloc: Global, inst: &Instance) -> Result<Found, Memory>

@@ -14,8 +14,8 @@
 //!   taken, what both children show, and steps at a leaf that is neither void nor fixed.
 //! - `offering`: plans that the programs of leaves show.
 //! - `changing`: changes of a search, each of them whole.
-//! - `values`: what price sets show under a branch. `laws`: the laws that a search stands on, and how many price sets
-//!   it holds.
+//! - `values`: what price sets show under a branch. `laws`: the laws that a search stands on, what it holds, and what
+//!   its price leaves are worth.
 #![tactic(auto)]
 
 mod beginning;
@@ -36,6 +36,6 @@ mod stepping;
 mod values;
 
 pub use finishing::Found;
-pub use laws::searches_hold_few_sets;
+pub use laws::{searches_hold_few_sets, searches_reach_floors, searches_stay_light};
 pub use resuming::resumed_trees_have_turns;
 pub use search::{Search, Turn};

@@ -4,10 +4,11 @@ ghost use Rattle.task_tours.specs.Shorts.{IsAllowedPlan};
 ghost use Rattle.grown_trees.specs.Growth.{turns_in};
 ghost use Rattle.branch_tree.specs.Resumes.{IsResumed, MayResume, ResumedTreesHaveTurns};
 ghost use Rattle.branch_tree.specs.Searches.{IsSearch, state_of};
+ghost use Rattle.branch_tree.specs.Values.{millionths};
 
 use crate::beginning::{allowed_cost, tools_of};
 use crate::raising::FIRST_ROUNDS;
-use crate::search::Search;
+use crate::search::{Base, Search};
 use branch_rules::PriceSet;
 use carp_base::{Instance, Memory};
 use cut_pool::ShorePool;
@@ -25,10 +26,11 @@ impl Search {
     ///
     /// The plan is lawful and has at most 100,000 tours and 2,000,000 steps. The tree may be another's: its price
     /// leaves may lie below the floors, and it may have all nodes, price sets and shores that a certificate can spell.
-    /// It shows the bound `least` then and at each moment.
+    /// It shows the bound `least` then and at each moment. Memory for all nodes that the budget can make, twice its turns
+    /// and one more, is taken here, so that no later step is refused one.
     ///
     /// The only error is want of memory. It takes the time of least paths between all pairs of vertices, and in
-    /// proportion to the number of nodes.
+    /// proportion to the number of nodes and to the budget.
     pub fn resume(
         alloc: Global,
         inst: &Instance,
@@ -53,7 +55,9 @@ impl Search {
         let tools = tools_of(alloc, inst)?;
         let done = turns_for(nodes, cost);
         let budget = budget_from(done, turns);
-        let tree = GrowingTree::of(alloc, nodes)?;
+        let base = base_above(least);
+        let room = 2 * budget as usize + 1;
+        let tree = GrowingTree::of(alloc, nodes, room)?;
         Ok(Search {
             alloc,
             net: tools.net,
@@ -67,8 +71,20 @@ impl Search {
             done,
             turns: budget,
             least,
+            base,
             rounds: FIRST_ROUNDS,
         })
+    }
+}
+
+// A bound less 1, and a millionth more.
+fn base_above(least: u64) -> Base
+    ensures unit { result.unit ≡ 1000000 }
+    ensures value { result.value ≡ millionths least }
+{
+    Base {
+        unit: 1_000_000,
+        value: 1_000_000 * i128::from(least) - 999_999,
     }
 }
 

@@ -13,7 +13,9 @@ use std::alloc::Global;
 ///
 /// Each leaf of the tree is a void or a fixed branch, or names a price set that fits under its decisions. A leaf is
 /// closed if it shows the best plan's cost by itself. `least` is a bound that the tree showed when the search began,
-/// and shows at each moment. Contracts see what `state_of` reads.
+/// and shows at each moment. `base` is a fraction that shows it, and that each price leaf reaches at each moment: the
+/// value of its set under its decisions, divided by the set's denominator, is no less. Contracts see what `state_of`
+/// reads.
 #[derive(Drop)]
 pub struct Search {
     pub(crate) alloc: Global,
@@ -28,8 +30,16 @@ pub struct Search {
     pub(crate) done: u64,
     pub(crate) turns: u64,
     pub(crate) least: u64,
+    pub(crate) base: Base,
     // The rounds for the next leaf that is raised.
     pub(crate) rounds: u32,
+}
+
+// A value in parts of a unit.
+#[derive(Clone, Copy, Debug, PartialEq, Eq)]
+pub(crate) struct Base {
+    pub(crate) unit: u64,
+    pub(crate) value: i128,
 }
 
 /// What a step did.

@@ -156,7 +156,7 @@ impl Search {
     {
         known_laws();
         let halves = choose_halves_of(self.alloc, inst, &self.pool, branch, &self.sets, number)?;
-        self.put_split(place, halves.node, number, halves.children)?;
+        self.put_split(place, halves.node, number, halves.children);
         Ok(Turn::Split)
     }
 }

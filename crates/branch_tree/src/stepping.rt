@@ -54,7 +54,9 @@ impl Search {
     ///   first pair of required edges that is not determined. Both new leaves name the set.
     /// - If the search has 256 price sets, both new leaves name the set of the leaf.
     ///
-    /// A short best plan stays short.
+    /// A short best plan stays short. If the search began anew, the set of each price leaf stays worth at least each
+    /// floor: its value under the leaf's decisions, divided by its denominator and never rounded
+    /// ([`searches_reach_floors`](crate::searches_reach_floors)).
     ///
     /// It is what [`step_with`](Search::step_with) does with no advisers. The turns of the search are below its budget.
     /// The only error is want of memory. Then the tree, the price sets and the best plan are as before.
@@ -84,7 +86,8 @@ impl Search {
 
     /// The same with advisers. They are asked for prices of a leaf that is neither void nor fixed
     /// (`dual_master::raise_with`), and then for a node to split it by: the first one that is offered is taken if it may
-    /// stand there. Who the advisers are is no matter to what a step promises.
+    /// stand there, and if it is no cut of a number above 999. Who the advisers are is no matter to what a step
+    /// promises.
     ///
     /// The only error is want of memory. Then the tree, the price sets and the best plan are as before, and shores may
     /// have been added. It takes the time of `raise_with`, of the advisers and, with n nodes, m required edges and d

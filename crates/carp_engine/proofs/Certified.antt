@@ -134,9 +134,9 @@ module _ (p : Problem) (f : Findings) (floored : IsFloored p f.bound) where
 
   pub above_floors : IsAboveFloors p f.bound
   above_floors = record {
-    shell = λ level k levels far. reached _ (floored.floors.shell level k levels far);
-    ratio = λ deadhead load ratio. reached_by_parts floored.base.value floored.base.unit (required_cost p * load + total_demand p * deadhead) f.bound load floored.floors.some_unit floored.above (floored.floors.ratio deadhead load ratio);
-    join = λ value least. reached _ (floored.floors.join value least);
+    shell = λ level k levels far. reached _ (floored.floors.floors.shell level k levels far);
+    ratio = λ deadhead load ratio. reached_by_parts floored.base.value floored.base.unit (required_cost p * load + total_demand p * deadhead) f.bound load floored.floors.some_unit floored.above (floored.floors.floors.ratio deadhead load ratio);
+    join = λ value least. reached _ (floored.floors.floors.join value least);
   }
 
 -- so is a greater bound

@@ -8,10 +8,11 @@ use Rattle.branch_tree.specs.Founds.{support_found}
 use Rattle.task_tours.specs.Shorts.{IsShortPlan}
 use Rattle.cert_lines.specs.Certificates.{Certificate}
 use Rattle.branch_tree.specs.Values.{IsFloored}
-use Rattle.carp_engine.specs.Certifying.{IsSearched, IsSearchedAnew, certificate_by}
+use Rattle.carp_engine.specs.Certifying.{IsSearched, IsSearchedAnew, IsTerse, certificate_by}
 use Rattle.carp_engine.specs.Solutions.{IsAtMostSingles, IsSound}
 use Rattle.carp_engine.specs.Known.{Known}
 use Rattle.carp_engine.proofs.Certified.{above_floors, bounds, floored_more, is_fine, is_good, reached}
+use Rattle.carp_engine.proofs.Terse.{short_text}
 
 module _ (laws : Known) (p : Problem) (budget : ℕ) (plan : List (List Step)) (short : IsShortPlan p plan) (cheap : IsAtMostSingles p (plan_cost p plan)) (c : Certificate) (turns : ℕ)
     (anew : IsSearchedAnew p budget plan c turns) where
@@ -35,9 +36,10 @@ module _ (laws : Known) (p : Problem) (budget : ℕ) (plan : List (List Step)) (
     no_dearer = cheaper;
     not_above = s.is_found.at_most;
     greatest = λ other most shows. s.is_found.greatest other most shows;
-    services = reached p s.found floored (required_cost p) floored.floors.services;
+    services = reached p s.found floored (required_cost p) floored.floors.floors.services;
     floors = above_floors p s.found floored;
     turns_are = s.is_found.turns_are;
+    small = short_text laws p s.found turns s.is_found s.certified.limits (s.short short) (subst IsTerse s.certified.certificate anew.terse);
   }
 
   pub sound : IsSound p c turns

@@ -8,6 +8,8 @@ use Rattle.cut_pool.specs.Pools.{AreDifferent}
 use Rattle.cut_pool.specs.Shores.{IsShore}
 use Rattle.branch_rules.specs.Limits.{IsPriceSet}
 use Rattle.branch_rules.specs.Prices.{Prices}
+use Rattle.dual_master.specs.Raising.{HasShortGroups}
+use Rattle.branch_tree.specs.Steps.{IsShortCut}
 use Rattle.branch_tree.specs.Founds.{Findings, IsFound}
 use Rattle.branch_tree.specs.Values.{IsFloored}
 use Rattle.task_tours.specs.Shorts.{IsShortPlan}
@@ -37,6 +39,11 @@ pub record IsCertified (p : Problem) (f : Findings) (c : Certificate) : Type 0 w
   pub limits : AreWithinLimits f.pool f.sets
   pub certificate : c ≡ certificate_by p f
 
+-- the groups of each price set are short, and the number of each cut is small
+pub record IsTerse (c : Certificate) : Type 0 where
+  pub short_groups : All HasShortGroups c.sets
+  pub short_cuts : All IsShortCut c.nodes
+
 -- what a search from a plan and a bound on found, and its certificate: the plan costs no more and is short if the first one was, the bound is
 -- no lower, and it is below the cost only if the turns are at least the budget
 pub record IsSearched (p : Problem) (least budget : ℕ) (plan : List (List Step)) (c : Certificate) (turns : ℕ) : Type 0 where
@@ -48,8 +55,9 @@ pub record IsSearched (p : Problem) (least budget : ℕ) (plan : List (List Step
   pub no_lower : least ≤ found.bound
   pub ended : (found.bound ≡ plan_cost p found.plan) ⊎ (budget ≤ turns)
 
--- the same of a search that began with the floors
+-- the same of a search that began with the floors, whose certificate is terse
 pub record IsSearchedAnew (p : Problem) (budget : ℕ) (plan : List (List Step)) (c : Certificate) (turns : ℕ) : Type 0 where
   pub least : ℕ
   pub floored : IsFloored p least
   pub searched : IsSearched p least budget plan c turns
+  pub terse : IsTerse c

@@ -2,6 +2,7 @@
 use Rattle.branch_rules.specs.Laws.{LeanIsSmall, TreeBounds}
 use Rattle.branch_tree.specs.Resumes.{ResumedTreesHaveTurns}
 use Rattle.cert_format.specs.Good.{CountsAreInRange, GoodIsProof, PlansAreOnEdges}
+use Rattle.cert_lines.specs.Lengths.{LightTextsAreShort}
 use Rattle.cert_lines.specs.Laws.{FineIsSpellable, ShoreIsFine, SpellableIsFine}
 use Rattle.decision_chains.specs.PlanLaws.{FixedValueIsUnique}
 use Rattle.task_tours.specs.ShortLaws.{ShortPlansAreAllowed, ShortPlansCostLittle}
@@ -21,3 +22,4 @@ pub record Known : Type 0 where
   pub once : FixedValueIsUnique
   pub named : NamedSetsSuffice
   pub turns : ResumedTreesHaveTurns
+  pub texts : LightTextsAreShort

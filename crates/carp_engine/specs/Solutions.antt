@@ -1,5 +1,5 @@
 -- What a certificate that was found shows of its instance.
-use Rattle.std.specs.Prelude.{◌≡◌, ℕ, ◌+◌, ◌*◌, ◌≤◌, Bool, List, [], Some}
+use Rattle.std.specs.Prelude.{◌≡◌, ℕ, ◌+◌, ◌*◌, ◌≤◌, Bool, List, [], length, Some}
 use Rattle.carp_base.specs.Problem.{Problem, required_cost, total_demand}
 use Rattle.deadhead_paths.specs.Singles.{AreLeastTours}
 use Rattle.plan_model.specs.Plans.{IsLawful, plan_cost}
@@ -10,7 +10,7 @@ use Rattle.matching_duals.specs.Joins.{IsLeastJoin}
 use Rattle.dual_master.specs.Floors.{IsLeastCostRatio}
 use Rattle.branch_rules.specs.Trees.{HasTurns, Shows}
 use Rattle.cert_lines.specs.Certificates.{Certificate}
-use Rattle.cert_lines.specs.Spelling.{IsSpellable}
+use Rattle.cert_lines.specs.Spelling.{IsSpellable, text_of}
 use Rattle.cert_format.specs.Good.{IsGood, counts_in, support_of}
 use Rattle.task_tours.specs.Shorts.{IsShortPlan}
 
@@ -30,7 +30,8 @@ pub record IsAboveFloors (p : Problem) (bound : ℕ) : Type 0 where
 
 -- A good certificate that can be spelled, with the numbers of the instance: its plan is lawful and costs what is stated, and no lawful
 -- plan costs less than its bound. The plan is short and costs no more than single tours. The bound is the greatest up to the cost
--- that the tree shows, and at least what serving each required edge costs and each floor; the turns are those of the tree.
+-- that the tree shows, and at least what serving each required edge costs and each floor; the turns are those of the tree. Its text has at most 64,000,000
+-- bytes.
 pub record IsSound (p : Problem) (c : Certificate) (turns : ℕ) : Type 0 where
   pub good : IsGood p c
   pub bounds : IsLowerBound p c.bound
@@ -43,3 +44,4 @@ pub record IsSound (p : Problem) (c : Certificate) (turns : ℕ) : Type 0 where
   pub services : required_cost p ≤ c.bound
   pub floors : IsAboveFloors p c.bound
   pub turns_are : HasTurns (support_of p c) [] c.cost good.tree turns
+  pub small : length (text_of c) ≤ 64000000

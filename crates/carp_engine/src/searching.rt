@@ -3,17 +3,18 @@ ghost use Rattle.std.specs.Prelude.{◌≡◌, ◌⊎◌, ◌+◌, ◌<◌, ◌�
 ghost use Rattle.plan_model.specs.Plans.{plan_cost};
 ghost use Rattle.task_tours.specs.Shorts.{IsAllowedPlan, IsShortPlan};
 ghost use Rattle.grown_trees.specs.Growth.{turns_in};
+ghost use Rattle.branch_tree.specs.Counts.{IsLight};
 ghost use Rattle.branch_tree.specs.Resumes.{MayResume};
 ghost use Rattle.branch_tree.specs.Searches.{IsSearch, state_of};
 ghost use Rattle.branch_tree.specs.Steps.{AreClosed};
 ghost use Rattle.cert_format.specs.Certs.{certificate_in};
-ghost use Rattle.carp_engine.specs.Certifying.{IsSearched, IsSearchedAnew};
+ghost use Rattle.carp_engine.specs.Certifying.{IsSearched, IsSearchedAnew, IsTerse};
 ghost use Rattle.carp_engine.specs.Turns.{HasTurned};
 
 use crate::Solved;
 use crate::certifying::certify;
 use branch_rules::PriceSet;
-use branch_tree::{Search, Turn};
+use branch_tree::{Search, Turn, searches_stay_light};
 use carp_base::{Instance, Memory};
 use cut_pool::ShorePool;
 use grown_trees::GrowingNode;
@@ -36,6 +37,7 @@ pub(crate) fn search<A: Adviser, W: Watch>(
     requires allowed { IsAllowedPlan inst.now plan }
     ensures { IfOk result (λ solved. IsSearchedAnew inst.now turns plan (certificate_in solved.cert) solved.turns) }
 {
+    searches_stay_light();
     let search = Search::begin(alloc, inst, turns, plan)?;
     go_on(alloc, inst, search, advisers, watch)
 }
@@ -73,7 +75,8 @@ fn go_on<A: Adviser, W: Watch>(
     watch: &mut W,
 ) -> Result<Solved, Memory>
     requires { IsSearch inst.now search }
-    ensures { IfOk result (λ solved. IsSearched inst.now search.least search.turns search.best (certificate_in solved.cert) solved.turns) }
+    ensures searched { IfOk result (λ solved. IsSearched inst.now search.least search.turns search.best (certificate_in solved.cert) solved.turns) }
+    ensures terse { IsLight (state_of search) → IfOk result (λ solved. IsTerse (certificate_in solved.cert)) }
 {
     restart(alloc, advisers);
     let turns = search.budget();
@@ -91,7 +94,8 @@ fn sum_up(
 ) -> Result<Solved, Memory>
     requires search { IsSearch inst.now search }
     requires ended { OnOk taken (AreClosed (state_of search) ⊎ (search.turns ≤ search.done)) }
-    ensures { IfOk result (λ solved. IsSearched inst.now search.least search.turns search.best (certificate_in solved.cert) solved.turns) }
+    ensures searched { IfOk result (λ solved. IsSearched inst.now search.least search.turns search.best (certificate_in solved.cert) solved.turns) }
+    ensures terse { IsLight (state_of search) → IfOk result (λ solved. IsTerse (certificate_in solved.cert)) }
 {
     let done = search.done();
     let found = search.finish(alloc, inst)?;
@@ -135,6 +139,7 @@ fn take_turns<A: Adviser, W: Watch>(
     ensures no_dearer { search.new.cost ≤ search.old.cost }
     ensures short { IsShortPlan inst.now search.old.best → IsShortPlan inst.now search.new.best }
     ensures least { search.new.least ≡ search.old.least }
+    ensures light { IsLight (state_of search.old) → IsLight (state_of search.new) }
     ensures ended { OnOk result (AreClosed (state_of search.new) ⊎ (turns ≤ search.new.done)) }
 {
     tell(search, watch);
@@ -161,8 +166,10 @@ fn take_turn<A: Adviser>(
     ensures no_dearer { search.new.cost ≤ search.old.cost }
     ensures short { IsShortPlan inst.now search.old.best → IsShortPlan inst.now search.new.best }
     ensures least { search.new.least ≡ search.old.least }
+    ensures light { IsLight (state_of search.old) → IsLight (state_of search.new) }
     ensures turn { IfOk result (HasTurned (state_of search.old) (state_of search.new)) }
 {
+    searches_stay_light();
     let turn = search.step_with(inst, advisers)?;
     match turn {
         Turn::Done => Ok(Turn::Done),

@@ -43,6 +43,9 @@ pub struct Solved {
 /// `2^(m (m - 1) / 2 + 5)` is never spent. A budget can be so large if m is at most 6. No advisers are asked
 /// ([`solve_with`]).
 ///
+/// The text of the certificate has at most 64,000,000 bytes: the plan has no more tours than there are required edges,
+/// and the search takes no price set with long groups and no cut with a great number.
+///
 /// Beside what the helpers take, it takes time in proportion to n (n + m) log n with n vertices and m edges, that of
 /// the floors (`dual_master::floors`), and that of the turns.
 ///

@@ -1,10 +1,10 @@
 -- The text of a light certificate: its groups by their edges, and its nodes along their tree.
-use Rattle.std.proofs.Common.{◌≡◌, ℕ, ◌+◌, ◌*◌, ◌≤◌, List, [], ◌∷◌, ◌++◌, map, length, sym, ap, subst, ◌∙◌, append_assoc, length-append, arith, lit<}
+use Rattle.std.proofs.Common.{◌≡◌, ℕ, ◌+◌, ◌*◌, ◌≤◌, List, [], ◌∷◌, ◌++◌, map, length, refl, sym, ap, subst, ◌∙◌, append_assoc, length-append, arith, lit<}
 use Rattle.std.specs.List.{All, AllByRecursion, sum_by}
 use Rattle.std.proofs.lemmas.List.{map-append}
 use Rattle.std.proofs.lemmas.List.Elements.{recursion_from_All}
+use Rattle.std.proofs.lemmas.List.Sums.{sum_by-cons}
 use Rattle.branch_rules.specs.Bonds.{GroupWeight}
-use Rattle.branch_rules.specs.Limits.{IsFineGroup}
 use Rattle.branch_rules.specs.Prices.{Prices}
 use Rattle.branch_rules.specs.Trees.{Tree, pair, cut, price, void, fixed, preorder}
 use Rattle.branch_rules.specs.declared.node.Node.{Node}
@@ -15,32 +15,34 @@ use Rattle.cert_lines.specs.Order.{children}
 use Rattle.cert_lines.specs.Certificates.{Certificate}
 use Rattle.cert_lines.specs.Spelling.{text_of, IsFineSet, IsFineNode}
 use Rattle.cert_lines.proofs.FineNodes.{front_all, back_all}
-use Rattle.cert_lines.proofs.Lengths.{edges_in, edges_are, groups_room, fine_within, head_within}
+use Rattle.cert_lines.proofs.Lengths.{edges_in, groups_room, fine_within, head_within}
 use Rattle.cert_lines.proofs.Rooms.{numeral_within, room, lines_room}
 
 -- Groups.
 
--- a group has at least two edges, so it takes at most 15 bytes for each
-groups_by_edges : (groups : List GroupWeight) → AllByRecursion IsFineGroup groups → 22 * length groups + 4 * edges_in groups ≤ 15 * edges_in groups
-groups_by_edges [] fine = omega arith
-groups_by_edges (w ∷ groups) fine = omega (arith, fine.0.two, groups_by_edges groups fine.1)
+longer_are : (groups : List GroupWeight) → sum_by (λ (w : GroupWeight). length w.edges + 6) groups ≡ edges_in groups + 6 * length groups
+longer_are [] = refl
+longer_are (w ∷ groups) = omega (arith, sum_by-cons (λ (w : GroupWeight). length w.edges + 6) w groups, longer_are groups)
+
+-- a group takes at most four bytes for each edge, and less than for six more
+groups_by_edges : (groups : List GroupWeight) → 22 * length groups + 4 * edges_in groups ≤ 4 * sum_by (λ (w : GroupWeight). length w.edges + 6) groups
+groups_by_edges groups = omega (arith, longer_are groups)
 
 groups_few : (all : List Prices) (pool : List (List ℕ)) → AllByRecursion (IsFineSet pool) all →
-    AllByRecursion (λ set. sum_by (λ (w : GroupWeight). length w.edges) set.groups ≤ 1000) all → groups_room all ≤ 15000 * length all
+    AllByRecursion (λ set. sum_by (λ (w : GroupWeight). length w.edges + 6) set.groups ≤ 5000) all → groups_room all ≤ 20000 * length all
 groups_few [] pool fine few = omega arith
 groups_few (set ∷ all) pool fine few =
     omega (
       arith,
       few.0,
-      edges_are set.groups,
-      groups_by_edges set.groups (recursion_from_All IsFineGroup set.groups fine.0.prices.groups),
+      groups_by_edges set.groups,
       groups_few all pool fine.1 few.1,
     )
 
 -- Nodes.
 
--- a leaf takes at most 10 bytes, and a node with two children at most 14
-node_short : (borders units : ℕ) (x : Node) → borders ≤ 2000 → units ≤ 256 → IsFineNode borders units x → IsShortCut x → room (words_of (node x)) ≤ 10 + 2 * children x
+-- a leaf takes at most 10 bytes, and a node with two children at most 13
+node_short : (borders units : ℕ) (x : Node) → borders ≤ 2000 → units ≤ 256 → IsFineNode borders units x → IsShortCut x → 2 * room (words_of (node x)) ≤ 20 + 3 * children x
 node_short borders units (Pair a b) few some fine short =
     omega (
       arith,
@@ -51,7 +53,7 @@ node_short borders units (Cut border k) few some fine short =
     omega (
       arith,
       numeral_within 4 border (lit< tt) (omega (arith, few, fine.0.to_last)) (omega (arith, few, fine.0.to_last)),
-      numeral_within 4 k (lit< tt) (omega (arith, short)) (omega (arith, short)),
+      numeral_within 3 k (lit< tt) (omega (arith, short)) (omega (arith, short)),
     )
 node_short borders units (Price set) few some fine short =
     omega (arith, numeral_within 3 set (lit< tt) (omega (arith, some, fine.to_last)) (omega (arith, some, fine.to_last)))
@@ -63,11 +65,11 @@ record IsSmall (borders units : ℕ) (x : Node) : Type 0 where
   fine : IsFineNode borders units x
   short : IsShortCut x
 
--- a tree has one leaf more than inner nodes, so that its nodes take at most 12 bytes each, less 2
+-- a tree has one leaf more than inner nodes, so that two of its nodes take at most 23 bytes, less 3
 abbrev FitsTree : List Node → List Line → Type 0
-FitsTree all rest = lines_room (map node all ++ rest) + 2 ≤ 12 * length all + lines_room rest
+FitsTree all rest = 2 * lines_room (map node all ++ rest) + 3 ≤ 23 * length all + 2 * lines_room rest
 
-inner_fits : (x : Node) (one two : List Node) (rest : List Line) → room (words_of (node x)) ≤ 14 → FitsTree one (map node two ++ rest) → FitsTree two rest →
+inner_fits : (x : Node) (one two : List Node) (rest : List Line) → 2 * room (words_of (node x)) ≤ 26 → FitsTree one (map node two ++ rest) → FitsTree two rest →
     FitsTree (x ∷ (one ++ two)) rest
 inner_fits x one two rest short first second =
     let joined : map node one ++ (map node two ++ rest) ≡ map node (one ++ two) ++ rest =
@@ -108,7 +110,7 @@ light_short c light =
       fine.few_nodes,
       fine_within c fine,
       groups_few c.sets c.shores (recursion_from_All (IsFineSet c.shores) c.sets fine.sets_fine)
-          (recursion_from_All (λ (set : Prices). sum_by (λ (w : GroupWeight). length w.edges) set.groups ≤ 1000) c.sets light.few_edges),
+          (recursion_from_All (λ (set : Prices). sum_by (λ (w : GroupWeight). length w.edges + 6) set.groups ≤ 5000) c.sets light.short_groups),
       head_within c fine,
       nodes_fit c light,
     )

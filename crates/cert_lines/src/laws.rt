@@ -104,7 +104,8 @@ pub fn texts_are_short()
 {}
 
 /// The text of a light certificate has at most 64,000,000 bytes. A certificate is light if its plan has at most 600
-/// tours, the groups of each price set have at most 1,000 edges together, and no cut is at a number above 9,999.
+/// tours, the edges of the groups of each price set, and six for each group, are at most 5,000 together, and no cut
+/// is at a number above 999.
 pub fn light_texts_are_short()
     ensures { LightTextsAreShort }
 {}

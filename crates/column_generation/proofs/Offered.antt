@@ -1,7 +1,9 @@
--- Groups that are offered: one more, and that they are few enough for a price set.
-use Rattle.std.proofs.Common.{◌≡◌, ◌≢◌, ℕ, ◌+◌, ◌*◌, ◌<◌, ◌≤◌, List, [], ◌∷◌, ◌++◌, length, sum_by, arith, ℤ, pos, ◌<ℤ◌, subst, sym}
+-- Groups that are offered: one more, one fewer, and that they are few enough for a price set.
+use Rattle.std.proofs.Common.{◌≡◌, ◌≢◌, ℕ, suc, ◌+◌, ◌*◌, ◌<◌, ◌≤◌, List, [], ◌∷◌, ◌++◌, length, take, drop, sum_by, arith, ℤ, pos, ◌<ℤ◌, subst, sym}
 use Rattle.std.proofs.lemmas.List.{length_push}
-use Rattle.std.proofs.lemmas.List.Elements.{All-push}
+use Rattle.std.specs.List.{All, remove}
+use Rattle.std.proofs.lemmas.List.Edits.{length-remove}
+use Rattle.std.proofs.lemmas.List.Elements.{All-append, All-drop, All-push, All-take}
 use Rattle.std.proofs.lemmas.List.Sums.{sum_by-le}
 use Rattle.carp_base.specs.Problem.{Problem}
 use Rattle.branch_rules.specs.Bonds.{GroupWeight, IsGroup}
@@ -37,6 +39,20 @@ offered_more p after groups w edges weight same is offered room group small some
     let few : length w.edges ≤ 120 = subst (λ (v : GroupWeight). length v.edges ≤ 120) (sym same) small in
     let of_instance : IsGroup p w.edges = subst (λ (v : GroupWeight). IsGroup p v.edges) (sym same) group in
     offered_push p after groups w is offered room few fine of_instance
+
+all_less : {X : Type 0} (P : X → Type 0) (xs : List X) (i : ℕ) → All P xs → All P (remove xs i)
+all_less P xs i all = All-append P (take i xs) (drop (suc i) xs) (All-take P i xs all) (All-drop P (suc i) xs all)
+
+-- one group fewer
+pub offered_less : (p : Problem) (after groups : List GroupWeight) (i : ℕ) → i < length groups → after ≡ remove groups i → AreOffered p groups → AreOffered p after
+offered_less p after groups i inside is offered =
+    let long : length (remove groups i) + 1 ≡ length groups = length-remove groups i inside in
+    subst (AreOffered p) (sym is) (record {
+      few = omega (arith, long, offered.few);
+      small = all_less (λ (v : GroupWeight). length v.edges ≤ 120) groups i offered.small;
+      fine = all_less IsFineGroup groups i offered.fine;
+      required = all_less (λ (v : GroupWeight). IsGroup p v.edges) groups i offered.required;
+    })
 
 pub few_edges : (p : Problem) (groups : List GroupWeight) → AreOffered p groups → sum_by (λ (w : GroupWeight). length w.edges) groups ≤ 60000
 few_edges p groups offered =

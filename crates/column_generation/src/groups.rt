@@ -13,11 +13,16 @@ use carp_base::{Instance, Memory};
 use price_points::number_at;
 use std::alloc::Global;
 
-// So many groups have a weight at most, and so many edges each: together they have no more edges than a price set may
-// have.
+// So many groups have a weight at most, and so many edges each.
 const MOST_GROUPS: usize = 500;
 
 const MOST_EDGES: usize = 120;
+
+// No set is taken whose groups are longer together, in numbers: the edges of each, and six more for its weight and its
+// size.
+const LONGEST_GROUPS: usize = 5_000;
+
+const HEAD: usize = 6;
 
 /// The edges of a group, by their rising numbers.
 #[derive(Drop)]
@@ -95,8 +100,71 @@ pub(crate) fn is_small_group(inst: &Instance, edges: &[u32]) -> bool
 }
 
 /// The groups with a weight above 0, and the pairs to be served together with the negative of theirs: at most 500 of at
-/// most 120 edges each.
+/// most 120 edges each. Where their edges, and six for
+/// each group, are more than 5,000 together, the lightest are left out.
 pub(crate) fn weighted_groups(
+    alloc: Global,
+    inst: &Instance,
+    constraints: &[Constraint],
+    weights: &[i64],
+) -> Result<Vec<WeightedGroup>, Memory>
+    requires { All IsServicePrice weights.now }
+    ensures { IfOk result (λ groups. AreOffered inst.now groups.items) }
+{
+    let mut groups = all_weighted(alloc, inst, constraints, weights)?;
+    leave_lightest_out(inst, &mut groups);
+    Ok(groups)
+}
+
+// Leaves the lightest group out, of equal ones the last, until the groups are short enough together.
+fn leave_lightest_out(inst: &Instance, groups: &mut Vec<WeightedGroup>)
+    requires { AreOffered inst.now groups.old.items }
+    ensures { AreOffered inst.now groups.new.items }
+{
+    for _ in 0..groups.len() {
+        if length_of(groups) <= LONGEST_GROUPS {
+            return;
+        }
+        leave_out(inst, groups);
+    }
+}
+
+// Leaves the lightest group out, if there is one.
+fn leave_out(inst: &Instance, groups: &mut Vec<WeightedGroup>)
+    requires { AreOffered inst.now groups.old.items }
+    ensures { AreOffered inst.now groups.new.items }
+{
+    let place = lightest(groups);
+    if place < groups.len() {
+        groups.remove(place);
+    }
+}
+
+// How long groups are as text, in numbers.
+fn length_of(groups: &[WeightedGroup]) -> usize {
+    let mut length: usize = 0;
+    for group in groups {
+        length = length.saturating_add(group.edges().len().saturating_add(HEAD));
+    }
+    length
+}
+
+// The place of the lightest group, of equal ones the last.
+fn lightest(groups: &[WeightedGroup]) -> usize {
+    let mut place = 0;
+    let mut least = u64::MAX;
+    for i in 0..groups.len() {
+        let weight = groups[i].weight().unsigned_abs();
+        if weight <= least {
+            least = weight;
+            place = i;
+        }
+    }
+    place
+}
+
+// All of them, up to 500.
+fn all_weighted(
     alloc: Global,
     inst: &Instance,
     constraints: &[Constraint],

@@ -1,8 +1,9 @@
 -- What was solved, as it is delivered.
-use Rattle.std.proofs.Common.{◌≡◌, ◌≢◌, ℕ, ◌+◌, ◌-◌, ◌*◌, ◌/◌, ◌^◌, ◌≤◌, List, [], ◌∷◌, sym, ap, ◌∙◌, subst, inl, inr, Option, All}
+use Rattle.std.proofs.Common.{◌≡◌, ◌≢◌, ℕ, ◌+◌, ◌-◌, ◌*◌, ◌/◌, ◌^◌, ◌≤◌, List, [], ◌∷◌, length, sym, ap, ◌∙◌, subst, inl, inr, Option, All}
 use Rattle.std.specs.Prelude.{◌⊎◌, IfOk, Result, Ok, Err}
 use Rattle.carp_base.specs.Problem.{Problem}
 use Rattle.cert_lines.specs.Certificates.{Certificate}
+use Rattle.cert_lines.specs.Spelling.{text_of}
 use Rattle.cert_lines.specs.Texts as certificates
 use Rattle.helper_rounds.specs.Helpers.{IsAtMost}
 use Rattle.carp_engine.specs.Solutions.{IsSound}
@@ -26,16 +27,17 @@ spent bound cost asked turns (inr more) other = more
 -- what the call that delivers gives, with the status of the delivery
 pub told : {p : Problem} {name : List ℕ} (c : Certificate) (turns : ℕ) (kept_text text : List ℕ) (status : Status)
     → (status ≡ Proven) ⊎ (status ≡ Gap) → (status ≡ Proven → c.bound ≡ c.cost) → (status ≡ Gap → c.bound ≢ c.cost) → (c.bound ≡ c.cost → status ≡ Proven)
-    → certificates.IsTextOf kept_text c → text ≡ report_text p c turns
+    → certificates.IsTextOf kept_text c → kept_text ≡ text_of c → text ≡ report_text p c turns
     → (d : Delivery) → (output_in d ≡ record { kept = record { name = name; bytes = kept_text } ∷ []; text = text }) × (d.status ≡ status)
     → IsTold p c turns name d.status (output_in d)
-told c turns kept_text text status either proven gap closed kept_is text_is d made = record {
+told c turns kept_text text status either proven gap closed kept_is spelled text_is d made = record {
   either = subst (λ s. (s ≡ Proven) ⊎ (s ≡ Gap)) (sym made.1) either;
   proven = λ is. proven (sym made.1 ∙ is);
   gap = λ is. gap (sym made.1 ∙ is);
   closed = λ same. made.1 ∙ closed same;
   kept_text = kept_text;
   kept_is = kept_is;
+  spelled = spelled;
   keeps = ap (λ (w : Output). w.kept) made.0;
   writes = ap (λ (w : Output). w.text) made.0 ∙ text_is;
 }
@@ -57,6 +59,7 @@ solved_by c asked turns status output sound ended whole helped told = (
     helped = helped;
     kept_text = told.kept_text;
     kept_is = told.kept_is;
+    small = subst (λ (bytes : List ℕ). length bytes ≤ 64000000) (sym told.spelled) sound.small;
     keeps = told.keeps;
     writes = told.writes;
   },

@@ -1,7 +1,8 @@
 -- What solving an instance makes: the headline, except for the file.
-use Rattle.std.specs.Prelude.{◌≡◌, ◌⊎◌, ◌≢◌, ℕ, ◌+◌, ◌-◌, ◌*◌, ◌/◌, ◌^◌, ◌≤◌, List, [], ◌∷◌, All, Option}
+use Rattle.std.specs.Prelude.{◌≡◌, ◌⊎◌, ◌≢◌, ℕ, ◌+◌, ◌-◌, ◌*◌, ◌/◌, ◌^◌, ◌≤◌, List, [], ◌∷◌, length, All, Option}
 use Rattle.carp_base.specs.Problem.{Problem}
 use Rattle.cert_lines.specs.Certificates.{Certificate}
+use Rattle.cert_lines.specs.Spelling.{text_of}
 use Rattle.cert_lines.specs.Texts as certificates
 use Rattle.plan_print.specs.Report.{report_text}
 use Rattle.helper_rounds.specs.Helpers.{IsAtMost}
@@ -18,7 +19,7 @@ pub record IsEnding (c : Certificate) (asked turns : ℕ) (status : Status) : Ty
 -- A name is to hold the text of a certificate of the instance, and its report is to be written: the certificate's plan is lawful, costs
 -- what is stated and no more than single tours or what helpers offered, and no lawful plan costs less than its bound. The turns are those
 -- of its tree; the bound is below the cost only if they are at least the turns asked for, and not at all if so many were asked for that no
--- tree has them.
+-- tree has them. The text has at most 64,000,000 bytes.
 pub record IsSolvedBy (p : Problem) (cert : List ℕ) (asked : ℕ) (offered : List (Option ℕ)) (status : Status) (output : Output) : Type 0 where
   pub certificate : Certificate
   pub turns : ℕ
@@ -28,6 +29,7 @@ pub record IsSolvedBy (p : Problem) (cert : List ℕ) (asked : ℕ) (offered : L
   pub helped : All (IsAtMost certificate.cost) offered
   pub kept_text : List ℕ
   pub kept_is : certificates.IsTextOf kept_text certificate
+  pub small : length kept_text ≤ 64000000
   pub keeps : output.kept ≡ record { name = cert; bytes = kept_text } ∷ []
   pub writes : output.text ≡ report_text p certificate turns
 
@@ -40,5 +42,6 @@ pub record IsTold (p : Problem) (c : Certificate) (turns : ℕ) (name : List ℕ
   pub closed : c.bound ≡ c.cost → status ≡ Proven
   pub kept_text : List ℕ
   pub kept_is : certificates.IsTextOf kept_text c
+  pub spelled : kept_text ≡ text_of c
   pub keeps : output.kept ≡ record { name = name; bytes = kept_text } ∷ []
   pub writes : output.text ≡ report_text p c turns

@@ -21,6 +21,7 @@ module _ (law : GrowthKeepsSets) (p : Problem) (branch : List Decision) (pool af
   better_now start set held raised = record {
     held = record { fits = raised.fits; shores = raised.shores };
     groups = raised.groups;
+    short_groups = raised.short_groups;
     no_lower = no_lower_now law p branch pool after grown start held.shores set raised.no_lower;
   }
 
@@ -29,6 +30,7 @@ module _ (law : GrowthKeepsSets) (p : Problem) (branch : List Decision) (pool af
   better_on start set held better = record {
     held = held_on set better.held;
     groups = better.groups;
+    short_groups = better.short_groups;
     no_lower = no_lower_now law p branch pool after grown start held.shores set (worth_as_much law p branch pool after grown set better.held.shores start better.no_lower);
   }
 
@@ -38,6 +40,7 @@ module _ (law : GrowthKeepsSets) (p : Problem) (branch : List Decision) (pool af
   better_again start set next some held better raised = record {
     held = record { fits = raised.fits; shores = raised.shores };
     groups = raised.groups;
+    short_groups = raised.short_groups;
     no_lower = no_lower_now law p branch pool after grown start held.shores next (no_lower_through p branch pool pool after start set next some better.no_lower raised.no_lower);
   }
 

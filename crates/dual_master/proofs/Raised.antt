@@ -1,5 +1,5 @@
 -- A set over a pool that grew, and sets that are no lower.
-use Rattle.std.proofs.Common.{◌≡◌, ℕ, zero, suc, ◌*◌, ◌≤◌, List, [], ◌++◌, length, sym, subst, ap, ◌∙◌, arith, ℤ, pos, negsuc, neg_ℤ, ◌+ℤ◌, ◌*ℤ◌, ◌≤ℤ◌, Option, Some, None, IfSome, Result, Ok, Err, IfOk, All, append_assoc, length-append, inl, inr}
+use Rattle.std.proofs.Common.{◌≡◌, ℕ, zero, suc, ◌+◌, ◌*◌, ◌≤◌, List, [], ◌++◌, length, sum_by, sym, subst, ap, ◌∙◌, arith, ℤ, pos, negsuc, neg_ℤ, ◌+ℤ◌, ◌*ℤ◌, ◌≤ℤ◌, Option, Some, None, IfSome, Result, Ok, Err, IfOk, All, append_assoc, length-append, inl, inr}
 use Rattle.std.proofs.Math.Nat.{mul-le-mul_left}
 use Rattle.std.proofs.lemmas.Bool.{cases_lt}
 use Rattle.std.proofs.lemmas.Int.{ints}
@@ -14,7 +14,7 @@ use Rattle.branch_rules.specs.Limits.{IsShoreOf}
 use Rattle.branch_rules.specs.Prices.{Prices, value_of}
 use Rattle.branch_rules.specs.declared.weight.Weight.{Weight}
 use Rattle.dual_master.specs.Growth.{GrowthKeepsSets, IsAsBefore}
-use Rattle.dual_master.specs.Raising.{HasGroupsFrom, HasGroupsOf, IsAccepted, IsNoLower, IsRaised}
+use Rattle.dual_master.specs.Raising.{HasShortGroups, HasGroupsFrom, HasGroupsOf, IsAccepted, IsNoLower, IsRaised}
 use Rattle.dual_master.proofs.Chosen.{shore_of_grown}
 
 neg_times : (n m : ℕ) → (pos n *ℤ neg_ℤ (pos m)) +ℤ pos (n * m) ≡ pos 0
@@ -129,6 +129,10 @@ pub of_instance : (p : Problem) (start set : Prices) → HasGroupsFrom p start s
 of_instance p start set (inl same) of = subst (All (λ (w : GroupWeight). IsGroup p w.edges)) (sym same) of
 of_instance p start set (inr own) of = own
 
+-- a set with the groups of one with short groups has short groups
+pub short_of : (start set : Prices) → start.groups ≡ set.groups → HasShortGroups start → HasShortGroups set
+short_of start set same short = subst (λ (ws : List GroupWeight). sum_by (λ (w : GroupWeight). length w.edges + 6) ws ≤ 5000) same short
+
 pub both_ok : {X E : Type 0} (r : Result X E) (P Q R : X → Type 0) → ((x : X) → P x → Q x → R x) → IfOk r P → IfOk r Q → IfOk r R
 both_ok (Ok x) P Q R all p q = all x p q
 both_ok (Err e) P Q R all p q = tt
@@ -142,6 +146,7 @@ raised_since law p branch pool after grown start from offered shores groups (Ok 
       fits = accepted.fits;
       shores = shores;
       groups = groups;
+      short_groups = accepted.short_groups;
       no_lower = no_lower_before law p branch pool after grown start from offered accepted.no_lower;
     })
 raised_since law p branch pool after grown start from offered shores groups (Ok None) accepted = tt

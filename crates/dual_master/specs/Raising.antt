@@ -1,5 +1,5 @@
 -- Price sets that are raised, over a pool that may grow.
-use Rattle.std.specs.Prelude.{◌≡◌, ◌⊎◌, ℕ, List, Option, IfSome, pos, ◌*ℤ◌, ◌≤ℤ◌}
+use Rattle.std.specs.Prelude.{◌≡◌, ◌⊎◌, ℕ, ◌+◌, ◌≤◌, List, length, sum_by, Option, IfSome, pos, ◌*ℤ◌, ◌≤ℤ◌}
 use Rattle.std.specs.List.{All}
 use Rattle.carp_base.specs.Problem.{Problem}
 use Rattle.decision_chains.specs.declared.decision.Decision.{Decision}
@@ -22,17 +22,27 @@ HasGroupsOf p set = All (λ (w : GroupWeight). IsGroup p w.edges) set.groups
 abbrev pub HasGroupsFrom : Problem → Prices → Prices → Type 0
 HasGroupsFrom p start set = (set.groups ≡ start.groups) ⊎ HasGroupsOf p set
 
--- such a set that fits under the branch, with its shores in the pool, and with groups of the instance
+-- how long the groups of a set are as text, in numbers: the edges of each, and six more for its weight and its size
+abbrev pub group_length : Prices → ℕ
+group_length set = sum_by (λ (w : GroupWeight). length w.edges + 6) set.groups
+
+-- they are at most 5,000 long together
+abbrev pub HasShortGroups : Prices → Type 0
+HasShortGroups set = group_length set ≤ 5000
+
+-- such a set that fits under the branch, with its shores in the pool, and with groups of the instance, which are short
 pub record IsRaised (p : Problem) (branch : List Decision) (pool : List (List ℕ)) (start : Prices) (after : List (List ℕ)) (set : Prices) : Type 0 where
   pub fits : FitsBranch p after branch set
   pub shores : All (λ w. IsShoreOf p after w.shore) set.weights
   pub groups : HasGroupsOf p set
+  pub short_groups : HasShortGroups set
   pub no_lower : IsNoLower p branch pool start after set
 
--- an offered set that fits under the branch and is worth no less than the start, over one pool
+-- an offered set that fits under the branch, has short groups and is worth no less than the start, over one pool
 pub record IsAccepted (p : Problem) (branch : List Decision) (pool : List (List ℕ)) (offered start set : Prices) : Type 0 where
   pub same : set ≡ offered
   pub fits : FitsBranch p pool branch offered
+  pub short_groups : HasShortGroups offered
   pub no_lower : IsNoLower p branch pool start pool offered
 
 -- the set fits under the branch, and its shores are in the pool
@@ -40,10 +50,11 @@ pub record IsHeld (p : Problem) (branch : List Decision) (pool : List (List ℕ)
   pub fits : FitsBranch p pool branch set
   pub shores : All (λ w. IsShoreOf p pool w.shore) set.weights
 
--- so does a set with groups of the instance that is worth no less than the start, over one pool
+-- so does a set that is worth no less than the start, with groups of the instance, which are short, over one pool
 pub record IsBetter (p : Problem) (branch : List Decision) (pool : List (List ℕ)) (start set : Prices) : Type 0 where
   pub held : IsHeld p branch pool set
   pub groups : HasGroupsOf p set
+  pub short_groups : HasShortGroups set
   pub no_lower : IsNoLower p branch pool start pool set
 
 -- where a start and the best offer so far stand, over one pool

@@ -1,18 +1,19 @@
 // Price sets that are raised.
-ghost use Rattle.std.specs.Prelude.{◌≡◌, All, IfOk, IfSome, IsTrue, length, unwrap_or};
+ghost use Rattle.std.specs.Prelude.{◌≡◌, ◌+◌, ◌≤◌, ◌↔◌, All, IfOk, IfSome, IsTrue, length, sum_by, unwrap_or};
 ghost use Rattle.cut_pool.specs.Pools.{IsGrown};
 ghost use Rattle.cut_pool.specs.Shores.{Belongs};
+ghost use Rattle.branch_rules.specs.Bonds.{GroupWeight};
 ghost use Rattle.branch_rules.specs.Laws.{FitsBranch};
 ghost use Rattle.branch_rules.specs.Limits.{IsShoreOf};
 ghost use Rattle.decision_chains.specs.Pairs.{ArePairsIn};
 ghost use Rattle.route_pricing.specs.Tables.{IsRoom};
 ghost use Rattle.tight_prices.specs.Tight.{IsTight};
 ghost use Rattle.leaf_adviser.specs.Leaves.{AreOf, IsLeaf};
-ghost use Rattle.dual_master.specs.Raising.{HasGroupsFrom, IsAccepted, IsHeld, IsNoLower, IsRaised, IsStanding};
+ghost use Rattle.dual_master.specs.Raising.{HasShortGroups, HasGroupsFrom, IsAccepted, IsHeld, IsNoLower, IsRaised, IsStanding};
 
 use crate::laws::growth_keeps_sets;
 use crate::values::{is_no_more, value_under};
-use branch_rules::{Branch, PriceSet};
+use branch_rules::{Branch, PriceSet, WeightedGroup};
 use carp_base::{Instance, Memory};
 use cut_pool::ShorePool;
 use leaf_adviser::{Adviser, Aim, Leaf, NoAdvice};
@@ -21,11 +22,17 @@ use route_pricing::Table;
 use std::alloc::Global;
 use tight_prices::{fits, tighten};
 
+// No offer is taken whose groups are longer together.
+const LONGEST_GROUPS: usize = 5_000;
+// What a group takes in a text besides its edges, in numbers: its weight and its size.
+const HEAD: usize = 6;
+
 /// A price set that fits under a branch and whose value, divided by its denominator, is no less than that of a start
 /// that fits there. No single number of it can be raised: neither a price, nor the weight of a shore of one vertex that
 /// the pool held before and over which some deadhead is needed (`tight_prices`).
 ///
-/// It is what [`raise_with`] gives with no advisers, so the number of rounds says nothing.
+/// It is what [`raise_with`] gives with no advisers, so the number of rounds says nothing. If the edges of the
+/// groups of the start, and six for each group, are at most 5,000 together, so are those of what it gives.
 pub fn raise(
     alloc: Global,
     inst: &Instance,
@@ -45,6 +52,7 @@ pub fn raise(
     ensures tight { IfOk result (IsTight inst.now pool.new (length pool.old) branch.now) }
     ensures no_lower { IfOk result (IsNoLower inst.now branch.now pool.old start.now pool.new) }
     ensures groups { IfOk result (HasGroupsFrom inst.now start.now) }
+    ensures short_groups { HasShortGroups start.now → IfOk result HasShortGroups }
     ensures shores { IfOk result (λ set. All (λ w. IsShoreOf inst.now pool.new w.shore) set.weights) }
     ensures grown { IsGrown pool.old pool.new }
     ensures belong { All (Belongs inst.now) pool.new }
@@ -66,7 +74,9 @@ pub fn raise(
 /// It asks each adviser once, in the order of the list, with the best set so far. An offer takes the place of the best
 /// one if it fits and its value divided by its denominator is greater. The best one is made tight at the end. Shores
 /// with a weight are placed in the pool behind those that it held, while it holds fewer than 2,000. The weights on
-/// groups are those of the start, or they are on groups of the instance.
+/// groups are those of the start, or they are on groups of the instance. An offer whose groups are
+/// long is not taken, so that certificates stay short: if the edges of the groups of the start, and six for each group,
+/// are at most 5,000 together, so are those of what it gives.
 ///
 /// It asks for a leaf, for a table that was made for its instance, which it fills, and for a pool whose shores belong to
 /// the instance. The shores that it adds belong to the instance too. What the advisers are is no matter to what it
@@ -89,6 +99,7 @@ pub fn raise_with<A: Adviser>(
     ensures tight { IfOk result (IsTight leaf.now.inst.now pool.new (length pool.old) leaf.now.branch.now) }
     ensures no_lower { IfOk result (IsNoLower leaf.now.inst.now leaf.now.branch.now pool.old start.now pool.new) }
     ensures groups { IfOk result (HasGroupsFrom leaf.now.inst.now start.now) }
+    ensures short_groups { HasShortGroups start.now → IfOk result HasShortGroups }
     ensures shores { IfOk result (λ set. All (λ w. IsShoreOf leaf.now.inst.now pool.new w.shore) set.weights) }
     ensures grown { IsGrown pool.old pool.new }
     ensures belong { All (Belongs leaf.now.inst.now) pool.new }
@@ -209,6 +220,9 @@ fn if_better(
     ensures accepted { IfOk result (λ better. IfSome better (IsAccepted leaf.now.inst.now leaf.now.branch.now pool.now offered start.now)) }
     ensures room { IsRoom leaf.now.inst.now table.new }
 {
+    if !has_short_groups(&offered) {
+        return Ok(None);
+    }
     if !fits(
         alloc,
         leaf.inst,
@@ -225,6 +239,25 @@ fn if_better(
     } else {
         Ok(None)
     }
+}
+
+// Whether the groups of a set are short.
+fn has_short_groups(set: &PriceSet) -> bool
+    ensures { IsTrue result ↔ HasShortGroups set.now }
+{
+    length_of(set.groups()) <= LONGEST_GROUPS
+}
+
+// How long groups are as text, in numbers.
+fn length_of(groups: &[WeightedGroup]) -> usize
+    requires { length groups.now ≤ 2000 }
+    ensures { result ≡ sum_by (λ (w : GroupWeight). length w.edges + 6) groups.now }
+{
+    let mut length = 0;
+    for group in groups {
+        length += group.edges().len() + HEAD;
+    }
+    length
 }
 
 // Whether the value of the first set divided by its denominator is above that of the second.

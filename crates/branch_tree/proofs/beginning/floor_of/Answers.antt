@@ -16,10 +16,12 @@ returns-clause-floor c =
       fits = c.in_ok-set.ensures.fits;
       floors = record {
         some_unit = fine.some_unit;
-        services = services_reached c.level_sets_are_there.ensures p c.validity.ensures pool set shell;
-        shell = shell;
-        ratio = c.in_ok-set.ensures.ratio;
-        join = c.in_ok-set.ensures.join;
+        floors = record {
+          services = services_reached c.level_sets_are_there.ensures p c.validity.ensures pool set shell;
+          shell = shell;
+          ratio = c.in_ok-set.ensures.ratio;
+          join = c.in_ok-set.ensures.join;
+        };
         below = λ plan lawful.
             c.prices_bound.ensures.below p pool [] set plan (c.in_ok-set.ensures.fits [])
             (record { valid = c.validity.ensures; no_depot = no_depot p pool c.in_ok-set.ensures.belong; lawful = lawful; meets = tt });

@@ -11,8 +11,8 @@ sum_up-requires-clause-ended g c =
     let s = c.take_turns-taken.new.search in
     subst (λ (n : ℕ). OnOk c.take_turns-taken.result (AreClosed (state_of s) ⊎ (n ≤ s.done))) (c.budget-turns.ensures ∙ sym c.take_turns-taken.ensures.turns) c.take_turns-taken.ensures.ended
 
-pub returns : goal.returns
-returns g c =
+pub returns-clause-searched : goal.returns-clause-searched
+returns-clause-searched g c =
     let p = c.args.inst.now in
     let s = c.take_turns-taken.new.search in
     let turned = c.take_turns-taken.ensures in
@@ -26,4 +26,7 @@ returns g c =
       short = λ short. is.short (turned.short short);
       no_lower = omega (arith, is.no_lower, turned.least);
       ended = subst (λ (n : ℕ). (is.found.bound ≡ plan_cost p is.found.plan) ⊎ (n ≤ solved.turns)) turned.turns is.ended;
-    }) c.sum_up.ensures
+    }) c.sum_up.ensures.searched
+
+pub returns-clause-terse : goal.returns-clause-terse
+returns-clause-terse g c = λ light. c.sum_up.ensures.terse (c.take_turns-taken.ensures.light light)

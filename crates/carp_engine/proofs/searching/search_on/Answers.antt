@@ -17,4 +17,4 @@ returns g c =
     IfOk-weaker c.go_on.result _ _
     (λ solved searched. subst (λ (n : ℕ). IsSearched p c.args.least n c.args.plan (certificate_in solved.cert) solved.turns) budget
     (subst (λ (n : ℕ). IsSearched p n s.turns c.args.plan (certificate_in solved.cert) solved.turns) resumed.least_is
-    (subst (λ (plan : List (List Step)). IsSearched p s.least s.turns plan (certificate_in solved.cert) solved.turns) resumed.best searched))) c.go_on.ensures
+    (subst (λ (plan : List (List Step)). IsSearched p s.least s.turns plan (certificate_in solved.cert) solved.turns) resumed.best searched))) c.go_on.ensures.searched

@@ -5,14 +5,15 @@ use Rattle.task_tours.specs.Shorts.{IsShortPlan}
 use Rattle.branch_tree.specs.Founds.{IsFound, findings_of}
 use Rattle.branch_tree.specs.Searches.{state_of}
 use Rattle.branch_tree.specs.Steps.{AreClosed}
+use Rattle.carp_engine.proofs.Terse.{terse_found}
 use Rattle.carp_engine.proofs.searching.sum_up.Goals as goal
 
 ended_by : {Closed : Type 0} (bound least cost budget done turns : ℕ) → (Closed → bound ≡ least) → cost ≡ least → turns ≡ done → Closed ⊎ (budget ≤ done) → (bound ≡ cost) ⊎ (budget ≤ turns)
 ended_by bound least cost budget done turns whole is done_is (inl closed) = inl (whole closed ∙ sym is)
 ended_by bound least cost budget done turns whole is done_is (inr spent) = inr (omega (arith, spent, done_is))
 
-pub returns : goal.returns
-returns c =
+pub returns-clause-searched : goal.returns-clause-searched
+returns-clause-searched c =
     let p = c.args.inst.now in
     let s = c.args.search in
     let found = c.in_ok-found.found in
@@ -30,3 +31,8 @@ returns c =
       no_lower = c.in_ok-found.ensures.least;
       ended = ended_by found.bound s.cost (plan_cost p found.plan) s.turns s.done c.in_ok-solved.solved.turns c.in_ok-found.ensures.closed cost turns ended;
     }
+
+pub returns-clause-terse : goal.returns-clause-terse
+returns-clause-terse c = λ light.
+    let found = c.in_ok-found.found in
+    terse_found c.args.inst.now (state_of c.args.search) (findings_of found) _ c.in_ok-solved.ensures.certified c.in_ok-found.ensures.sets c.in_ok-found.ensures.tree light

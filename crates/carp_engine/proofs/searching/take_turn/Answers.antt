@@ -1,5 +1,6 @@
 use Rattle.std.proofs.Common.{◌∙◌}
 use Rattle.branch_tree.specs.Searches.{state_of}
+use Rattle.carp_engine.proofs.Terse.{after_turn}
 use Rattle.carp_engine.proofs.Turned.{no_dearer, turned}
 use Rattle.carp_engine.proofs.searching.take_turn.Goals as goal
 
@@ -17,5 +18,6 @@ returns-in_ok-take_plan-in-Closed g c =
       no_dearer = no_dearer p before middle after taken offered c.in_ok-turn.turn c.in-Closed.is c.in_ok-turn.ensures.step;
       short = λ short. c.take_plan.ensures.short (c.step_with.ensures.short short);
       least = c.take_plan.ensures.least ∙ c.step_with.ensures.least;
+      light = after_turn c.searches_stay_light.ensures p before middle after c.in_ok-turn.turn taken c.requires.search.held.few_sets c.in_ok-turn.ensures.step offered;
       turn = turned p before middle after taken offered c.in_ok-turn.turn c.in-Closed.is c.in_ok-turn.ensures.step;
     }

@@ -2,7 +2,7 @@ use Rattle.std.proofs.Common.{Option, subst, sym, IfSome, inl, inr}
 use Rattle.std.proofs.lemmas.Result.{IfOk-weaker}
 use Rattle.branch_rules.specs.Prices.{Prices}
 use Rattle.dual_master.specs.Raising.{IsBetter}
-use Rattle.dual_master.proofs.Raised.{both_ok, itself, no_lower_before, no_lower_then, of_instance}
+use Rattle.dual_master.proofs.Raised.{both_ok, short_of, itself, no_lower_before, no_lower_then, of_instance}
 use Rattle.dual_master.proofs.raising.raise_with.Goals as goal
 
 pub returns-in-None-clause-no_lower : goal.returns-in-None-clause-no_lower
@@ -34,3 +34,13 @@ returns-in-Some-clause-groups g c =
     let p = c.args.leaf.now.inst.now in
     let better = subst (λ (found : Option Prices). IfSome found (IsBetter p c.args.leaf.now.branch.now c.best_offer.new.pool c.args.start.now)) c.in-Some.is c.in_ok-best.ensures.standing.better in
     IfOk-weaker c.tighten.result _ _ (λ set no_lower. inr (of_instance p c.in-Some.set set (inl (sym no_lower.groups)) better.groups)) c.tighten.ensures.no_lower
+
+pub returns-in-None-clause-short_groups : goal.returns-in-None-clause-short_groups
+returns-in-None-clause-short_groups g c = λ short.
+    IfOk-weaker c.tighten-in-None.result _ _ (λ set no_lower. short_of c.args.start.now set no_lower.groups short) c.tighten-in-None.ensures.no_lower
+
+pub returns-in-Some-clause-short_groups : goal.returns-in-Some-clause-short_groups
+returns-in-Some-clause-short_groups g c = λ _.
+    let p = c.args.leaf.now.inst.now in
+    let better = subst (λ (found : Option Prices). IfSome found (IsBetter p c.args.leaf.now.branch.now c.best_offer.new.pool c.args.start.now)) c.in-Some.is c.in_ok-best.ensures.standing.better in
+    IfOk-weaker c.tighten.result _ _ (λ set no_lower. short_of c.in-Some.set set no_lower.groups better.short_groups) c.tighten.ensures.no_lower

@@ -7,7 +7,7 @@ pub returns-clause-found : goal.returns-clause-found
 returns-clause-found c =
     let s = c.args.self in
     is_found c.sound_trees_are_lean.ensures.tree c.short_plans_cost_little.ensures c.args.inst.now (state_of s) c.requires.held c.in_ok-tree.tree.nodes c.in_ok-tree.ensures
-    (node_count s.tree.nodes c.in_ok-tree.tree.nodes c.in_ok-tree.ensures s.turns c.requires.few c.requires.turns_in_range)
+    (node_count s.tree.nodes c.in_ok-tree.tree.nodes c.in_ok-tree.ensures s.tree.room s.turns c.requires.few c.requires.room c.requires.turns_in_range)
     c.shown-bound.result c.shown-bound.ensures.at_most c.shown-bound.ensures.each c.shown-bound.ensures.greatest
 
 pub returns-clause-closed : goal.returns-clause-closed
@@ -19,5 +19,5 @@ pub returns-clause-least : goal.returns-clause-least
 returns-clause-least c =
     let s = c.args.self in
     no_less c.sound_trees_are_lean.ensures.tree c.short_plans_cost_little.ensures c.args.inst.now (state_of s) c.requires.held c.in_ok-tree.tree.nodes c.in_ok-tree.ensures
-    (node_count s.tree.nodes c.in_ok-tree.tree.nodes c.in_ok-tree.ensures s.turns c.requires.few c.requires.turns_in_range)
+    (node_count s.tree.nodes c.in_ok-tree.tree.nodes c.in_ok-tree.ensures s.tree.room s.turns c.requires.few c.requires.room c.requires.turns_in_range)
     c.shown-bound.result c.shown-bound.ensures.at_most c.shown-bound.ensures.each c.shown-bound.ensures.greatest

@@ -1,4 +1,4 @@
-use Rattle.std.proofs.Common.{List, subst, sym, refl, ◌≤◌}
+use Rattle.std.proofs.Common.{List, subst, sym, refl, arith, ◌≤◌}
 use Rattle.branch_rules.specs.Decisions.{rules_of}
 use Rattle.branch_rules.specs.Prices.{Prices, value_of}
 use Rattle.grown_trees.specs.Values.{IsShown}
@@ -7,7 +7,7 @@ use Rattle.branch_tree.specs.Searches.{set_in, state_of}
 use Rattle.branch_tree.specs.declared.search.Turn.TheVariants.{Split}
 use Rattle.branch_tree.proofs.Standing.{leaf_shores, may_begin, named_some}
 use Rattle.branch_tree.proofs.Turning.{splits_old}
-use Rattle.branch_tree.proofs.Turns.{as_before_same, failed_framed, turn_failed, turn_framed}
+use Rattle.branch_tree.proofs.Turns.{as_before_same, turn_failed, turn_framed}
 use Rattle.branch_tree.proofs.search.Search.split_with_old.Goals as goal
 
 pub choose_halves_of-requires-clause-begins : goal.choose_halves_of-requires-clause-begins
@@ -27,13 +27,12 @@ pub returns-in_err-halves : goal.returns-in_err-halves
 returns-in_err-halves c =
     turn_failed c.args.inst.now c.args.self.now c.args.self.now c.from_residual.result c.from_residual.ensures.0 c.requires.search refl refl (as_before_same (state_of c.args.self.now))
 
-pub returns-in_err-put_split : goal.returns-in_err-put_split
-returns-in_err-put_split c =
-    failed_framed c.args.inst.now c.args.self.now c.put_split.new.self c.from_residual-in_err-put_split.result c.from_residual-in_err-put_split.ensures.0 c.requires.search c.put_split.ensures.framed c.in_err-put_split.ensures.err
+pub put_split-requires-clause-room : goal.put_split-requires-clause-room
+put_split-requires-clause-room c = omega (arith, c.requires.search.held.few_nodes, c.requires.search.room, c.requires.left)
 
 pub returns : goal.returns
 returns c =
-    turn_framed c.args.inst.now c.args.self.now c.put_split.new.self Split _ c.requires.search c.put_split.ensures.framed c.in_ok-put_split.ensures.ok
+    turn_framed c.args.inst.now c.args.self.now c.put_split.new.self Split _ c.requires.search c.put_split.ensures.framed c.put_split.ensures.state
     (splits_old c.known_laws.ensures c.args.inst.now (state_of c.args.self.now) c.requires.search.held c.args.place c.args.branch.now c.args.number c.requires.names
     (subst (λ (sets : List Prices). 1 ≤ (set_in sets c.args.number).unit) c.deref.ensures.value c.in_ok-halves.ensures.some_unit) c.in_ok-halves.halves.node c.in_ok-halves.halves.children
     (subst (λ (sets : List Prices). IsSplitBy c.args.inst.now c.args.self.now.pool c.args.branch.now (set_in sets c.args.number) c.in_ok-halves.halves.node c.in_ok-halves.halves.children)

@@ -1,5 +1,5 @@
 use Rattle.column_generation.specs.Groups.{AreOffered}
-use Rattle.column_generation.proofs.groups.weighted_groups.Given as goal
+use Rattle.column_generation.proofs.groups.all_weighted.Given as goal
 
 abbrev pub invariant-loop-place : goal.invariant-loop-place
 invariant-loop-place l = AreOffered l.inst l.groups.items
