@@ -15,4 +15,5 @@ returns c = record {
   once = c.fixed_values_compare.ensures.unique;
   named = c.named_sets_suffice.ensures;
   turns = c.resumed_trees_have_turns.ensures;
+  texts = c.light_texts_are_short.ensures;
 }
