@@ -39,6 +39,8 @@ fn four_helpers() -> (Scanner, Merger, Splitter, Mover)
 /// splitting of one order of all tasks, and ruin and recreate with small changes, of ids 1 to 4. Three advisers are asked
 /// at each leaf, in this order: the program over shores, the ascent, and the programs over tours, shores and groups. Helpers
 /// that offered an unlawful plan are dismissed at the end.
+///
+/// It leaves what `run_with` says for four helpers. Or there was no memory for the helpers, and nothing was done.
 pub(crate) fn run_with_helpers<H: Shelf, O: Sink, W: Watch>(
     alloc: Global,
     words: &[String],
