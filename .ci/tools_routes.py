@@ -22,6 +22,7 @@ from typing import Any
 TOP = Path(__file__).resolve().parent.parent
 sys.path.insert(0, str(TOP / "tools"))
 
+import carp_run  # noqa: E402
 from carp_map import geometry, key, maps, sheets  # noqa: E402
 
 PROGRAM = ""
@@ -154,7 +155,7 @@ class FolderTest(unittest.TestCase):
 
     def routes(self, *names: str) -> Path:
         """Runs `tools/routes` on files that it takes, and returns the folder of the routes."""
-        done = self.call(ROUTES, *(names or NAMES), "--out", "out")
+        done = self.call(ROUTES, *(names or NAMES), "--out", "out", "--no-page")
         self.assertEqual((done.returncode, done.stderr), (0, ""))
         self.assertEqual(done.stdout, (self.folder / "out" / "summary.txt").read_text(encoding="utf-8"))
         self.assertFalse([name for name in self.listing() if name.endswith(".new")])
@@ -334,14 +335,18 @@ class Refusals(FolderTest):
         self.key_with(edges=edges)
 
     def refuse_key(self, message: str) -> None:
-        instance = key.read_instance(str(self.folder / "town.dat"))
-        with self.assertRaises(key.Refusal) as refused:
+        instance = carp_run.read_instance(str(self.folder / "town.dat"))
+        with self.assertRaises(carp_run.Refusal) as refused:
             key.read_key(str(self.folder / "bad.key"), instance)
         self.assertIn(f"bad.key: {message}", str(refused.exception))
 
     def test_wrong_words(self) -> None:
         for words in [], [*NAMES], [*NAMES[:2], "--out", "out"], [*NAMES, "more", "--out", "out"], ["--help-me"]:
             self.refuse("", *words, code=2)
+        for words in [], NAMES[:1], [*NAMES, "more"], [*NAMES, "--pages"], [*NAMES, "--pag"]:
+            done = self.call(DRAW, *words)
+            self.assertEqual((done.returncode, done.stdout), (2, ""))
+            self.assertTrue(done.stderr.startswith("draw: "), done.stderr)
 
     def test_a_certificate_that_is_not_good(self) -> None:
         self.write("town.cert", re.sub(r"cost \d+", "cost 1", small_certificate(self.key)))
@@ -436,7 +441,7 @@ class Parts(unittest.TestCase):
 
     def test_arrows_show_directions(self) -> None:
         """Moves to the east and back lie on their right, and the first corner of an arrow is its tip."""
-        tour = maps.Tour("red", [key.Move(1, forward, True) for forward in (True, False)])
+        tour = maps.Tour("red", [carp_run.Move(1, forward, True) for forward in (True, False)])
         uses = maps.uses_of([tour], 1)[0]
         back, back_arrow, there, there_arrow = maps.moves_along([(0.0, 0.0), (100.0, 0.0)], uses)
         self.assertIn('d="M0.0 -1.8 L100.0 -1.8"', back)
@@ -484,4 +489,5 @@ def main() -> None:
     unittest.main(argv=sys.argv[:1])
 
 
-main()
+if __name__ == "__main__":
+    main()

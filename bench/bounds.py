@@ -1,6 +1,6 @@
 """Solves instances by one turn, and prints their bounds beside the linear program over all shores and relaxed tours.
 
-usage: bounds.py PROGRAM FLOORS FOLDER WORK [NAME ..]
+usage: bounds.py FLOORS FOLDER WORK [NAME ..]
 """
 import csv
 import os
@@ -8,7 +8,7 @@ import re
 import subprocess
 import sys
 
-from solving import at_the_limits, solved
+from solving import at_the_limits, print_row, solved
 
 
 def floor(program, path):
@@ -32,22 +32,29 @@ def services(path):
     return total
 
 
-def main(program, floors, folder, work, names):
+def costs_of(found):
+    """Cost, gap, seconds and memory of a run."""
+    return found.cost, f"{found.percent:.2f}", f"{found.seconds:.2f}", f"{found.memory:.0f}"
+
+
+def main(floors, folder, work, names):
     with open(os.path.join(folder, "lp.csv")) as file:
         programs = {row["name"]: float(row["lp"]) for row in csv.DictReader(file)}
     reached = []
+    columns = ("instance", "services", "floors", "bound", "program", "reached_percent", "cost", "gap_percent", "seconds", "memory_mb")
+    print_row(*columns)
     for name in names or programs:
         path = os.path.join(folder, name + ".dat")
-        found = solved(program, path, os.path.join(work, "cert"), ["--turns", "1"])
+        found = solved(path, os.path.join(work, "cert"), 1)
         base, lp = services(path), programs[name]
         percent = 100 * (found.bound - base) / (lp - base) if lp > base else 100
         reached.append(percent)
-        print(f"| {name} | {base} | {floor(floors, path)} | {found.bound} | {lp:.2f} | {percent:.1f} % | {found.cost} | {found.gap():.2f} % | {found.seconds:.2f} s | {found.memory:.0f} MB |", flush=True)
-    print(f"| mean of {len(reached)} | | | | | {sum(reached) / len(reached):.1f} % | | | | |")
-    print(f"| least | | | | | {min(reached):.1f} % | | | | |")
+        way = (f"{lp:.2f}", f"{percent:.1f}")
+        print_row(name, base, floor(floors, path), found.bound, *way, *costs_of(found))
     for name, path in at_the_limits(work):
-        found = solved(program, path, os.path.join(work, "cert"), ["--turns", "1"])
-        print(f"| {name} | {services(path)} | {floor(floors, path)} | {found.bound} | | | {found.cost} | {found.gap():.2f} % | {found.seconds:.2f} s | {found.memory:.0f} MB |")
+        found = solved(path, os.path.join(work, "cert"), 1)
+        print_row(name, services(path), floor(floors, path), found.bound, "", "", *costs_of(found))
+    print(f"# reached, mean of {len(reached)}: {sum(reached) / len(reached):.1f} %, least: {min(reached):.1f} %")
 
 
-main(sys.argv[1], sys.argv[2], sys.argv[3], sys.argv[4], sys.argv[5:])
+main(sys.argv[1], sys.argv[2], sys.argv[3], sys.argv[4:])

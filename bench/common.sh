@@ -1,6 +1,7 @@
 # What the scripts share: the folder for all that is made, the plain programs, and a race of `carp solve` beside one of them.
 bench=$(cd "$(dirname "${BASH_SOURCE[0]}")" && pwd) || exit 1
 carp=${CARP:-$bench/../crates/carp/out/carp}
+export CARP=$carp
 runs=${RUNS:-5}
 work=$(mktemp -d) || exit 1
 trap 'rm -rf "$work"' EXIT
@@ -17,7 +18,7 @@ make_limits() {
   done
 }
 
-# race KIND NAME FILE: times carp and the plain program KIND on the file, and prints a row of the table in bench/README.md
+# race KIND NAME FILE: times carp and the plain program KIND on the file, and prints a row of bench/results/measured.csv
 race() {
   local ours plain
   if [ ! -x "$carp" ]; then
@@ -26,5 +27,5 @@ race() {
   fi
   ours=$("$work/clock" "$runs" 01 "$work/ours" "$carp" solve "$3" "$work/cert") || { cat "$work/ours" >&2; return 1; }
   plain=$("$work/clock" "$runs" 0 "$work/plain" "$work/$1" "$3") || return 1
-  python3 "$bench/row.py" "$1" "$2" "$3" "$work/ours" "$work/plain" "$ours" "$plain"
+  python3 "$bench/row.py" "$1" "$2" "$work/ours" "$work/plain" "$ours" "$plain"
 }

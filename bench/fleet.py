@@ -7,6 +7,8 @@ import os
 import subprocess
 import sys
 
+from solving import print_row
+
 # kind, numbers of required edges, capacities, instances of each
 MADE = [
     ("uniform", (50, 100, 200, 400, 600), (150, 100), 14),
@@ -34,15 +36,17 @@ def main(program, bench, work, turns):
     folder = os.path.join(bench, "instances")
     with open(os.path.join(folder, "best.csv"), encoding="ascii") as file:
         names = sorted(row["name"] + ".dat" for row in csv.DictReader(file))
+    print_row("instance", "groups", "bound", "turns", "seconds")
     for name, row in zip(names, packed(program, turns, [os.path.join(folder, name) for name in names])):
-        print(f"| {name[:-4]} | {row[0]} | {row[1]} | {row[2]} | {row[4] / 1e6:.3f} s |", flush=True)
+        print_row(name[:-4], *row[:3], f"{row[4] / 1e6:.3f}")
+    print_row("kind", "edges", "capacity", "instances", "shown", "sum_of_gaps", "longest_seconds")
     for kind, counts, capacities, seeds in MADE:
         for count in counts:
             for capacity in capacities:
                 rows = packed(program, turns, made(bench, work, kind, count, capacity, seeds))
                 shown = sum(row[0] == row[1] for row in rows)
                 gap = sum(row[0] - row[1] for row in rows)
-                print(f"| {len(rows)} {kind}, {count} of capacity {capacity} | {shown} shown | gaps {gap} | | {max(row[4] for row in rows) / 1e6:.3f} s |", flush=True)
+                print_row(kind, count, capacity, len(rows), shown, gap, f"{max(row[4] for row in rows) / 1e6:.3f}")
 
 
 main(*sys.argv[1:])

@@ -1,35 +1,33 @@
 """Improves certificates step by step, and edited ones beside solving anew, and prints what was found.
 
-usage: improve.py PROGRAM FOLDER WORK [NAME ..]
+usage: improve.py FOLDER WORK [NAME ..]
 """
 import csv
 import os
 import random
-import subprocess
 import sys
 
-from solving import improved, solved
+from solving import carp_run, improved, print_row, solved
 
 SEEDS = range(2, 10)
-TURNS = "8"
+TURNS = 8
 TOWN = "town12"
 EDITS = 20
 
 
-def step_by_step(program, folder, work, name, best):
+def step_by_step(folder, work, name, best):
     """Prints the cost above the best one known, and the gap, after one turn and after each step from there."""
     path = os.path.join(folder, name + ".dat")
     old, new = os.path.join(work, "old.cert"), os.path.join(work, "new.cert")
-    found = solved(program, path, old, ["--turns", "1"])
-    cells, seconds = [], found.seconds
+    found = solved(path, old, 1)
+    seconds = found.seconds
+    print_row(name, 1, found.cost - best, f"{found.percent:.2f}", "")
     for seed in SEEDS:
-        cells.append(f"{found.cost - best} / {found.gap():.2f}")
-        found = improved(program, path, old, new, ["--turns", TURNS, "--seed", str(seed)])
+        found = improved(path, old, new, TURNS, seed)
         seconds += found.seconds
         os.replace(new, old)
-    cells.append(f"{found.cost - best} / {found.gap():.2f}")
-    print(f"| {name} | {' | '.join(cells)} | {seconds:.1f} s |", flush=True)
-    return found.cost, best, found.gap()
+        print_row(name, seed, found.cost - best, f"{found.percent:.2f}", f"{seconds:.1f}" if seed == SEEDS[-1] else "")
+    return found.cost, best, found.percent
 
 
 def edit_text(draws, edges, required):
@@ -48,33 +46,35 @@ def counts(path):
     return numbers["ARISTAS_REQ"], numbers["ARISTAS_REQ"] + numbers["ARISTAS_NOREQ"]
 
 
-def edited(program, folder, work):
+def edited(folder, work):
     """Prints what comes of edits of a town, carried over and improved, beside solving the edited town anew with as many turns."""
     names = ("old.cert", "edits", "town.dat", "carried.cert", "new.cert", "anew.cert")
     old, edits, town, carried, new, anew = (os.path.join(work, name) for name in names)
     path = os.path.join(folder, TOWN + ".dat")
-    solved(program, path, old)
+    solved(path, old)
     required, edges = counts(path)
     draws = random.Random(1)
+    print_row("edits", "cost", "bound", "seconds", "cost_anew", "bound_anew", "seconds_anew")
     for number in range(1, EDITS + 1):
         while True:
             with open(edits, "w") as file:
                 file.write(edit_text(draws, edges, required))
-            if subprocess.run([program, "edit", path, old, edits, town, carried], stdout=subprocess.DEVNULL).returncode == 0:
+            if carp_run.run("edit", path, old, edits, town, carried).code == 0:
                 break
-        better = improved(program, town, carried, new, ["--turns", TURNS])
-        again = solved(program, town, anew, ["--turns", TURNS])
-        print(f"| {number} | {better.cost} | {better.bound} | {better.seconds:.2f} s | {again.cost} | {again.bound} | {again.seconds:.2f} s |", flush=True)
+        better = improved(town, carried, new, TURNS)
+        again = solved(town, anew, TURNS)
+        print_row(number, better.cost, better.bound, f"{better.seconds:.2f}", again.cost, again.bound, f"{again.seconds:.2f}")
 
 
-def main(program, folder, work, names):
+def main(folder, work, names):
     with open(os.path.join(folder, "best.csv")) as file:
         best = {row["name"]: int(row["cost"]) for row in csv.DictReader(file)}
-    ends = [step_by_step(program, folder, work, name, best[name]) for name in names or best]
+    print_row("instance", "seed", "above_best", "gap_percent", "seconds_of_all")
+    ends = [step_by_step(folder, work, name, best[name]) for name in names or best]
     over = sum(100 * (cost - least) / least for cost, least, _ in ends) / len(ends)
-    print(f"| mean of {len(ends)} | {over:.3f} % above the best, {sum(gap for _, _, gap in ends) / len(ends):.2f} % |")
+    print(f"# at the end, mean of {len(ends)}: {over:.4f} % above the best, gap {sum(gap for _, _, gap in ends) / len(ends):.2f} %")
     if not names:
-        edited(program, folder, work)
+        edited(folder, work)
 
 
-main(sys.argv[1], sys.argv[2], sys.argv[3], sys.argv[4:])
+main(sys.argv[1], sys.argv[2], sys.argv[3:])

@@ -1,9 +1,11 @@
-"""Prints rows of the table in bench/README.md: the least times of two programs, each line of theirs a size, a sum, and microseconds.
+"""Prints rows of bench/results/measured.csv: the least times of two programs, each line of theirs a size, a sum, and microseconds.
 
 usage: matching.py OURS PLAIN MACHINE [WHAT], where WHAT is what has the size: points matched, if it is left out
 """
 import datetime
 import sys
+
+from solving import print_row
 
 
 def least(name):
@@ -23,4 +25,4 @@ if our_sums != plain_sums:
     sys.exit(f"the sums differ: {our_sums} and {plain_sums}")
 for size, taken in our_times.items():
     other = plain_times[size]
-    print(f"| {size:,} {what} | {taken / 1e6:.4f} s | {other / 1e6:.4f} s | {taken / max(other, 1):.2f} | | {machine} | {datetime.date.today()} |")
+    print_row(f"{size:,} {what}", f"{taken / 1e6:.4f}", f"{other / 1e6:.4f}", f"{taken / max(other, 1):.2f}", "", machine, datetime.date.today())

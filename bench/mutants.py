@@ -13,7 +13,6 @@ import os
 import random
 import re
 import shutil
-import subprocess
 import sys
 import tempfile
 
@@ -23,6 +22,7 @@ import check  # noqa: E402
 from mutated_certificates import made_by_hand, mutated, parted, text_of, with_groups, without_counts  # noqa: E402
 from mutated_groups import lines_at_limits, mutated_lines, with_bonds  # noqa: E402
 from mutated_texts import draw_far, draw_instance, mutated_instance, mutated_text, text_of_instance  # noqa: E402
+from solving import carp_run  # noqa: E402
 from reading import LONGEST_CERTIFICATE, LONGEST_INSTANCE, USAGE, PriceSet, read_certificate  # noqa: E402
 
 EACH = 25  # mutants of an instance
@@ -94,17 +94,17 @@ usage: check.py FILE CERT
 class Race:
     """Lets both read, and counts what they answer."""
 
-    def __init__(self, program, folder):
-        self.program, self.folder = program, folder
+    def __init__(self, folder):
+        self.folder = folder
         self.file, self.certificate = os.path.join(folder, "file"), os.path.join(folder, "cert")
         self.codes, self.kinds, self.differences = collections.Counter(), collections.Counter(), 0
 
     def solve(self, text, turns):
         """The certificate that the program makes, or None."""
         write(self.file, text)
-        run = subprocess.run([self.program, "solve", self.file, self.certificate, "--turns", str(turns)], capture_output=True)
-        if run.returncode not in (0, 1):
-            print(f"solve ended with {run.returncode}: {run.stdout.decode(errors='replace')}", file=sys.stderr)
+        run = carp_run.run("solve", self.file, self.certificate, "--turns", str(turns))
+        if run.code not in (0, 1):
+            print(f"solve ended with {run.code}: {run.text}", file=sys.stderr)
             self.keep("solve")
             return None
         with open(self.certificate, "rb") as file:
@@ -116,16 +116,16 @@ class Race:
         self.compare(self.file, self.certificate)
 
     def compare(self, file, certificate):
-        run = subprocess.run([self.program, "check", file, certificate], capture_output=True)
-        theirs = (run.returncode, run.stdout.decode(errors="replace"))
-        if run.returncode == 3:  # its words name all calls of the program
+        run = carp_run.run("check", file, certificate)
+        theirs = (run.code, run.text)
+        if run.code == 3:  # its words name all calls of the program
             theirs = (3, USAGE + "\n")
         answer = check.answer(file, certificate)
         ours = (answer.code, "".join(line + "\n" for line in answer.lines))
         self.codes[ours[0]] += 1
         self.kinds[re.sub(r"-?\d+", "X", answer.lines[0]) + (groups_of(certificate) if answer.code == 0 else "")] += 1
         false = answer.code == 0 and int(answer.lines[2][6:]) > int(answer.lines[1][5:])  # no bound is above what a lawful plan costs
-        if ours != theirs or run.stderr or false:
+        if ours != theirs or run.errors or false:
             self.differences += 1
             kept = self.keep(f"difference{self.differences}")
             print(f"{kept}: the program says {theirs[1].strip()!r} and ends with {theirs[0]}; check.py says {ours[1].strip()!r} and ends with {ours[0]}", flush=True)
@@ -227,7 +227,8 @@ def main():
     parser.add_argument("--count", type=int, default=10_000)
     words = parser.parse_args()
     rng = random.Random(words.seed)
-    race = Race(words.program, tempfile.mkdtemp(prefix="mutants-"))
+    os.environ["CARP"] = words.program
+    race = Race(tempfile.mkdtemp(prefix="mutants-"))
     other = None
     while sum(race.codes.values()) < words.count:
         instance = draw_far(rng) if rng.randrange(3) == 0 else draw_instance(rng)

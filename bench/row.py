@@ -1,13 +1,14 @@
 #!/usr/bin/env python3
-"""Compares what carp and a plain program wrote, and prints a row of the table in bench/README.md.
+"""Compares what carp and a plain program wrote, and prints a row of bench/results/measured.csv.
 
-usage: row.py KIND NAME FILE OURS PLAIN OUR_CLOCK PLAIN_CLOCK, where KIND is solve, read, certificate, flow, pricing, branch, cuts or matching, OURS and PLAIN are the files of what
-was written, and the clocks are what bench/plain/clock.cpp prints. The scripts of bench/ call it.
+usage: row.py KIND NAME OURS PLAIN OUR_CLOCK PLAIN_CLOCK, where KIND is solve, read, certificate, flow, pricing, branch, cuts or matching, OURS and PLAIN
+are the files of what was written, and the clocks are what bench/plain/clock.cpp prints. The scripts of bench/ call it.
 """
 import datetime
-import os
 import platform
 import sys
+
+from solving import print_row
 
 COMPARED = {"solve": ["cost", "bound"], "read": ["vertices", "edges", "demand"], "flow": ["value"], "pricing": ["value"], "branch": ["value"], "certificate": ["nodes", "bytes"], "cuts": ["value"], "matching": ["cost"]}
 
@@ -38,7 +39,7 @@ def machine():
 
 
 def main():
-    kind, name, path, ours, plain, our_clock, plain_clock = sys.argv[1:]
+    kind, name, ours, plain, our_clock, plain_clock = sys.argv[1:]
     report = dict(words_of(ours)) if kind not in ("solve", "read") else facts_of_report(ours)
     facts = dict(words_of(plain))
     for fact in COMPARED[kind]:
@@ -47,15 +48,10 @@ def main():
 
     our_seconds, our_peak = our_clock.split()
     plain_seconds = plain_clock.split()[0]
-    size = os.path.getsize(path)
-    cells = []
-    for seconds in [float(our_seconds), float(plain_seconds)]:
-        speed = f", {size / seconds / 1e6:.0f} MB/s" if kind in ("read", "certificate") else ""
-        cells.append(f"{seconds:.4f} s{speed}")
     ratio = float(our_seconds) / float(plain_seconds)
     memory = int(our_peak) * 1024 / 1e6
-    row = [name, *cells, f"{ratio:.2f}", f"{memory:.1f} MB", machine(), datetime.date.today().isoformat()]
-    print("| " + " | ".join(row) + " |")
+    cells = [f"{float(our_seconds):.4f}", f"{float(plain_seconds):.4f}", f"{ratio:.2f}", f"{memory:.1f}"]
+    print_row(name, *cells, machine(), datetime.date.today().isoformat())
 
 
 if __name__ == "__main__":

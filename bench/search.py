@@ -1,12 +1,12 @@
 """Solves instances with a budget of turns, and prints what the search found.
 
-usage: search.py PROGRAM FOLDER WORK TURNS [NAME ..]
+usage: search.py FOLDER WORK TURNS [NAME ..]
 """
 import csv
 import os
 import sys
 
-from solving import solved
+from solving import print_row, solved
 
 
 def held(certificate):
@@ -20,17 +20,19 @@ def held(certificate):
     return counts["sets"], counts["nodes"]
 
 
-def main(program, folder, work, turns, names):
+def main(folder, work, turns, names):
     with open(os.path.join(folder, "best.csv")) as file:
         known = [row["name"] for row in csv.DictReader(file)]
     certificate = os.path.join(work, "cert")
     gaps = []
+    print_row("instance", "cost", "bound", "gap_percent", "turns", "sets", "nodes", "seconds", "memory_mb")
     for name in names or known:
-        found = solved(program, os.path.join(folder, name + ".dat"), certificate, ["--turns", turns])
+        found = solved(os.path.join(folder, name + ".dat"), certificate, int(turns))
         sets, nodes = held(certificate)
-        gaps.append(found.gap())
-        print(f"| {name} | {found.cost} | {found.bound} | {found.gap():.2f} % | {found.turns} | {sets} | {nodes} | {found.seconds:.2f} s | {found.memory:.0f} MB |", flush=True)
-    print(f"| mean of {len(gaps)} | | | {sum(gaps) / len(gaps):.2f} % | | | | | |")
+        gaps.append(found.percent)
+        numbers = (found.turns, sets, nodes, f"{found.seconds:.2f}", f"{found.memory:.0f}")
+        print_row(name, found.cost, found.bound, f"{found.percent:.2f}", *numbers)
+    print(f"# gap, mean of {len(gaps)}: {sum(gaps) / len(gaps):.2f} %")
 
 
-main(sys.argv[1], sys.argv[2], sys.argv[3], sys.argv[4], sys.argv[5:])
+main(sys.argv[1], sys.argv[2], sys.argv[3], sys.argv[4:])

@@ -1,7 +1,16 @@
-"""Runs of `carp` that print a report, for the scripts that print what they found."""
+"""What the scripts share that start `carp`, which `carp_run` does: the program is the one that CARP names, and the rows that they print."""
+import csv
 import os
-import subprocess
 import sys
+
+sys.path.insert(0, os.path.join(os.path.dirname(os.path.dirname(os.path.abspath(__file__))), "tools"))
+import carp_run  # noqa: E402
+
+
+def print_row(*cells):
+    """Prints a row of a CSV file."""
+    csv.writer(sys.stdout, lineterminator="\n").writerow(cells)
+    sys.stdout.flush()
 
 
 def at_the_limits(work):
@@ -12,31 +21,19 @@ def at_the_limits(work):
             yield f"at the limits, capacity {capacity:,}", path
 
 
-class Reported:
-    """What a run found and took: the cost, the bound, the turns, the seconds of processor time, and the greatest memory in megabytes."""
-
-    def __init__(self, program, path, words):
-        run = subprocess.Popen([program, *words], stdout=subprocess.PIPE, text=True)
-        written = run.stdout.read()
-        _, status, usage = os.wait4(run.pid, 0)
-        self.seconds = usage.ru_utime + usage.ru_stime
-        run.returncode = os.waitstatus_to_exitcode(status)
-        if run.returncode not in (0, 1):
-            sys.exit(f"{path}: ended with {run.returncode}: {written}")
-        lines = dict(line.split(" ", 1) for line in written.splitlines()[1:4] if " " in line)
-        self.cost, self.bound, self.turns = int(lines["cost"]), int(lines["bound"]), int(lines["turns"])
-        self.memory = usage.ru_maxrss / 1024
-
-    def gap(self):
-        """How far the bound lies below the cost, in percent of the cost."""
-        return 100 * (self.cost - self.bound) / self.cost if self.cost else 0.0
+def reported(call, path, *words):
+    """The report of a call of `carp_run` on an instance; a refusal ends the script."""
+    try:
+        return call(path, *words)
+    except carp_run.Refusal as refusal:
+        sys.exit(f"{path}: ended with {refusal.code}: {refusal}")
 
 
-def solved(program, path, certificate, options=()):
-    """A run of `carp solve`."""
-    return Reported(program, path, ["solve", path, certificate, *options])
+def solved(path, certificate, turns=None):
+    """The report of `carp solve`."""
+    return reported(carp_run.solve, path, certificate, turns)
 
 
-def improved(program, path, old, new, options=()):
-    """A run of `carp improve`."""
-    return Reported(program, path, ["improve", path, old, new, *options])
+def improved(path, old, new, turns=None, seed=None):
+    """The report of `carp improve`."""
+    return reported(carp_run.improve, path, old, new, turns, seed)

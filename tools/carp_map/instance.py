@@ -18,12 +18,23 @@ from carp_map.geometry import Place
 from carp_map.network import Street
 from carp_map.reading import MapError
 
-MOST_VERTICES = 1_000
-MOST_EDGES = 4_000
-MOST_REQUIRED = 600
 MOST_CAPACITY = 30_000
 MOST_COST = 1_000_000
-MOST_STATES = 24_000_000
+
+
+@dataclass(frozen=True)
+class Limits:
+    """The greatest counts of an instance; the states have no limit of their own if it is 0."""
+
+    vertices: int
+    edges: int
+    required: int
+    states: int
+
+
+# What `carp` takes, and what `tools/city` takes.
+CARP = Limits(1_000, 4_000, 600, 24_000_000)
+CITY = Limits(200_000, 100_000, 30_000, 0)
 
 
 def rounded(value: float) -> int:
@@ -94,16 +105,16 @@ def count(streets: Sequence[Street]) -> Counts:
     return Counts(max(1, len(vertices)), len(streets), sum(each.demand > 0 for each in streets))
 
 
-def faults(streets: Sequence[Street], capacity: int) -> list[str]:
-    """Returns what does not fit the limits of `carp`, and by how much."""
+def faults(streets: Sequence[Street], capacity: int, limits: Limits = CARP) -> list[str]:
+    """Returns what does not fit the limits, those of `carp` if no others are given, and by how much."""
     counts = count(streets)
     states = 2 * counts.required * (capacity + 1)
     measures = [
-        ("vertices", counts.vertices, MOST_VERTICES),
-        ("edges", counts.edges, MOST_EDGES),
-        ("required edges", counts.required, MOST_REQUIRED),
+        ("vertices", counts.vertices, limits.vertices),
+        ("edges", counts.edges, limits.edges),
+        ("required edges", counts.required, limits.required),
         ("capacity", capacity, MOST_CAPACITY),
-        (f"states 2 * {counts.required} * ({capacity} + 1) =", states, MOST_STATES),
+        (f"states 2 * {counts.required} * ({capacity} + 1) =", states, limits.states or states),
     ]
     found = [f"{what} {value:,}: {above(value, most)}" for what, value, most in measures if value > most]
     for what, most in (("cost", MOST_COST), ("demand", capacity)):

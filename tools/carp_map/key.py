@@ -1,56 +1,14 @@
-"""Reads an instance, the tours of a certificate and the key of a map, and checks that they belong together.
+"""Reads the key of a map, checks that it is one of an instance, and lays tours along its streets.
 
-The instance and the certificate are in the formats of `docs/FORMATS.md`. Both are read after `carp check` accepted
-them, so that what it refuses need not be told here. The key is what `carp_map/instance.py` describes.
+The key is what `carp_map/instance.py` describes.
 """
 import json
-import os
-import re
-import subprocess
 import unicodedata
 from dataclasses import dataclass
 from typing import Any, TypeGuard
 
 from carp_map.geometry import Place
-
-BLANK = rb"[\t\r\x1a ]*"
-KEY_LINE = re.compile(BLANK + rb"(\w+)" + BLANK + rb":?" + BLANK + rb"(\d*)")
-EDGE_LINE = re.compile(BLANK + rb"\(")
-LISTS = ("LISTA_ARISTAS_REQ", "LISTA_ARISTAS_NOREQ")
-NUMBERS = ("VERTICES", "CAPACIDAD", "DEPOSITO")
-
-
-class Refusal(Exception):
-    """What is wrong with the files or the words, as it is told to the user."""
-
-
-@dataclass(frozen=True)
-class Edge:
-    """An edge of an instance; its demand is 0 if it is not required."""
-
-    ends: tuple[int, int]
-    cost: int
-    demand: int
-    service: int
-
-
-@dataclass(frozen=True)
-class Instance:
-    """An instance: its edges in order, the required ones first."""
-
-    vertices: int
-    capacity: int
-    depot: int
-    edges: list[Edge]
-
-
-@dataclass(frozen=True)
-class Move:
-    """A step of a tour: the number of its edge, whether it goes from its first end to its second, and if it serves."""
-
-    edge: int
-    forward: bool
-    serves: bool
+from carp_run import Edge, Instance, Move, Refusal, contents
 
 
 @dataclass(frozen=True)
@@ -104,65 +62,6 @@ class Step:
     def is_against(self) -> bool:
         """Whether the step goes against a one-way street."""
         return self.street.oneway == (-1 if self.move.forward else 1)
-
-
-def check(path: str, certificate: str) -> tuple[int, int]:
-    """Returns the cost and the bound that `carp check` accepts; CARP names a program in place of that of ./carp."""
-    home = os.path.dirname(os.path.dirname(os.path.dirname(os.path.abspath(__file__))))
-    program = os.path.abspath(os.environ.get("CARP", os.path.join(home, "crates", "carp", "out", "carp")))
-    if not os.path.exists(program):
-        raise Refusal(f"no program at {program}; run ./carp once, which builds it, or name another in CARP")
-    try:
-        run = subprocess.run([program, "check", path, certificate], stdout=subprocess.PIPE, text=True, errors="replace")
-    except OSError as error:
-        raise Refusal(f"{program} cannot be run: {error.strerror}") from error
-    accepted = re.fullmatch(r"accepted\ncost (\d+)\nbound (\d+)\n", run.stdout)
-    if run.returncode != 0 or not accepted:
-        raise Refusal(f"carp check: {run.stdout.strip() or 'no answer'}")
-    return int(accepted[1]), int(accepted[2])
-
-
-def contents(path: str) -> bytes:
-    """Returns what a file holds."""
-    try:
-        with open(path, "rb") as file:
-            return file.read()
-    except OSError as error:
-        raise Refusal(f"{path} cannot be read: {error.strerror}") from error
-
-
-def read_instance(path: str) -> Instance:
-    """Returns the instance of a file that `carp` accepts."""
-    numbers: dict[str, int] = {}
-    edges: dict[str, list[Edge]] = {name: [] for name in LISTS}
-    current = LISTS[0]
-    for line in contents(path).split(b"\n"):
-        if EDGE_LINE.match(line):
-            u, v, cost, *rest = (int(number) for number in re.findall(rb"\d+", line))
-            demand, service = rest + [0, cost][len(rest):]
-            edges[current].append(Edge((u, v), cost, demand, service))
-        elif found := KEY_LINE.match(line):
-            name = found[1].decode("ascii").upper()
-            if name in LISTS:
-                current = name
-            elif name in NUMBERS:
-                numbers[name] = int(found[2])
-    if any(name not in numbers for name in NUMBERS):
-        raise Refusal(f"{path} is no instance any more")
-    vertices, capacity, depot = (numbers[name] for name in NUMBERS)
-    return Instance(vertices, capacity, depot, [edge for name in LISTS for edge in edges[name]])
-
-
-def read_tours(path: str) -> list[list[Move]]:
-    """Returns the tours of a certificate that `carp` accepts."""
-    tours = []
-    for line in contents(path).split(b"\n"):
-        words = line.decode("ascii").split(" ")
-        if words[0] == "tour":
-            tours.append([Move(int(step[1:]), step[0] in "+>", step[0] in "+-") for step in words[2:]])
-        elif words[0] == "shores":
-            break
-    return tours
 
 
 def read_key(path: str, instance: Instance) -> Key:

@@ -13,7 +13,8 @@ from html import escape
 from unicodedata import east_asian_width
 
 from carp_map.geometry import Place, Projection
-from carp_map.key import Instance, Key, Move, Step
+from carp_map.key import Key, Step
+from carp_run import Instance, Move
 
 Point = tuple[float, float]
 Box = tuple[float, float, float, float]

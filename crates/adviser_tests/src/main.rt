@@ -4,6 +4,7 @@
 
 mod liar;
 mod liars_tests;
+mod listener;
 
 use samples::try_cases;
 use std::test::Fail;

@@ -1,8 +1,8 @@
 -- What a run leaves that makes its helpers itself.
 use Rattle.std.specs.Prelude.{◌≡◌, ℕ, Bool, List, [], Option, length, ◌⊎◌}
-use Rattle.command_words.specs.Commands.{Command}
-use Rattle.command_jobs.specs.declared.status.Status.{Status}
-use Rattle.command_jobs.specs.declared.status.Status.TheVariants.{Memory}
+use Rattle.command_line.specs.Commands.{Command}
+use Rattle.command_inputs.specs.declared.status.Status.{Status}
+use Rattle.command_inputs.specs.declared.status.Status.TheVariants.{Memory}
 use Rattle.carp_cli.specs.Outside.{Outside}
 use Rattle.carp_cli.specs.Runs.{IsUntouched, Leaves}
 

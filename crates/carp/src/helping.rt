@@ -1,7 +1,7 @@
 // The helpers and the advisers of the program.
-ghost use Rattle.std.specs.Prelude.{◌≡◌, ℕ, List, Option};
-ghost use Rattle.command_words.specs.Words.{command_of, texts_of};
-ghost use Rattle.carp_cli.specs.Outside.{Outside};
+ghost use Rattle.std.specs.Prelude.{◌≡◌};
+ghost use Rattle.command_line.specs.Words.{command_of, texts_of};
+ghost use Rattle.carp_cli.specs.Outside.{outside_of};
 ghost use Rattle.carp.specs.Helped.{LeavesByHelpers};
 
 use augment_merge::Merger;
@@ -48,25 +48,11 @@ pub(crate) fn run_with_helpers<H: Shelf, O: Sink, W: Watch>(
     out: &mut O,
     watch: &mut W,
 ) -> Status
-    ensures leaves { let before : List (Option ℕ) → Outside = λ offered. record {
-      contents = H.contents shelf.old;
-      failed_looks = H.failed_looks shelf.old;
-      failed_keeps = H.failed_keeps shelf.old;
-      given = H.given shelf.old;
-      written = O.written out.old;
-      failed_puts = O.faults out.old;
-      offered = offered;
-    } in
-        let now : List (Option ℕ) → Outside = λ offered. record {
-          contents = H.contents shelf.new;
-          failed_looks = H.failed_looks shelf.new;
-          failed_keeps = H.failed_keeps shelf.new;
-          given = H.given shelf.new;
-          written = O.written out.new;
-          failed_puts = O.faults out.new;
-          offered = offered;
-        } in
-        LeavesByHelpers 4 H.tells O.tells (command_of (texts_of words.now)) before now result }
+    ensures leaves { LeavesByHelpers 4 H.tells O.tells (command_of (texts_of words.now))
+        (outside_of (H.contents shelf.old) (H.failed_looks shelf.old) (H.failed_keeps shelf.old) (H.given shelf.old)
+        (O.written out.old) (O.faults out.old))
+        (outside_of (H.contents shelf.new) (H.failed_looks shelf.new) (H.failed_keeps shelf.new) (H.given shelf.new)
+        (O.written out.new) (O.faults out.new)) result }
 {
     let (scanner, merger, splitter, mover) = four_helpers();
     let (Ok(scanner), Ok(merger), Ok(splitter), Ok(mover)) = (

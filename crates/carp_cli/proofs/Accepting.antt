@@ -12,13 +12,13 @@ use Rattle.cert_format.specs.Good.{IsGood, with_counts}
 use Rattle.instance_edits.specs.Edits.{edited}
 use Rattle.town_maker.specs.Laws.{TownsAreValid}
 use Rattle.town_maker.specs.Towns.{town_of}
-use Rattle.command_words.specs.Commands.{Command, Solve, Check, Make, Upgrade, Edit, Improve, instance_at, certificate_at}
-use Rattle.command_jobs.specs.Files.{Holds, IsInstance, IsGoodText}
-use Rattle.command_jobs.specs.declared.status.Status.{Status}
-use Rattle.command_jobs.specs.declared.status.Status.TheVariants.{Accepted}
-use Rattle.command_jobs.specs.Inputs.{CanBeDone, IsUnread}
-use Rattle.command_works.specs.Texts.{answer_text}
-use Rattle.command_works.specs.Outputs.{Kept, Output}
+use Rattle.command_line.specs.Commands.{Command, Solve, Check, Make, Upgrade, Edit, Improve, instance_at, certificate_at}
+use Rattle.command_inputs.specs.Files.{Holds, IsInstance, IsGoodText}
+use Rattle.command_inputs.specs.declared.status.Status.{Status}
+use Rattle.command_inputs.specs.declared.status.Status.TheVariants.{Accepted}
+use Rattle.command_inputs.specs.Inputs.{CanBeDone, IsUnread}
+use Rattle.command_outputs.specs.Texts.{answer_text}
+use Rattle.command_outputs.specs.Outputs.{Kept, Output}
 use Rattle.carp_cli.specs.Outside.{Outside, AreKept}
 use Rattle.carp_cli.specs.Answers.{IsDoneStatus}
 use Rattle.carp_cli.specs.Refusals.{HasReport}

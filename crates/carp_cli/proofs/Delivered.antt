@@ -5,14 +5,14 @@ use Rattle.std.specs.List.{AllByRecursion}
 use Rattle.std.specs.Prelude.{◌⊎◌}
 use Rattle.carp_outside.specs.Causes.{Rose}
 use Rattle.carp_outside.specs.Told.{SameContents, WroteFront}
-use Rattle.command_words.specs.Commands.{Command}
-use Rattle.command_works.specs.Outputs.{Kept, Output}
+use Rattle.command_line.specs.Commands.{Command}
+use Rattle.command_outputs.specs.Outputs.{Kept, Output}
 use Rattle.carp_cli.specs.Outside.{Outside, found, AreKept, AreKeptInPart, IsLeftShort}
 use Rattle.carp_cli.specs.Runs.{IsHelped, Leaves}
 use Rattle.carp_cli.specs.Steps.{IsPrepared}
 use Rattle.carp_cli.proofs.Refusing.{done_reports}
-use Rattle.command_jobs.specs.declared.status.Status.{Status}
-use Rattle.command_jobs.specs.declared.status.Status.TheVariants.{WriteFault, Memory}
+use Rattle.command_inputs.specs.declared.status.Status.{Status}
+use Rattle.command_inputs.specs.declared.status.Status.TheVariants.{WriteFault, Memory}
 
 kept_elsewhere : (kept : List Kept) (before now : List ℕ → Option (List ℕ)) → AreKept kept before now → (other : List ℕ) → AllByRecursion (λ k. other ≢ k.name) kept → now other ≡ before other
 kept_elsewhere [] before now same other apart = same other

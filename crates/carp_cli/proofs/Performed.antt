@@ -5,29 +5,29 @@ use Rattle.std.specs.Prelude.{Result, Ok, Err, IsSomeAnd}
 use Rattle.carp_base.specs.declared.fail.Fail.{Fail}
 use Rattle.carp_base.specs.declared.fail.Fail.TheVariants.{Refused}
 use Rattle.cert_lines.specs.Texts as certificates
-use Rattle.command_words.specs.Commands.{Command, Solve, Check, Sheet, Make, Drill, Upgrade, Postman, Fleet, Edit, Improve, Source, asks_helpers, keeps, seed_of}
-use Rattle.command_jobs.specs.Files.{GivenIn, HeldIn}
-use Rattle.command_jobs.specs.Reads.{IsTried, Seen}
-use Rattle.command_jobs.specs.declared.status.Status.{Status}
-use Rattle.command_jobs.specs.declared.status.Status.TheVariants.{BadUsage}
-use Rattle.command_jobs.specs.Inputs.{IsRefusalOf, IsRefused, CanBeDone, IsUnread}
-use Rattle.command_jobs.specs.Jobs.{IsFor, IsGathered, IsJobOf, IsSoundJob, WasRead}
-use Rattle.command_jobs.specs.declared.job.Job.{Job}
-use Rattle.command_jobs.specs.declared.job.Job.TheVariants as jobs
-use Rattle.command_works.specs.Made.{IsMade, job_asks, job_seed}
-use Rattle.command_works.specs.Solving.{IsSolvedBy}
-use Rattle.command_works.specs.Improving.{IsImprovedBy}
-use Rattle.command_works.specs.Drills.{IsDrilled}
-use Rattle.command_works.specs.Fleets.{IsFleetFound}
+use Rattle.command_line.specs.Commands.{Command, Solve, Check, Sheet, Make, Drill, Upgrade, Postman, Fleet, Edit, Improve, Source, asks_helpers, keeps, seed_of}
+use Rattle.command_inputs.specs.Files.{GivenIn, HeldIn}
+use Rattle.command_inputs.specs.Reads.{IsTried, Seen}
+use Rattle.command_inputs.specs.declared.status.Status.{Status}
+use Rattle.command_inputs.specs.declared.status.Status.TheVariants.{BadUsage}
+use Rattle.command_inputs.specs.Inputs.{IsRefusalOf, IsRefused, CanBeDone, IsUnread}
+use Rattle.command_inputs.specs.Jobs.{IsFor, IsGathered, IsJobOf, IsSoundJob, WasRead}
+use Rattle.command_inputs.specs.declared.job.Job.{Job}
+use Rattle.command_inputs.specs.declared.job.Job.TheVariants as jobs
+use Rattle.command_outputs.specs.Made.{IsMade, job_asks, job_seed}
+use Rattle.command_outputs.specs.Solving.{IsSolvedBy}
+use Rattle.command_outputs.specs.Improving.{IsImprovedBy}
+use Rattle.command_outputs.specs.Drills.{IsDrilled}
+use Rattle.command_outputs.specs.Fleets.{IsFleetFound}
 use Rattle.cert_format.specs.Certs.{certificate_in}
 use Rattle.cert_format.specs.Good.{IsProof}
 use Rattle.carp_base.specs.Problem.{Problem, IsValid}
 use Rattle.cert_transfer.specs.Transfer.{IsCarriedOver}
-use Rattle.command_jobs.specs.Edited.{IsEditedFrom}
-use Rattle.command_jobs.specs.declared.edited.Edited.{Edited}
+use Rattle.command_inputs.specs.Edited.{IsEditedFrom}
+use Rattle.command_inputs.specs.declared.edited.Edited.{Edited}
 use Rattle.carp_cli.specs.Editing.{AreEdited}
-use Rattle.command_works.specs.Texts.{answer_text}
-use Rattle.command_works.specs.Outputs.{Kept, Output}
+use Rattle.command_outputs.specs.Texts.{answer_text}
+use Rattle.command_outputs.specs.Outputs.{Kept, Output}
 use Rattle.carp_cli.specs.Outside.{Finding}
 use Rattle.carp_cli.specs.Answers.{IsDone, IsDoneStatus, IsKnown, refusal_output}
 use Rattle.carp_cli.specs.Refusals.{HasReport}

@@ -3,12 +3,12 @@ use Rattle.std.proofs.Common.{◌≡◌, ◌≢◌, ℕ, ◌++◌, List, [], ◌
 use Rattle.std.specs.Prelude.{IsSomeAnd}
 use Rattle.carp_base.specs.Problem.{Problem}
 use Rattle.carp_outside.specs.Told.{HoldsExactly}
-use Rattle.command_words.specs.Commands.{Command, Source, instance_at, certificate_at, edits_at}
-use Rattle.command_jobs.specs.Files.{HeldIn, IsBadFile, IsBadInstance, IsBadCertificate}
-use Rattle.command_jobs.specs.declared.status.Status.{Status}
-use Rattle.command_jobs.specs.Inputs.{IsBadPair, IsRefused}
-use Rattle.command_works.specs.Outputs.{Output}
-use Rattle.command_jobs.specs.Edited.{AreBadFiles, AreBadTexts, IsBadEdits}
+use Rattle.command_line.specs.Commands.{Command, Source, instance_at, certificate_at, edits_at}
+use Rattle.command_inputs.specs.Files.{HeldIn, IsBadFile, IsBadInstance, IsBadCertificate}
+use Rattle.command_inputs.specs.declared.status.Status.{Status}
+use Rattle.command_inputs.specs.Inputs.{IsBadPair, IsRefused}
+use Rattle.command_outputs.specs.Outputs.{Output}
+use Rattle.command_inputs.specs.Edited.{AreBadFiles, AreBadTexts, IsBadEdits}
 use Rattle.carp_cli.specs.Outside.{Outside, Finding, found, AreKept}
 use Rattle.carp_cli.specs.Answers.{IsDone, IsRight}
 use Rattle.carp_cli.specs.Refusals.{HasReport}

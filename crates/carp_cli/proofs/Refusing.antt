@@ -1,16 +1,16 @@
 -- By which answers commands are refused, and what is known of those that read nothing.
 use Rattle.std.proofs.Common.{◌≡◌, List, [], ℕ, Option, Some, inl, inr, IsTrue, Bool, subst, sym}
 use Rattle.std.specs.Prelude.{◌⊎◌}
-use Rattle.command_words.specs.Commands.{Command, Solve, Check, Sheet, Make, Drill, Upgrade, Postman, Fleet, Edit, Improve, Source, reads}
-use Rattle.command_jobs.specs.Files.{HeldIn}
-use Rattle.command_jobs.specs.Reads.{IsOfBytes, IsOfCertificate, IsOfFile, IsOfInstance, IsOfRound}
-use Rattle.command_jobs.specs.declared.status.Status.{Status}
-use Rattle.command_jobs.specs.declared.status.Status.TheVariants.{Proven, Gap, Accepted, Done, Rejected, BadInstance, BadCertificate, ReadFault, TooLong, NotJoined, BadEdit}
-use Rattle.command_jobs.specs.Edited.{IsOfEdits}
-use Rattle.command_jobs.specs.Inputs.{IsOfPair, IsRefusalOf, IsRefused}
-use Rattle.command_jobs.specs.Jobs.{WasRead}
-use Rattle.command_jobs.specs.declared.job.Job.{Job}
-use Rattle.command_jobs.specs.declared.job.Job.TheVariants as jobs
+use Rattle.command_line.specs.Commands.{Command, Solve, Check, Sheet, Make, Drill, Upgrade, Postman, Fleet, Edit, Improve, Source, reads}
+use Rattle.command_inputs.specs.Files.{HeldIn}
+use Rattle.command_inputs.specs.Reads.{IsOfBytes, IsOfCertificate, IsOfFile, IsOfInstance, IsOfRound}
+use Rattle.command_inputs.specs.declared.status.Status.{Status}
+use Rattle.command_inputs.specs.declared.status.Status.TheVariants.{Proven, Gap, Accepted, Done, Rejected, BadInstance, BadCertificate, ReadFault, TooLong, NotJoined, BadEdit}
+use Rattle.command_inputs.specs.Edited.{IsOfEdits}
+use Rattle.command_inputs.specs.Inputs.{IsOfPair, IsRefusalOf, IsRefused}
+use Rattle.command_inputs.specs.Jobs.{WasRead}
+use Rattle.command_inputs.specs.declared.job.Job.{Job}
+use Rattle.command_inputs.specs.declared.job.Job.TheVariants as jobs
 use Rattle.carp_cli.specs.Answers.{IsDoneStatus, IsKnown}
 use Rattle.carp_cli.specs.Refusals.{HasReport}
 

@@ -2,12 +2,12 @@
 use Rattle.std.specs.Prelude.{◌≡◌, ℕ, Bool, IsTrue, List, [], ◌∷◌, Option, None, Some, ◌⊎◌}
 use Rattle.dat_text.specs.DatText.{dat_of}
 use Rattle.town_maker.specs.Towns.{town_of}
-use Rattle.command_words.specs.Commands.{Command, Source, Solve, Check, Sheet, Make, Drill, Upgrade, Postman, Fleet, Edit, Improve, sources_of}
-use Rattle.command_jobs.specs.Files.{HeldIn}
-use Rattle.command_jobs.specs.Inputs.{IsRefused, IsUnread}
-use Rattle.command_works.specs.Drills.{IsDrilled}
-use Rattle.command_works.specs.Texts.{made_text}
-use Rattle.command_works.specs.Outputs.{Output}
+use Rattle.command_line.specs.Commands.{Command, Source, Solve, Check, Sheet, Make, Drill, Upgrade, Postman, Fleet, Edit, Improve, sources_of}
+use Rattle.command_inputs.specs.Files.{HeldIn}
+use Rattle.command_inputs.specs.Inputs.{IsRefused, IsUnread}
+use Rattle.command_outputs.specs.Drills.{IsDrilled}
+use Rattle.command_outputs.specs.Texts.{made_text}
+use Rattle.command_outputs.specs.Outputs.{Output}
 use Rattle.carp_cli.specs.Outside.{Finding}
 use Rattle.carp_cli.specs.Refusals.{refusal_text}
 use Rattle.carp_cli.specs.Solving.{IsSolved}
@@ -15,8 +15,8 @@ use Rattle.carp_cli.specs.Improving.{IsImprovedFrom}
 use Rattle.carp_cli.specs.Checking.{IsChecked, IsSpelledOut, IsUpgraded}
 use Rattle.carp_cli.specs.Neighbours.{IsRoundFound, IsFleetCounted}
 use Rattle.carp_cli.specs.Editing.{IsCarriedAlong}
-use Rattle.command_jobs.specs.declared.status.Status.{Status}
-use Rattle.command_jobs.specs.declared.status.Status.TheVariants.{Proven, Gap, Accepted, Done, BadUsage, ReadFault}
+use Rattle.command_inputs.specs.declared.status.Status.{Status}
+use Rattle.command_inputs.specs.declared.status.Status.TheVariants.{Proven, Gap, Accepted, Done, BadUsage, ReadFault}
 
 -- the answers of a command that is done
 abbrev pub IsDoneStatus : Command → Status → Type 0

@@ -5,10 +5,10 @@ use Rattle.cert_lines.specs.Certificates.{Certificate}
 use Rattle.cert_lines.specs.Texts as certificates
 use Rattle.cert_format.specs.Good.{IsGood, with_counts}
 use Rattle.plan_print.specs.Sheet.{sheet_text}
-use Rattle.command_words.specs.Commands.{Source}
-use Rattle.command_jobs.specs.Jobs.{AreCertified}
-use Rattle.command_works.specs.Texts.{answer_text}
-use Rattle.command_works.specs.Outputs.{Output}
+use Rattle.command_line.specs.Commands.{Source}
+use Rattle.command_inputs.specs.Jobs.{AreCertified}
+use Rattle.command_outputs.specs.Texts.{answer_text}
+use Rattle.command_outputs.specs.Outputs.{Output}
 
 -- the two files are the texts of an instance and of a certificate that is good for it; its cost and its bound are to be written
 pub record IsChecked (Reads : Source → (List ℕ → Type 0) → Type 0) (file cert : List ℕ) (output : Output) : Type 0 where

@@ -10,9 +10,9 @@ use Rattle.cert_transfer.specs.Transfer.{IsCarriedOver}
 use Rattle.instance_edits.specs.declared.edit.Edit.{Edit}
 use Rattle.instance_edits.specs.Edits.{edited}
 use Rattle.instance_edits.specs.Texts.{IsEditsText}
-use Rattle.command_words.specs.Commands.{Source, instance_at, certificate_at, edits_at}
-use Rattle.command_works.specs.Texts.{edit_text}
-use Rattle.command_works.specs.Outputs.{Output}
+use Rattle.command_line.specs.Commands.{Source, instance_at, certificate_at, edits_at}
+use Rattle.command_outputs.specs.Texts.{edit_text}
+use Rattle.command_outputs.specs.Outputs.{Output}
 
 -- three files are the texts of an instance, of a certificate that is good for it, and of edits of it
 pub record AreEdited (Reads : Source → (List ℕ → Type 0) → Type 0) (file cert edits : List ℕ) (instance : Problem) (certificate : Certificate) (changes : List Edit) : Type 0 where

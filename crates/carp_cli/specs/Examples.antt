@@ -2,7 +2,7 @@
 use Rattle.std.specs.Prelude.{ℕ, [], None, List, codes}
 use Rattle.carp_base.specs.Problem.{Problem}
 use Rattle.cert_lines.specs.Certificates.{Certificate}
-use Rattle.command_words.specs.Commands.{Command, Solve, Check, Make, Postman, Edit, Improve}
+use Rattle.command_line.specs.Commands.{Command, Solve, Check, Make, Postman, Edit, Improve}
 use Rattle.carp_cli.specs.Outside.{Outside}
 
 -- an instance with nothing to serve

@@ -1,12 +1,12 @@
 -- What an answer rests on, whether or not contents are told.
 use Rattle.std.specs.Prelude.{◌≡◌, ℕ, List, Option, None, Some, ◌⊎◌}
-use Rattle.command_words.specs.Commands.{Command}
-use Rattle.command_jobs.specs.Files.{GivenIn}
-use Rattle.command_jobs.specs.Inputs.{IsRefusalOf}
-use Rattle.command_works.specs.Outputs.{Output}
+use Rattle.command_line.specs.Commands.{Command}
+use Rattle.command_inputs.specs.Files.{GivenIn}
+use Rattle.command_inputs.specs.Inputs.{IsRefusalOf}
+use Rattle.command_outputs.specs.Outputs.{Output}
 use Rattle.carp_cli.specs.Answers.{IsDone, IsDoneStatus, refusal_output}
-use Rattle.command_jobs.specs.declared.status.Status.{Status}
-use Rattle.command_jobs.specs.declared.status.Status.TheVariants.{BadUsage}
+use Rattle.command_inputs.specs.declared.status.Status.{Status}
+use Rattle.command_inputs.specs.declared.status.Status.TheVariants.{BadUsage}
 
 -- A command answers so: by an answer with which it can be refused, or it is done, and all that this says of its files is so of bytes that the files
 -- gave in this call, by the count of given bytes before and now. Thus a certificate is accepted only if bytes that were read now spell one that is good

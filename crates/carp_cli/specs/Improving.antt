@@ -2,11 +2,11 @@
 use Rattle.std.specs.Prelude.{ℕ, List, Option}
 use Rattle.carp_base.specs.Problem.{Problem}
 use Rattle.cert_lines.specs.Certificates.{Certificate}
-use Rattle.command_words.specs.Commands.{Source}
-use Rattle.command_jobs.specs.Jobs.{AreCertified}
-use Rattle.command_jobs.specs.declared.status.Status.{Status}
-use Rattle.command_works.specs.Improving.{IsImprovedBy}
-use Rattle.command_works.specs.Outputs.{Output}
+use Rattle.command_line.specs.Commands.{Source}
+use Rattle.command_inputs.specs.Jobs.{AreCertified}
+use Rattle.command_inputs.specs.declared.status.Status.{Status}
+use Rattle.command_outputs.specs.Improving.{IsImprovedBy}
+use Rattle.command_outputs.specs.Outputs.{Output}
 
 -- the two files are the texts of an instance and of a certificate that is good for it, which is gone on with
 pub record IsImprovedFrom (Reads : Source → (List ℕ → Type 0) → Type 0) (file cert improved : List ℕ) (asked : ℕ) (offered : List (Option ℕ)) (status : Status) (output : Output) : Type 0 where

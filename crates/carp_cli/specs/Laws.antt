@@ -6,12 +6,12 @@ use Rattle.cert_lines.specs.Certificates.{Certificate}
 use Rattle.cert_lines.specs.Texts as certificates
 use Rattle.plan_print.specs.Report.{report_text}
 use Rattle.town_maker.specs.Towns.{town_of}
-use Rattle.command_words.specs.Commands.{Command, Solve, Check, Make, Upgrade, Edit, Improve, instance_at, certificate_at}
-use Rattle.command_jobs.specs.Files.{Holds}
-use Rattle.command_jobs.specs.declared.status.Status.{Status}
-use Rattle.command_jobs.specs.declared.status.Status.TheVariants.{Proven, Gap, Accepted, Done}
-use Rattle.command_jobs.specs.Inputs.{IsUnread}
-use Rattle.command_works.specs.Texts.{answer_text, edit_text}
+use Rattle.command_line.specs.Commands.{Command, Solve, Check, Make, Upgrade, Edit, Improve, instance_at, certificate_at}
+use Rattle.command_inputs.specs.Files.{Holds}
+use Rattle.command_inputs.specs.declared.status.Status.{Status}
+use Rattle.command_inputs.specs.declared.status.Status.TheVariants.{Proven, Gap, Accepted, Done}
+use Rattle.command_inputs.specs.Inputs.{IsUnread}
+use Rattle.command_outputs.specs.Texts.{answer_text, edit_text}
 use Rattle.carp_cli.specs.Outside.{Outside}
 use Rattle.carp_cli.specs.Runs.{Leaves, IsNoAnswer}
 

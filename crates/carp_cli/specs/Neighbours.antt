@@ -5,11 +5,11 @@ use Rattle.plan_model.specs.declared.step.Step.{Step}
 use Rattle.cut_pool.specs.declared.shore.Weighted.{Weighted}
 use Rattle.dat_text.specs.Text.{IsTextOf}
 use Rattle.postman.specs.Rounds.{IsShownRound}
-use Rattle.command_words.specs.Commands.{Source, instance_at}
-use Rattle.command_jobs.specs.declared.status.Status.{Status}
-use Rattle.command_works.specs.Fleets.{IsFleetFound}
-use Rattle.command_works.specs.Rounds.{round_text}
-use Rattle.command_works.specs.Outputs.{Output}
+use Rattle.command_line.specs.Commands.{Source, instance_at}
+use Rattle.command_inputs.specs.declared.status.Status.{Status}
+use Rattle.command_outputs.specs.Fleets.{IsFleetFound}
+use Rattle.command_outputs.specs.Rounds.{round_text}
+use Rattle.command_outputs.specs.Outputs.{Output}
 
 -- the file is the text of an instance, and a least closed walk over its required edges is to be written: no other costs less
 pub record IsRoundFound (Reads : Source → (List ℕ → Type 0) → Type 0) (file : List ℕ) (output : Output) : Type 0 where

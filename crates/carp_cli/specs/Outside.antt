@@ -2,7 +2,7 @@
 use Rattle.std.specs.Prelude.{◌≡◌, ℕ, Bool, IsTrue, List, [], ◌∷◌, Option, ◌⊎◌}
 use Rattle.carp_outside.specs.Causes.{Rose}
 use Rattle.carp_outside.specs.Told.{HoldsExactly, HoldsFront, SameContents, WroteFront}
-use Rattle.command_works.specs.Outputs.{Kept, Output}
+use Rattle.command_outputs.specs.Outputs.{Kept, Output}
 
 -- what each name holds and what was written, as they are told, how many looks at each name, keeps and puts failed, how many bytes were
 -- given, and the least cost of the lawful plans that each helper offered
@@ -14,6 +14,17 @@ pub record Outside : Type 0 where
   pub written : List ℕ
   pub failed_puts : ℕ
   pub offered : List (Option ℕ)
+
+abbrev pub outside_of : (contents : List ℕ → Option (List ℕ)) (failed_looks : List ℕ → ℕ) (failed_keeps given : ℕ) (written : List ℕ) (failed_puts : ℕ) (offered : List (Option ℕ)) → Outside
+outside_of contents failed_looks failed_keeps given written failed_puts offered = record {
+  contents = contents;
+  failed_looks = failed_looks;
+  failed_keeps = failed_keeps;
+  given = given;
+  written = written;
+  failed_puts = failed_puts;
+  offered = offered;
+}
 
 -- what a command finds: the contents at its beginning, the failed looks at its beginning and at its end, and what helpers offered
 pub record Finding : Type 0 where

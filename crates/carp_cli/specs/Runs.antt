@@ -1,18 +1,18 @@
 -- What a run leaves, by its answer: each clause is said once for all commands.
-use Rattle.std.specs.Prelude.{◌≡◌, ◌≢◌, ℕ, ◌+◌, ◌++◌, List, Bool, IsTrue, Option, None, Some, ◌⊎◌}
+use Rattle.std.specs.Prelude.{◌≡◌, ◌≢◌, ℕ, ◌+◌, ◌%◌, ◌^◌, ◌≤◌, ◌++◌, List, Bool, false, IsTrue, Option, None, Some, ◌⊎◌, All, EachIndex, map, slice_index}
 use Rattle.std.specs.List.{AllByRecursion}
 use Rattle.carp_outside.specs.Causes.{Rose, RoseBy}
 use Rattle.carp_outside.specs.Told.{SameContents}
-use Rattle.command_words.specs.Commands.{Command, asks_helpers, sources_of, kept_by}
-use Rattle.command_jobs.specs.Files.{RoseAtSome, HasLimit}
-use Rattle.command_jobs.specs.Inputs.{IsRefused, CanBeDone, IsUnread}
-use Rattle.command_works.specs.Outputs.{Output}
+use Rattle.command_line.specs.Commands.{Command, asks_helpers, is_helped, sources_of, kept_by, seed_by}
+use Rattle.command_inputs.specs.Files.{RoseAtSome, HasLimit}
+use Rattle.command_inputs.specs.Inputs.{IsRefused, CanBeDone, IsUnread}
+use Rattle.command_outputs.specs.Outputs.{Output}
 use Rattle.carp_cli.specs.Outside.{Outside, found, AreKept, IsLeftShort}
 use Rattle.carp_cli.specs.Answers.{IsDoneStatus, IsKnown, IsRightOf, refusal_output}
 use Rattle.carp_cli.specs.Founded.{IsFoundedOf}
 use Rattle.carp_cli.specs.Refusals.{HasReport}
-use Rattle.command_jobs.specs.declared.status.Status.{Status}
-use Rattle.command_jobs.specs.declared.status.Status.TheVariants.{BadUsage, ReadFault, WriteFault, Memory, TooLong}
+use Rattle.command_inputs.specs.declared.status.Status.{Status}
+use Rattle.command_inputs.specs.declared.status.Status.TheVariants.{BadUsage, ReadFault, WriteFault, Memory, TooLong}
 
 -- an answer with its output: it is founded, whatever is told; and if what the command reads is told, it is right for what was found
 pub record IsRunAnswer (contents_told : Bool) (command : Option Command) (before now : Outside) (status : Status) (output : Output) : Type 0 where
@@ -43,6 +43,15 @@ pub record IsUntouched (contents_told written_told : Bool) (before now : Outside
 abbrev pub IsHelped : Option Command → Status → Type 0
 IsHelped None status = ⊥
 IsHelped (Some c) status = IsTrue (asks_helpers c) × IsDoneStatus c status
+
+-- What a run leaves of its helpers. They stay in their order, and only a command that asks them changes them. If it is done, they have the seeds
+-- from that of the command on, each was asked, and each offered one unlawful plan at most.
+pub record LeavesHelpers {H : Type 0} (id seed times_asked fouls : H → ℕ) (command : Option Command) (before after : List H) (status : Status) : Type 0 where
+  pub order : map id after ≡ map id before
+  pub unasked : is_helped command ≡ false → after ≡ before
+  pub seeds : IsHelped command status → EachIndex after (λ k. slice_index (map seed after) k ≡ (seed_by command + k) % 2 ^ 64)
+  pub asked : IsHelped command status → All (λ helper. 1 ≤ times_asked helper) after
+  pub few_fouls : IsHelped command status → All (λ helper. fouls helper ≤ 1) after
 
 -- an answer that could not be written, or for which there was no memory
 abbrev pub IsNoAnswer : Status → Type 0

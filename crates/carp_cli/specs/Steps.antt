@@ -2,16 +2,16 @@
 use Rattle.std.specs.Prelude.{◌≡◌, ◌≢◌, ℕ, ◌+◌, List, Bool, Option, None, Some}
 use Rattle.std.specs.List.{AllByRecursion}
 use Rattle.carp_outside.specs.Causes.{RoseBy}
-use Rattle.command_words.specs.Commands.{Command, sources_of, kept_by}
-use Rattle.command_jobs.specs.Files.{RoseAtSome, HasLimit}
-use Rattle.command_jobs.specs.Inputs.{IsRefused, CanBeDone, IsUnread}
-use Rattle.command_works.specs.Outputs.{Output}
+use Rattle.command_line.specs.Commands.{Command, sources_of, kept_by}
+use Rattle.command_inputs.specs.Files.{RoseAtSome, HasLimit}
+use Rattle.command_inputs.specs.Inputs.{IsRefused, CanBeDone, IsUnread}
+use Rattle.command_outputs.specs.Outputs.{Output}
 use Rattle.carp_cli.specs.Outside.{Finding}
 use Rattle.carp_cli.specs.Answers.{IsDoneStatus, IsKnown, IsRightOf, refusal_output}
 use Rattle.carp_cli.specs.Founded.{IsFoundedOf}
 use Rattle.carp_cli.specs.Refusals.{HasReport}
-use Rattle.command_jobs.specs.declared.status.Status.{Status}
-use Rattle.command_jobs.specs.declared.status.Status.TheVariants.{BadUsage, ReadFault, WriteFault, Memory, TooLong}
+use Rattle.command_inputs.specs.declared.status.Status.{Status}
+use Rattle.command_inputs.specs.declared.status.Status.TheVariants.{BadUsage, ReadFault, WriteFault, Memory, TooLong}
 
 -- what is to be answered, and what for
 pub record IsPrepared (contents_told : Bool) (command : Option Command) (found : Finding) (given_before given_now : ℕ) (status : Status) (output : Output) : Type 0 where

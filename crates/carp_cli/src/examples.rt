@@ -1,16 +1,16 @@
 // Small data at which the facts of a run hold, and small data at which they do not.
 ghost use Rattle.std.specs.Prelude.{◌≡◌, [], ◌∷◌, None, Some, false, true, codes};
 ghost use Rattle.carp_engine.specs.Solutions.{IsSound};
-ghost use Rattle.command_jobs.specs.Files.{GivenIn, HeldIn, HasLimit, RoseAtSome};
-ghost use Rattle.command_jobs.specs.Reads.{IsOfBytes, IsOfCertificate, IsOfFile, IsOfInstance, IsOfNone, IsOfRound};
-ghost use Rattle.command_jobs.specs.Inputs.{IsRefusalOf};
-ghost use Rattle.command_words.specs.Commands.{Drill, instance_at, reads};
-ghost use Rattle.command_words.specs.Laws.{HasBudget};
+ghost use Rattle.command_inputs.specs.Files.{GivenIn, HeldIn, HasLimit, RoseAtSome};
+ghost use Rattle.command_inputs.specs.Reads.{IsOfBytes, IsOfCertificate, IsOfFile, IsOfInstance, IsOfNone, IsOfRound};
+ghost use Rattle.command_inputs.specs.Inputs.{IsRefusalOf};
+ghost use Rattle.command_line.specs.Commands.{Drill, instance_at, reads};
+ghost use Rattle.command_line.specs.Laws.{HasBudget};
 ghost use Rattle.carp_cli.specs.Outside.{AreKept, AreKeptInPart};
 ghost use Rattle.carp_cli.specs.Answers.{IsDoneStatus, IsKnown, refusal_output};
 ghost use Rattle.carp_cli.specs.Founded.{IsFounded, IsFoundedOf};
-ghost use Rattle.command_works.specs.Solving.{IsEnding};
-ghost use Rattle.command_works.specs.Outputs.{Output};
+ghost use Rattle.command_outputs.specs.Solving.{IsEnding};
+ghost use Rattle.command_outputs.specs.Outputs.{Output};
 ghost use Rattle.carp_cli.specs.Refusals.{HasReport};
 ghost use Rattle.carp_cli.specs.Runs.{IsHelped, Leaves};
 ghost use Rattle.carp_cli.specs.Examples.{idle, stating, solving, checking, making, touring, editing, improving, outside};

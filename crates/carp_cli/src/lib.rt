@@ -5,7 +5,7 @@
 //! [`run`] is the same call with no advisers, and nobody who is told how far it is. [`DirShelf`] and [`StdSink`] make the files of the
 //! system and a writer, such as the standard output, into these.
 //!
-//! `command_words` reads a command, `command_jobs` reads its files and checks their certificates, and `command_works`
+//! `command_line` reads a command, `command_inputs` reads its files and checks their certificates, and `command_outputs`
 //! makes what it asks for.
 //!
 //! [`kept_is_accepted`] says how two runs fit: what `solve` keeps, `check` accepts.
@@ -27,7 +27,7 @@ mod running;
 mod std_sink;
 mod terminal;
 
-pub use command_jobs::Status;
+pub use command_inputs::Status;
 pub use dir_shelf::DirShelf;
 pub use laws::kept_is_accepted;
 pub use running::{run, run_with};

@@ -3,7 +3,7 @@ ghost use Rattle.std.specs.Prelude.{◌≡◌, IfOk};
 ghost use Rattle.carp_cli.specs.Refusals.{apart_line, limit_line, refusal_text};
 
 use carp_base::Memory;
-use command_jobs::Status;
+use command_inputs::Status;
 use plan_print::{
     certificate_fault_line, edit_fault_line, instance_fault_line, push_words, rejection_line,
 };

@@ -1,23 +1,23 @@
 // The top call.
 ghost use Rattle.std.specs.Prelude.{◌≡◌, ◌≤◌, ◌%◌, ◌^◌, ◌+◌, Some, map, slice_index, All, EachIndex, IsTrue, IfOk, false};
 ghost use Rattle.carp_outside.specs.Told.{SameContents};
-ghost use Rattle.command_words.specs.Commands.{asks_helpers, is_helped, seed_by, seed_of};
-ghost use Rattle.command_words.specs.Words.{command_of, texts_of};
-ghost use Rattle.carp_cli.specs.Outside.{Outside, Finding};
+ghost use Rattle.command_line.specs.Commands.{asks_helpers, is_helped, seed_by, seed_of};
+ghost use Rattle.command_line.specs.Words.{command_of, texts_of};
+ghost use Rattle.carp_cli.specs.Outside.{outside_of, Finding};
 ghost use Rattle.carp_cli.specs.Answers.{refusal_output};
-ghost use Rattle.carp_cli.specs.Runs.{Leaves, IsHelped};
+ghost use Rattle.carp_cli.specs.Runs.{Leaves, LeavesHelpers, IsHelped};
 ghost use Rattle.carp_cli.specs.Steps.{IsPrepared};
-ghost use Rattle.command_words.specs.Laws.{HasBudget};
-ghost use Rattle.command_works.specs.Outputs.{output_in};
-ghost use Rattle.command_words.specs.Forms.{command_in};
+ghost use Rattle.command_line.specs.Laws.{HasBudget};
+ghost use Rattle.command_outputs.specs.Outputs.{output_in};
+ghost use Rattle.command_line.specs.Forms.{command_in};
 
 use crate::delivering::deliver;
 use crate::refusals::refusal;
 use carp_base::{Fail, Memory};
 use carp_outside::{Shelf, Sink};
-use command_jobs::{Status, gather};
-use command_words::{Command, budgets_are_in_range, read_words};
-use command_works::{Delivery, make};
+use command_inputs::{Status, gather};
+use command_line::{Command, budgets_are_in_range, read_words};
+use command_outputs::{Delivery, make};
 use leaf_adviser::Adviser;
 use plan_model::Proposer;
 use progress::{Silent, Watch};
@@ -55,11 +55,11 @@ use std::alloc::Global;
 ///   It ends `BadEdit` if the edits cannot be read, name an edge that they may not change, or make an instance with a
 ///   fault.
 ///
-/// All other words are bad usage. [`command_words::read_words`] says which are plain. All texts are built in memory
-/// before anything is kept or written. It takes the time of reading ([`command_jobs::gather`]) and of making
-/// ([`command_works::make`]), and of keeping and writing in proportion to the bytes.
+/// All other words are bad usage. [`command_line::read_words`] says which are plain. All texts are built in memory
+/// before anything is kept or written. It takes the time of reading ([`command_inputs::gather`]) and of making
+/// ([`command_outputs::make`]), and of keeping and writing in proportion to the bytes.
 ///
-/// The contract is said once for all commands, by the tables of `command_words` and of `specs/Answers.antt`: [`Status`]
+/// The contract is said once for all commands, by the tables of `command_line` and of `specs/Answers.antt`: [`Status`]
 /// says when each answer comes, and `Leaves` what stands after it. What it says of the contents of names and of what
 /// was written holds if the shelf and the sink tell it, as [`carp_outside::MemShelf`] and [`carp_outside::MemSink`] do.
 ///
@@ -93,33 +93,13 @@ pub fn run<H: Shelf, O: Sink>(
     out: &mut O,
     helpers: &mut Vec<Box<dyn Proposer>>,
 ) -> Status
-    ensures leaves { let before : Outside = record {
-      contents = H.contents shelf.old;
-      failed_looks = H.failed_looks shelf.old;
-      failed_keeps = H.failed_keeps shelf.old;
-      given = H.given shelf.old;
-      written = O.written out.old;
-      failed_puts = O.faults out.old;
-      offered = map (λ helper. (tally helper).least) helpers.old.items;
-    } in
-        let now : Outside = record {
-          contents = H.contents shelf.new;
-          failed_looks = H.failed_looks shelf.new;
-          failed_keeps = H.failed_keeps shelf.new;
-          given = H.given shelf.new;
-          written = O.written out.new;
-          failed_puts = O.faults out.new;
-          offered = map (λ helper. (tally helper).least) helpers.new.items;
-        } in
-        Leaves H.tells O.tells (command_of (texts_of words.now)) before now result }
-
-    // The helpers stay in their order. Only a command that asks them changes them.
-    ensures helpers { map id helpers.new.items ≡ map id helpers.old.items }
-    ensures unasked { is_helped (command_of (texts_of words.now)) ≡ false → helpers.new.items ≡ helpers.old.items }
-    ensures seeds { IsHelped (command_of (texts_of words.now)) result
-        → EachIndex helpers.new.items (λ k. slice_index (map seed helpers.new.items) k ≡ (seed_by (command_of (texts_of words.now)) + k) % 2 ^ 64) }
-    ensures asked { IsHelped (command_of (texts_of words.now)) result → All (λ helper. 1 ≤ asked helper) helpers.new.items }
-    ensures fouls { IsHelped (command_of (texts_of words.now)) result → All (λ helper. (tally helper).fouls ≤ 1) helpers.new.items }
+    ensures leaves { Leaves H.tells O.tells (command_of (texts_of words.now))
+        (outside_of (H.contents shelf.old) (H.failed_looks shelf.old) (H.failed_keeps shelf.old) (H.given shelf.old)
+        (O.written out.old) (O.faults out.old) (map (λ helper. (tally helper).least) helpers.old.items))
+        (outside_of (H.contents shelf.new) (H.failed_looks shelf.new) (H.failed_keeps shelf.new) (H.given shelf.new)
+        (O.written out.new) (O.faults out.new) (map (λ helper. (tally helper).least) helpers.new.items)) result }
+    ensures helpers { LeavesHelpers id seed asked (λ helper. (tally helper).fouls) (command_of (texts_of words.now))
+        helpers.old.items helpers.new.items result }
 {
     let mut none: Vec<Box<dyn Adviser>> = Vec::new(alloc);
     run_with(alloc, words, shelf, out, helpers, &mut none, &mut Silent)
@@ -137,33 +117,13 @@ pub fn run_with<H: Shelf, O: Sink, W: Watch>(
     advisers: &mut Vec<Box<dyn Adviser>>,
     watch: &mut W,
 ) -> Status
-    ensures leaves { let before : Outside = record {
-      contents = H.contents shelf.old;
-      failed_looks = H.failed_looks shelf.old;
-      failed_keeps = H.failed_keeps shelf.old;
-      given = H.given shelf.old;
-      written = O.written out.old;
-      failed_puts = O.faults out.old;
-      offered = map (λ helper. (tally helper).least) helpers.old.items;
-    } in
-        let now : Outside = record {
-          contents = H.contents shelf.new;
-          failed_looks = H.failed_looks shelf.new;
-          failed_keeps = H.failed_keeps shelf.new;
-          given = H.given shelf.new;
-          written = O.written out.new;
-          failed_puts = O.faults out.new;
-          offered = map (λ helper. (tally helper).least) helpers.new.items;
-        } in
-        Leaves H.tells O.tells (command_of (texts_of words.now)) before now result }
-
-    // The helpers stay in their order. Only a command that asks them changes them.
-    ensures helpers { map id helpers.new.items ≡ map id helpers.old.items }
-    ensures unasked { is_helped (command_of (texts_of words.now)) ≡ false → helpers.new.items ≡ helpers.old.items }
-    ensures seeds { IsHelped (command_of (texts_of words.now)) result
-        → EachIndex helpers.new.items (λ k. slice_index (map seed helpers.new.items) k ≡ (seed_by (command_of (texts_of words.now)) + k) % 2 ^ 64) }
-    ensures asked { IsHelped (command_of (texts_of words.now)) result → All (λ helper. 1 ≤ asked helper) helpers.new.items }
-    ensures fouls { IsHelped (command_of (texts_of words.now)) result → All (λ helper. (tally helper).fouls ≤ 1) helpers.new.items }
+    ensures leaves { Leaves H.tells O.tells (command_of (texts_of words.now))
+        (outside_of (H.contents shelf.old) (H.failed_looks shelf.old) (H.failed_keeps shelf.old) (H.given shelf.old)
+        (O.written out.old) (O.faults out.old) (map (λ helper. (tally helper).least) helpers.old.items))
+        (outside_of (H.contents shelf.new) (H.failed_looks shelf.new) (H.failed_keeps shelf.new) (H.given shelf.new)
+        (O.written out.new) (O.faults out.new) (map (λ helper. (tally helper).least) helpers.new.items)) result }
+    ensures helpers { LeavesHelpers id seed asked (λ helper. (tally helper).fouls) (command_of (texts_of words.now))
+        helpers.old.items helpers.new.items result }
 {
     match prepare(alloc, words, shelf, helpers, advisers, watch) {
         Ok(delivery) => {

@@ -78,8 +78,8 @@ fn go_on<A: Adviser, W: Watch>(
     ensures searched { IfOk result (λ solved. IsSearched inst.now search.least search.turns search.best (certificate_in solved.cert) solved.turns) }
     ensures terse { IsLight (state_of search) → IfOk result (λ solved. IsTerse (certificate_in solved.cert)) }
 {
-    restart(alloc, advisers);
     let turns = search.budget();
+    restart(alloc, turns.saturating_sub(search.done()), advisers);
     let taken = take_turns(inst, turns, &mut search, advisers, watch);
     sum_up(alloc, inst, search, taken)
 }
@@ -104,10 +104,10 @@ fn sum_up(
     Ok(solved)
 }
 
-// Tells all advisers that a search begins.
-fn restart<A: Adviser>(alloc: Global, advisers: &mut Vec<A>) {
+// Tells all advisers that a search of so many turns begins.
+fn restart<A: Adviser>(alloc: Global, turns: u64, advisers: &mut Vec<A>) {
     for adviser in advisers.iter_mut() {
-        adviser.restart(alloc);
+        adviser.restart(alloc, turns);
     }
 }
 

@@ -1,16 +1,8 @@
--- Points, and where a generation of columns stands.
-use Rattle.std.specs.List.{All}
+-- Where a generation of columns stands.
 use Rattle.carp_base.specs.Problem.{Problem}
-use Rattle.route_pricing.specs.Pricing.{IsServicePrice}
-use Rattle.price_points.specs.Services.{AreServicePrices}
-use Rattle.column_generation.specs.declared.points.Point.{Point}
-use Rattle.column_generation.specs.declared.setting_out.Start.{Start}
-use Rattle.column_generation.specs.declared.generating.Generation.{Generation}
-
--- prices of services, and weights within the limits
-pub record IsPoint (p : Problem) (point : Point) : Type 0 where
-  pub prices : AreServicePrices p point.prices.items
-  pub weights : All IsServicePrice point.weights.items
+use Rattle.price_points.specs.Points.{IsPoint}
+use Rattle.column_generation.specs.declared.cold_start.Start.{Start}
+use Rattle.column_generation.specs.declared.generation.Generation.{Generation}
 
 -- its point is within the limits
 pub record IsStart (p : Problem) (start : Start) : Type 0 where

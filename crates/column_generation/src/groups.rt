@@ -6,11 +6,9 @@ ghost use Rattle.carp_base.specs.Problem.{IsRequired};
 ghost use Rattle.route_pricing.specs.Pricing.{IsServicePrice};
 ghost use Rattle.column_generation.specs.Groups.{AreOffered};
 
-use crate::constraints::{Constraint, Demand};
-use crate::points::negative;
 use branch_rules::WeightedGroup;
 use carp_base::{Instance, Memory};
-use price_points::number_at;
+use price_points::{Constraint, Demand, negative, number_at};
 use std::alloc::Global;
 
 // So many groups have a weight at most, and so many edges each.
@@ -23,42 +21,6 @@ const MOST_EDGES: usize = 120;
 const LONGEST_GROUPS: usize = 5_000;
 
 const HEAD: usize = 6;
-
-/// The edges of a group, by their rising numbers.
-#[derive(Drop)]
-pub(crate) struct Members {
-    pub(crate) edges: Vec<u32>,
-    // Whether each number is one of them.
-    marks: Vec<bool>,
-}
-
-impl Members {
-    /// The group of these edges, which are numbers up to `required`. Others do not count.
-    pub(crate) fn new(alloc: Global, required: u32, edges: &[u32]) -> Result<Members, Memory> {
-        let mut marks = vec![in alloc; false; required as usize + 1]?;
-        mark_all(&mut marks, edges);
-        Ok(Members {
-            edges: Vec::from_slice(alloc, edges)?,
-            marks,
-        })
-    }
-
-    /// Whether an edge is one of them. It takes constant time.
-    pub(crate) fn has(&self, e: u32) -> bool {
-        let place = e as usize;
-        place < self.marks.len() && self.marks[place]
-    }
-}
-
-// Marks these numbers.
-fn mark_all(marks: &mut [bool], edges: &[u32]) {
-    for e in edges {
-        let place = *e as usize;
-        if place < marks.len() {
-            marks[place] = true;
-        }
-    }
-}
 
 // Whether the numbers of the edges rise.
 fn rise(edges: &[u32]) -> bool

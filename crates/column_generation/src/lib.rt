@@ -19,57 +19,52 @@
 //!
 //! A solution of the program is sometimes a plan. Its tours are kept for whoever asks for them.
 //!
-//! - `tours`, `groups`, `constraints`: columns of tours, groups with weights, and rows beside those of the services.
+//! - `tours`, `groups`: columns of tours, and groups with weights.
 //! - `scale`, `master`: how great the numbers are, and all rows and columns known so far.
-//! - `points`, `ranking`, `easing`: prices and weights, and weights that no street is overloaded by.
-//! - `offers`, `querying`: what the table tells of a point.
-//! - `flows`, `effort`, `separating`: what the solution crosses and serves, and the rows that it violates.
-//! - `boxing`, `trimming`, `pace`: the box, rows and columns that go, and when the generation ends.
-//! - `setting_out`, `generating`: the start, and the loop.
+//! - `multipliers`: the point of a program. `offers`, `reply`: what the table tells of a point.
+//! - `flows`, `effort`, `separation`: what the solution crosses and serves, and the rows that it violates.
+//! - `boxstep`, `removal`, `pace`: the box, rows and columns that go, and when the generation ends.
+//! - `cold_start`, `generation`: the start, and the loop.
 //! - `size`, `limits`: instances that are small enough, and how far a generation goes.
-//! - `offering`, `proposing`: the best point as a price set, and when it is proposed. `numbers`: small arithmetic.
-//! - `deciding`: rows of decisions, and tours that they forbid.
-//! - `keeping`, `taking_up`, `beginning`: what is kept of a generation, how another one goes on from it, and how the
-//!   first one begins.
-//! - `trying`: what a child of the leaf comes to. `whole`: solutions that show a plan.
-//! - `telling`: what is told of a generation.
+//! - `proposal`: the best point as a price set, and when it is proposed. `numbers`: small arithmetic.
+//! - `decision_rows`: rows of decisions, and tours that they forbid.
+//! - `kept`, `warm_start`, `leaf_start`: what is kept of a generation, how another one goes on from it, and how one
+//!   begins for a leaf.
+//! - `trial`: what a child of the leaf comes to. `integral`: solutions that show a plan.
+//! - `accessors`: what is told of a generation.
 #![tactic(auto)]
 
-mod beginning;
-mod boxing;
-mod constraints;
-mod deciding;
-mod easing;
+mod accessors;
+mod boxstep;
+mod cold_start;
+mod decision_rows;
 mod effort;
 mod flows;
-mod generating;
+mod generation;
 mod groups;
-mod keeping;
+mod integral;
+mod kept;
+mod leaf_start;
 mod limits;
 mod master;
+mod multipliers;
 mod numbers;
-mod offering;
 mod offers;
 mod pace;
-mod points;
-mod proposing;
-mod querying;
-mod ranking;
+mod proposal;
+mod removal;
+mod reply;
 mod scale;
-mod separating;
-mod setting_out;
+mod separation;
 mod size;
-mod taking_up;
-mod telling;
 mod tours;
-mod trimming;
-mod trying;
-mod whole;
+mod trial;
+mod warm_start;
 
-pub use beginning::{adopted, begin, taken_up};
-pub use deciding::may_be_near;
+pub use decision_rows::may_be_near;
 pub use flows::Solution;
-pub use generating::Generation;
-pub use keeping::Kept;
-pub use proposing::enough_for;
+pub use generation::Generation;
+pub use kept::Kept;
+pub use leaf_start::{adopted, begin, taken_up};
+pub use proposal::enough_for;
 pub use size::is_small;

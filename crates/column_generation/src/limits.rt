@@ -13,10 +13,6 @@ const LEAF_WORK: u64 = 1_500_000_000;
 // So many entries of the program are touched in a trial of a decision.
 const TRIAL_WORK: u64 = 400_000_000;
 
-/// So many entries of programs are touched and so many steps of fills are made for all leaves together, but for what
-/// the last one takes.
-pub(crate) const MOST_WORK: u64 = 15_000_000_000;
-
 /// How far a generation goes.
 #[derive(Clone, Copy)]
 pub(crate) struct Limits {

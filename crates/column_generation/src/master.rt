@@ -2,8 +2,6 @@
 ghost use Rattle.std.specs.Prelude.{◌≡◌};
 ghost use Rattle.carp_base.specs.Problem.{IsRequired};
 
-use crate::constraints::{Constraint, Demand};
-use crate::groups::Members;
 use crate::numbers::{coefficient, mixed};
 use crate::scale::{Scale, shore_bounds, way_to};
 use crate::tours::Tour;
@@ -12,7 +10,7 @@ use carp_base::{Edge, Instance, Memory};
 use cut_pool::Shore;
 use deadhead_paths::Distances;
 use linear_program::{ColumnId, Columns, Entry, RowBounds, RowId};
-use price_points::UNIT;
+use price_points::{Constraint, Demand, Members, UNIT};
 use std::alloc::Global;
 use std::collections::HashMap;
 
@@ -28,6 +26,8 @@ const NOISE: u64 = 256;
 pub(crate) struct Master {
     pub(crate) columns: Columns,
     pub(crate) constraints: Vec<Constraint>,
+    /// For each constraint, the search that put its row in use last.
+    pub(crate) since: Vec<u32>,
     pub(crate) tours: Vec<Tour>,
     pub(crate) scale: Scale,
     // The column of each tour, by the tour's number.
@@ -46,6 +46,7 @@ impl Master {
         Ok(Master {
             columns,
             constraints: Vec::new(alloc),
+            since: Vec::new(alloc),
             tours: Vec::new(alloc),
             scale,
             known: HashMap::new(alloc),
@@ -59,8 +60,8 @@ impl Master {
 
     /// Notes that a search put the constraint at a place in use.
     pub(crate) fn note_use(&mut self, place: usize, now: u32) {
-        if place < self.constraints.len() {
-            self.constraints[place].since = now;
+        if place < self.since.len() {
+            self.since[place] = now;
         }
     }
 
@@ -82,13 +83,11 @@ impl Master {
         if held.is_some() {
             return Ok(held);
         }
-        let constraint = Constraint {
-            demand: Demand::Deadheads(shore),
-            number,
-            since: 0,
-            decision: None,
-        };
-        self.add(alloc, inst, constraint)
+        self.add(
+            alloc,
+            inst,
+            Constraint::new(Demand::Deadheads(shore), number),
+        )
     }
 
     /// The place of the constraint on a group, with so much room if it is new. It is `None` if there is no room for it.
@@ -103,13 +102,8 @@ impl Master {
         if held.is_some() {
             return Ok(held);
         }
-        let constraint = Constraint {
-            demand: Demand::Bonds(Members::new(alloc, inst.required(), edges)?),
-            number: room,
-            since: 0,
-            decision: None,
-        };
-        self.add(alloc, inst, constraint)
+        let members = Members::new(alloc, inst.required(), edges)?;
+        self.add(alloc, inst, Constraint::new(Demand::Bonds(members), room))
     }
 
     /// The place of the constraint of a decision, which is added if it is new. It is `None` if there is no room for it.
@@ -128,7 +122,6 @@ impl Master {
         let constraint = Constraint {
             demand,
             number,
-            since: 0,
             decision: Some(decision),
         };
         self.add(alloc, inst, constraint)
@@ -137,6 +130,7 @@ impl Master {
     /// Takes out the constraints from a place on. No program may have one of them in use.
     pub(crate) fn forget_constraints(&mut self, inst: &Instance, count: usize) {
         self.constraints.truncate(count);
+        self.since.truncate(count);
         let rows = count.saturating_add(inst.required() as usize);
         self.columns.forget_rows(rows);
     }
@@ -155,6 +149,7 @@ impl Master {
             return Ok(None);
         }
         self.constraints.push(constraint)?;
+        self.since.push(0)?;
         Ok(Some(place))
     }
 
@@ -274,7 +269,7 @@ fn push_tours(
     coefficients: &mut Vec<i32>,
 ) -> Result<(), Memory> {
     for tour in tours {
-        coefficients.push(coefficient(constraint.of_tour(edges, tour)))?;
+        coefficients.push(coefficient(tour.coefficient(edges, constraint)))?;
     }
     Ok(())
 }
@@ -306,7 +301,7 @@ fn add_constraint_entries(
     entries: &mut Vec<Entry>,
 ) -> Result<(), Memory> {
     for place in 0..constraints.len() {
-        let count = constraints[place].of_tour(edges, tour);
+        let count = tour.coefficient(edges, &constraints[place]);
         add_entry(entries, first.saturating_add(place), count)?;
     }
     Ok(())

@@ -3,11 +3,10 @@ ghost use Rattle.std.specs.Prelude.{◌≡◌};
 ghost use Rattle.route_pricing.specs.Values.{IsRate};
 ghost use Rattle.price_points.specs.Services.{AreServices, IsFilledOn};
 
-use crate::points::service_cost;
 use crate::tours::{Count, Tour};
 use carp_base::{Instance, Memory, Task};
 use deadhead_paths::Distances;
-use price_points::{best_tour, least_tour, number_at, tour_over};
+use price_points::{best_tour, least_tour, number_at, service_cost, tour_over};
 use route_pricing::{Rate, Table};
 use std::alloc::Global;
 

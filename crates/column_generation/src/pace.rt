@@ -2,7 +2,7 @@
 
 use crate::effort::Effort;
 use crate::limits::Limits;
-use crate::separating::Found;
+use crate::separation::Found;
 use price_points::UNIT;
 
 // After so many searches that the value hardly rose since, the ratio rises.

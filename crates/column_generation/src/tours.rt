@@ -2,11 +2,11 @@
 ghost use Rattle.std.specs.Prelude.{◌≡◌};
 ghost use Rattle.price_points.specs.Services.{AreServices};
 
-use crate::groups::Members;
 use crate::numbers::mixed;
 use carp_base::{Edge, Instance, Memory, Task};
+use cut_pool::Shore;
 use deadhead_paths::Distances;
-use price_points::{Cover, UNIT};
+use price_points::{Constraint, Cover, Demand, Members, UNIT};
 use std::alloc::Global;
 
 // Two tours of the same deadhead differ in cost by less than so many parts.
@@ -50,8 +50,30 @@ impl Tour {
         })
     }
 
-    /// The bonds of a group in the tour.
-    pub(crate) fn bonds(&self, group: &Members) -> i64 {
+    /// Its coefficient in the row of a constraint.
+    pub(crate) fn coefficient(&self, edges: &[Edge], constraint: &Constraint) -> i64 {
+        match &constraint.demand {
+            Demand::Deadheads(shore) => self.deadheads_over(edges, shore),
+            Demand::FewDeadheads(shore) => self.deadheads_over(edges, shore).saturating_neg(),
+            Demand::Bonds(members) => self.bonds(members).saturating_neg(),
+            Demand::Joined(members) => self.bonds(members),
+        }
+    }
+
+    // Its deadheads over a shore.
+    fn deadheads_over(&self, edges: &[Edge], shore: &Shore) -> i64 {
+        let mut sum: i64 = 0;
+        for count in &self.deadheads {
+            if let Some(edge) = edges.get(count.place) {
+                let crosses = i64::from(shore.crosses(edge));
+                sum = sum.saturating_add(crosses.saturating_mul(count.times));
+            }
+        }
+        sum
+    }
+
+    // The bonds of a group in it.
+    fn bonds(&self, group: &Members) -> i64 {
         let mut bonds: i64 = 0;
         for place in 1..self.tasks.len() {
             let before = self.tasks[place - 1].edge;

@@ -8,11 +8,11 @@ ghost use Rattle.branch_rules.specs.Bonds.{IsGroup, group_demand};
 ghost use Rattle.group_search.specs.Violation.{AreViolated, cut, flow_to, outward, tolerance, violation};
 ghost use Rattle.group_search.specs.Tables.{AreViolatedBy, IsListed, IsWithin};
 
-use crate::best::Candidate;
 use crate::effort::Effort;
 use crate::flow::Flow;
 use crate::group::Group;
 use carp_base::{Instance, Memory};
+use set_search::Candidate;
 use std::alloc::Global;
 
 // The flow between the edges of a group and one service.
@@ -192,7 +192,7 @@ pub(crate) fn answer(
     let mut groups = Vec::new(alloc);
     let mut last = u64::MAX;
     for set in sets {
-        if let Some(group) = group_of(alloc, inst, &set.marks)? {
+        if let Some(group) = group_of(alloc, inst, set.marks())? {
             last = place(inst, flow, effort, most, last, group, &mut groups)?;
         }
     }

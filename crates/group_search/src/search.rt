@@ -6,11 +6,16 @@ use crate::effort::Effort;
 use crate::flow::Flow;
 use crate::group::Group;
 use crate::judging::answer;
-use crate::separating::Separation;
-use crate::services::Services;
+use crate::services::ground_of;
 use carp_base::{Instance, Memory};
 use rand_pcg::Lcg64Xsh32;
+use set_search::{Extent, Search, UNIT};
 use std::alloc::Global;
+
+// From how many edges sets grow, at most, and for how many steps edges are moved in and out.
+const MOST_SEEDS: u32 = 200;
+
+const MOVES: u32 = 60;
 
 /// A search for groups that a flow violates. It keeps a generator of random numbers, so that each call draws other
 /// numbers than the one before. Two new searches give the same answers to the same calls.
@@ -60,11 +65,41 @@ impl GroupSearch {
         ensures violated { IfOk result (λ groups. AreViolated inst.now flow.now (tolerance effort) most groups.items) }
         ensures counted { self.old.work ≤ self.new.work }
     {
-        let services = Services::new(alloc, inst, flow)?;
-        let mut separation = Separation::new(alloc, &services, effort, most, &mut self.generator)?;
-        separation.grow_all(alloc, &services)?;
-        separation.vary_all(alloc, &services, &mut self.generator)?;
-        self.work = self.work.saturating_add(separation.growing.work);
-        answer(alloc, inst, flow, &separation.found.sets, effort, most)
+        let ground = ground_of(alloc, inst, flow)?;
+        let extent = extent(inst, effort, most);
+        let mut search = Search::new(alloc, &ground, extent, &mut self.generator)?;
+        search.grow_all(alloc, &ground, &list_seeds(alloc, inst)?)?;
+        search.vary_all(alloc, &ground, &mut self.generator)?;
+        self.work = self.work.saturating_add(search.work());
+        answer(alloc, inst, flow, search.sets(), effort, most)
     }
+}
+
+// How far a search goes for so many answers.
+fn extent(inst: &Instance, effort: Effort, most: usize) -> Extent {
+    Extent {
+        most,
+        tolerance: i64::try_from(effort.tolerance()).unwrap_or(0),
+        least_members: 2,
+        sparse: false,
+        growth: inst.required() + 1,
+        by_demand: false,
+        starts: effort.starts(),
+        moves: MOVES,
+        least_lack: -UNIT,
+        most_vehicles: i64::MAX,
+        aspiration: false,
+    }
+}
+
+// The required edges from which sets grow, rising.
+fn list_seeds(alloc: Global, inst: &Instance) -> Result<Vec<u32>, Memory> {
+    let stride = (inst.required() + 1).div_ceil(MOST_SEEDS).max(1);
+    let mut seeds = Vec::new(alloc);
+    for e in 1..inst.required() + 1 {
+        if e % stride == 0 {
+            seeds.push(e)?;
+        }
+    }
+    Ok(seeds)
 }

@@ -18,8 +18,9 @@ use std::alloc::Global;
 /// Each call may fill the table, and may place shores that belong to the instance in the pool behind those that it held.
 /// The only error is want of memory. What an adviser saw of another instance before is no matter to what it promises.
 pub trait Adviser: Drop {
-    /// Hears that a search begins anew, so that what it kept of another one is of no use. It takes no memory.
-    fn restart(&mut self, alloc: Global) {}
+    /// Hears that a search of so many turns begins anew, so that what it kept of another one is of no use. It takes no
+    /// memory.
+    fn restart(&mut self, alloc: Global, turns: u64) {}
 
     /// Offers a price set for a leaf, or none. `best` is the best set so far. The aim has the number by which the leaf
     /// names the set that it started from, rounds, and a cost that is enough.

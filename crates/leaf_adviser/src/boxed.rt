@@ -11,8 +11,8 @@ use std::alloc::Global;
 
 // Each call is passed on, also those that the trait has a body for: else a box would answer by that body.
 impl Adviser for Box<dyn Adviser> {
-    fn restart(&mut self, alloc: Global) {
-        (**self).restart(alloc);
+    fn restart(&mut self, alloc: Global, turns: u64) {
+        (**self).restart(alloc, turns);
     }
 
     fn prices(

@@ -9,8 +9,8 @@ use route_pricing::Table;
 use std::alloc::Global;
 
 impl Adviser for LeafPrograms {
-    fn restart(&mut self, alloc: Global) {
-        *self = LeafPrograms::new(alloc);
+    fn restart(&mut self, alloc: Global, turns: u64) {
+        *self = LeafPrograms::for_turns(alloc, turns);
     }
 
     fn prices(

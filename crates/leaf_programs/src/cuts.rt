@@ -13,7 +13,7 @@ use price_points::number_in;
 use std::alloc::Global;
 
 // So many cuts are tried at most.
-const TRIED: usize = 6;
+const TRIED: usize = 12;
 
 // So many decisions on shores stand on a path at most.
 const MOST_CUTS: usize = 4;

@@ -10,7 +10,7 @@ use group_search::Flow;
 use std::alloc::Global;
 
 // So many pairs are tried at most.
-const TRIED: usize = 6;
+const TRIED: usize = 12;
 
 /// The pairs with the best shares.
 pub(crate) fn pairs_of(

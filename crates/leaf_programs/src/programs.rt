@@ -5,7 +5,7 @@ ghost use Rattle.cut_pool.specs.Shores.{Belongs};
 ghost use Rattle.branch_rules.specs.Limits.{AreShoresIn, IsShoreOf};
 ghost use Rattle.decision_chains.specs.Pairs.{ArePairsIn};
 ghost use Rattle.route_pricing.specs.Tables.{IsRoom};
-ghost use Rattle.price_points.specs.Towns.{IsTown};
+ghost use Rattle.price_points.specs.Problems.{IsPricingProblem};
 ghost use Rattle.column_generation.specs.Points.{IsGeneration};
 ghost use Rattle.leaf_adviser.specs.Leaves.{IsLeaf};
 ghost use Rattle.leaf_adviser.specs.Offers.{IsOffer};
@@ -21,10 +21,16 @@ use carp_base::{Instance, Memory, Task};
 use column_generation::{Generation, Kept, adopted, begin, enough_for, is_small, taken_up};
 use cut_pool::ShorePool;
 use leaf_adviser::Leaf;
-use price_points::Town;
+use price_points::PricingProblem;
 use route_pricing::Table;
 use std::alloc::Global;
 use std::mem;
+
+// A search of fewer turns may take as much work as one of so many.
+const FEW_TURNS: u64 = 64;
+
+// So many entries of programs and steps of fills a turn may take, summed over all turns, but for what the last one takes.
+const WORK_OF_TURN: u64 = 234_375_000;
 
 /// Programs for the leaves of a tree, over one store of rows and columns. As an adviser it offers a price set for a leaf,
 /// a split of the leaf, and tours of plans that solutions showed.
@@ -40,7 +46,8 @@ use std::mem;
 /// once for more than 120 required edges, for more than 400 edges, and for m required edges and a capacity Q if
 /// `4 * Q * m * m` is above 10^8. A leaf takes some 100 fills of the table at most, and one that begins anew some 1,000.
 /// The program touches some 1.5 * 10^9 entries at a leaf at most, and 4 * 10^9 at one that begins anew. All leaves and
-/// splits since then take 1.5 * 10^10 entries and steps of fills; then it offers none at once. No clock decides.
+/// splits since then take 1.5 * 10^10 entries and steps of fills in a search of up to 64 turns, and in one of more turns
+/// as much more in proportion; then it offers none at once. No clock decides.
 ///
 /// **Splits.** Cuts on shores whose deadheads in the solution of the program lie between two numbers that a plan can have,
 /// and pairs whose share lies near three fifths, are tried on copies of the program by a few steps of the dual method. The
@@ -56,6 +63,8 @@ pub struct LeafPrograms {
     generation: Option<Generation>,
     shelf: Shelf,
     poor: Poor,
+    // So many entries and steps all leaves together may take.
+    most_work: u64,
 }
 
 // Where a leaf begins if there is no program to go on from, and when it ends.
@@ -69,12 +78,18 @@ struct Start<'a> {
 }
 
 impl LeafPrograms {
-    /// No programs.
+    /// No programs, for a search of up to 64 turns.
     pub fn new(alloc: Global) -> LeafPrograms {
+        LeafPrograms::for_turns(alloc, FEW_TURNS)
+    }
+
+    // No programs, for a search of so many turns.
+    pub(crate) fn for_turns(alloc: Global, turns: u64) -> LeafPrograms {
         LeafPrograms {
             generation: None,
             shelf: Shelf::new(alloc),
             poor: Poor::new(alloc),
+            most_work: WORK_OF_TURN.saturating_mul(turns.max(FEW_TURNS)),
         }
     }
 
@@ -151,43 +166,43 @@ impl LeafPrograms {
         ensures room { IsRoom leaf.now.inst.now table.new }
     {
         let allowed = leaf.branch.allowed(alloc, leaf.inst)?;
-        let town = Town {
+        let problem = PricingProblem {
             inst: leaf.inst,
             net: leaf.net,
             allowed: &allowed,
         };
-        self.finished_generation(alloc, &town, table, pool, leaf.branch, from)
+        self.finished_generation(alloc, &problem, table, pool, leaf.branch, from)
     }
 
-    // The same for a town.
+    // The same for a problem.
     fn finished_generation(
         &mut self,
         alloc: Global,
-        town: &Town<'_>,
+        problem: &PricingProblem<'_>,
         table: &mut Table,
         pool: &ShorePool,
         branch: &Branch,
         from: &Start<'_>,
     ) -> Result<Option<Generation>, Memory>
-        requires town { IsTown town.now }
-        requires room { IsRoom town.now.inst.now table.old }
-        requires shores { All (λ w. IsShoreOf town.now.inst.now pool.now w.shore) from.now.set.now.weights }
-        requires one_each { length from.now.set.now.services ≡ town.now.inst.now.required }
-        ensures generation { IfOk result (λ found. IfSome found (IsGeneration town.now.inst.now)) }
-        ensures room { IsRoom town.now.inst.now table.new }
+        requires problem { IsPricingProblem problem.now }
+        requires room { IsRoom problem.now.inst.now table.old }
+        requires shores { All (λ w. IsShoreOf problem.now.inst.now pool.now w.shore) from.now.set.now.weights }
+        requires one_each { length from.now.set.now.services ≡ problem.now.inst.now.required }
+        ensures generation { IfOk result (λ found. IfSome found (IsGeneration problem.now.inst.now)) }
+        ensures room { IsRoom problem.now.inst.now table.new }
     {
-        let begun = self.generation_for(alloc, town, table, pool, branch, from)?;
+        let begun = self.generation_for(alloc, problem, table, pool, branch, from)?;
         let Some(mut generation) = begun else {
             return Ok(None);
         };
-        generation.go_on(alloc, town, table)?;
+        generation.go_on(alloc, problem, table)?;
         Ok(Some(generation))
     }
 
     // Whether the leaves took all that they may take.
     fn is_spent(&self) -> bool {
         match &self.generation {
-            Some(generation) => generation.is_exhausted(),
+            Some(generation) => self.most_work < generation.spent(),
             None => false,
         }
     }
@@ -196,56 +211,58 @@ impl LeafPrograms {
     fn generation_for(
         &mut self,
         alloc: Global,
-        town: &Town<'_>,
+        problem: &PricingProblem<'_>,
         table: &mut Table,
         pool: &ShorePool,
         branch: &Branch,
         from: &Start<'_>,
     ) -> Result<Option<Generation>, Memory>
-        requires town { IsTown town.now }
-        requires room { IsRoom town.now.inst.now table.old }
-        requires shores { All (λ w. IsShoreOf town.now.inst.now pool.now w.shore) from.now.set.now.weights }
-        requires one_each { length from.now.set.now.services ≡ town.now.inst.now.required }
-        ensures generation { IfOk result (λ found. IfSome found (IsGeneration town.now.inst.now)) }
-        ensures room { IsRoom town.now.inst.now table.new }
+        requires problem { IsPricingProblem problem.now }
+        requires room { IsRoom problem.now.inst.now table.old }
+        requires shores { All (λ w. IsShoreOf problem.now.inst.now pool.now w.shore) from.now.set.now.weights }
+        requires one_each { length from.now.set.now.services ≡ problem.now.inst.now.required }
+        ensures generation { IfOk result (λ found. IfSome found (IsGeneration problem.now.inst.now)) }
+        ensures room { IsRoom problem.now.inst.now table.new }
     {
         let held = mem::replace(&mut self.generation, None);
         let Some(generation) = held else {
             self.shelf = Shelf::new(alloc);
-            return begin(alloc, town, table, pool, branch, from.set, from.enough);
+            return begin(alloc, problem, table, pool, branch, from.set, from.enough);
         };
-        self.next_generation(alloc, town, table, pool, branch, from, generation)
+        self.next_generation(alloc, problem, table, pool, branch, from, generation)
     }
 
     // The same from the generation of another leaf.
     fn next_generation(
         &mut self,
         alloc: Global,
-        town: &Town<'_>,
+        problem: &PricingProblem<'_>,
         table: &mut Table,
         pool: &ShorePool,
         branch: &Branch,
         from: &Start<'_>,
         generation: Generation,
     ) -> Result<Option<Generation>, Memory>
-        requires town { IsTown town.now }
-        requires room { IsRoom town.now.inst.now table.old }
-        requires shores { All (λ w. IsShoreOf town.now.inst.now pool.now w.shore) from.now.set.now.weights }
-        requires one_each { length from.now.set.now.services ≡ town.now.inst.now.required }
-        ensures generation { IfOk result (λ found. IfSome found (IsGeneration town.now.inst.now)) }
-        ensures room { IsRoom town.now.inst.now table.new }
+        requires problem { IsPricingProblem problem.now }
+        requires room { IsRoom problem.now.inst.now table.old }
+        requires shores { All (λ w. IsShoreOf problem.now.inst.now pool.now w.shore) from.now.set.now.weights }
+        requires one_each { length from.now.set.now.services ≡ problem.now.inst.now.required }
+        ensures generation { IfOk result (λ found. IfSome found (IsGeneration problem.now.inst.now)) }
+        ensures room { IsRoom problem.now.inst.now table.new }
     {
         let enough = from.enough;
         let last = last_of(branch);
         if let Some(kept) = self.shelf.find(from.number, last) {
-            let found = taken_up(alloc, town, pool, branch, kept, enough, generation)?;
+            let found = taken_up(alloc, problem, pool, branch, kept, enough, generation)?;
             self.shelf.forget(from.number, last);
             return Ok(found);
         }
         if let Some(kept) = self.shelf.last() {
-            return adopted(alloc, town, table, pool, branch, kept, enough, generation);
+            return adopted(
+                alloc, problem, table, pool, branch, kept, enough, generation,
+            );
         }
-        begin(alloc, town, table, pool, branch, from.set, enough)
+        begin(alloc, problem, table, pool, branch, from.set, enough)
     }
 
     // A split of the leaf for which a set was proposed last. Programs are kept for the leaves that name the set of a

@@ -11,7 +11,7 @@ use carp_base::{Instance, Memory};
 use column_generation::{Generation, Kept};
 use cut_pool::ShorePool;
 use leaf_adviser::Leaf;
-use price_points::Town;
+use price_points::PricingProblem;
 use route_pricing::Table;
 use std::alloc::Global;
 
@@ -162,10 +162,10 @@ fn try_child(
         return Ok(generation.enough());
     }
     let allowed = child.allowed(alloc, inst)?;
-    let town = Town {
+    let problem = PricingProblem {
         inst,
         net: leaf.net,
         allowed: &allowed,
     };
-    generation.try_child(alloc, &town, table, pool, &child, kept)
+    generation.try_child(alloc, &problem, table, pool, &child, kept)
 }

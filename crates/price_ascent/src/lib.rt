@@ -7,23 +7,18 @@
 //! [`AscentAdviser`] moves both at once along what relaxed tours serve and cross. It only offers: the pricing table says
 //! whether a set fits.
 //!
-//! - `advising`: the adviser. `ascending`: the ascent as a whole.
-//! - `climbing`: the steps, with `step_size` (their length, and when the ascent turns back or ends) and `slopes` (their
-//!   direction).
-//! - `scoring`: a point made one that pays, with `scaling` (weights that no street is overloaded by).
-//! - `setting_out`: the points at which an ascent begins. `active`: the shores whose weights move.
-//! - `placing`: the shores with weights, placed in a pool.
+//! - `adviser`: the adviser. `offer`: the price set of an ascent.
+//! - `ascent`: the steps, with `step_size` (their length, and when the ascent turns back or ends) and `slopes` (their
+//!   direction). `cover`: how the tours of a point serve and cross.
+//! - `start`: the points at which an ascent begins.
 #![tactic(auto)]
 
-mod active;
-mod advising;
-mod ascending;
-mod climbing;
-mod placing;
-mod scaling;
-mod scoring;
-mod setting_out;
+mod adviser;
+mod ascent;
+mod cover;
+mod offer;
 mod slopes;
+mod start;
 mod step_size;
 
-pub use advising::AscentAdviser;
+pub use adviser::AscentAdviser;

@@ -1,13 +1,11 @@
 // In which direction the numbers of a point move, and how far.
 ghost use Rattle.std.specs.Prelude.{All, IfOk};
 ghost use Rattle.route_pricing.specs.Pricing.{IsServicePrice};
-ghost use Rattle.price_ascent.specs.Points.{IsActive, IsPoint};
+ghost use Rattle.price_points.specs.Points.{IsPoint};
 ghost use Rattle.price_points.specs.Services.{AreServicePrices};
 
-use crate::active::Active;
-use crate::scoring::Point;
-use carp_base::{Instance, Memory};
-use price_points::{Cover, PARTS, clamped, number_at, quotient};
+use carp_base::{Edge, Instance, Memory};
+use price_points::{Constraint, Cover, PARTS, Point, clamped, number_at, quotient};
 use std::alloc::Global;
 
 /// For each number of a point, by how many parts it is to rise.
@@ -26,20 +24,17 @@ impl Slopes {
         }
     }
 
-    /// How far the tours of a point fall short of one service of each required edge, and of the lower number of
-    /// deadheads over each shore that moves. A weight below 0 stays.
+    /// How far the tours of a point fall short of one service of each required edge, and of the deadheads over each
+    /// shore that there are to be. Other weights stay.
     pub(crate) fn of(
         alloc: Global,
         inst: &Instance,
-        actives: &[Active],
-        weights: &[i64],
+        constraints: &[Constraint],
         cover: &Cover,
-    ) -> Result<Slopes, Memory>
-        requires { All (IsActive inst.now) actives.now }
-    {
-        let mut shortages = Vec::with_capacity(alloc, actives.len())?;
-        for place in 0..actives.len() {
-            shortages.push(shortage(inst, &actives[place], number_at(weights, place), cover))?;
+    ) -> Result<Slopes, Memory> {
+        let mut shortages = Vec::with_capacity(alloc, constraints.len())?;
+        for constraint in constraints {
+            shortages.push(shortage(inst.edges(), constraint, &cover.deadheads))?;
         }
         Ok(Slopes {
             prices: price_slopes(alloc, cover)?,
@@ -72,16 +67,16 @@ impl Slopes {
         &self,
         alloc: Global,
         inst: &Instance,
+        constraints: &[Constraint],
         point: &Point,
         step: Step,
     ) -> Result<Point, Memory>
         requires { IsPoint inst.now point.now }
         ensures { IfOk result (IsPoint inst.now) }
     {
-        Ok(Point {
-            prices: moved_prices(alloc, inst, &point.prices, &self.prices, step)?,
-            weights: moved_weights(alloc, &point.weights, &self.weights, step)?,
-        })
+        let prices = moved_prices(alloc, inst, &point.prices, &self.prices, step)?;
+        let weights = moved_weights(alloc, &point.weights, &self.weights, step)?;
+        Ok(Point::new(inst, constraints, prices, weights))
     }
 }
 
@@ -108,15 +103,18 @@ impl Step {
     }
 }
 
-// The slope of a weight.
-fn shortage(inst: &Instance, active: &Active, weight: i64, cover: &Cover) -> i64
-    requires { IsActive inst.now active.now }
-{
-    if weight < 0 {
-        0
-    } else {
-        active.shortage(inst.edges(), &cover.deadheads)
+// The slope of a weight: by how many parts deadheads, in the order of the edges, fall short of what a constraint asks.
+fn shortage(edges: &[Edge], constraint: &Constraint, deadheads: &[i64]) -> i64 {
+    let Some(shore) = constraint.asks_over() else {
+        return 0;
+    };
+    let mut short = constraint.right_side().saturating_mul(PARTS);
+    for place in 0..edges.len() {
+        if shore.crosses(&edges[place]) {
+            short = short.saturating_sub(number_at(deadheads, place));
+        }
     }
+    short
 }
 
 // The slopes of prices.
@@ -187,7 +185,7 @@ fn moved_price(prices: &[i64], slopes: &[i64], step: Step, place: usize) -> i64
     clamped(rise.saturating_add(i128::from(number_at(prices, place))))
 }
 
-// The weights, moved along their slopes and not below 0; those below 0 stay.
+// The weights, moved along their slopes and not below 0.
 fn moved_weights(
     alloc: Global,
     weights: &[i64],
@@ -208,9 +206,5 @@ fn moved_weight(weight: i64, rise: i128) -> i64
     requires { IsServicePrice weight }
     ensures { IsServicePrice result }
 {
-    if weight < 0 {
-        weight
-    } else {
-        clamped(rise.saturating_add(i128::from(weight)).max(0))
-    }
+    clamped(rise.saturating_add(i128::from(weight)).max(0))
 }

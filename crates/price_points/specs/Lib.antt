@@ -1,3 +1,4 @@
+pub mod Points
+pub mod Problems
 pub mod Services
-pub mod Towns
 pub mod Weights

@@ -1,30 +1,44 @@
-//! What proposals of price sets share: numbers within limits, prices that pay, and what relaxed tours serve and cross.
+//! What proposals of price sets share: points, what the exact table shows of one, and the placing of its weights.
 //!
 //! In the field: the bookkeeping of Lagrangian and of column generation bounds over relaxed tours.
 //!
-//! A proposal moves prices of services and weights of shores. It asks a table of least relaxed tours (`route_pricing`)
-//! what tours are worth at them, and makes prices of them at which no tour is worth less than 0 ([`paying_prices`]).
-//! Nothing here is proved of how good prices are.
+//! A proposal moves a [`Point`]: prices of services, and weights of [`Constraint`]s. [`score`] weighs it by a table of
+//! least relaxed tours (`route_pricing`), and makes of it one at which no tour is worth less than 0. [`place_weights`]
+//! places the shores of a point in a pool. Nothing here is proved of how good points are.
 //!
-//! - `numbers`: the denominator of proposals, and sums that stay within limits.
-//! - `town`: what a set is proposed for. `starting`: the numbers of a set to begin with.
-//! - `touring`: tours that a filled table tells, and how often they serve and cross each edge.
-//! - `paying`: prices that pay. `deadheads`: deadheads in parts.
+//! - `problem`: what a set is proposed for. `numbers`: the denominator of proposals, and sums that stay within limits.
+//! - `constraints`, `members`: what tours and deadheads meet together, beside the services.
+//! - `points`: prices and weights. `starting`: the numbers of a set to begin with.
+//! - `scoring`: a point made one that pays, with `dual_repair` and `ranks` (weights that no street is overloaded by) and
+//!   `paying` (prices that pay).
+//! - `touring`: tours that a filled table tells, and how often they serve and cross each edge. `deadheads`: deadheads in
+//!   parts.
 //! - `placing`: shores with weights that are placed in a pool, and the list of their weights.
 #![tactic(auto)]
 
+mod constraints;
 mod deadheads;
+mod dual_repair;
+mod members;
 mod numbers;
 mod paying;
 mod placing;
+mod points;
+mod problem;
+mod ranks;
+mod scoring;
 mod starting;
 mod touring;
-mod town;
 
+pub use constraints::{Constraint, Demand};
 pub use deadheads::parts_of;
+pub use dual_repair::Easing;
+pub use members::Members;
 pub use numbers::{PARTS, UNIT, add_at, clamped, floor, number_at, quotient};
-pub use paying::paying_prices;
-pub use placing::{list_weights, number_in, place_weight};
-pub use starting::{start_prices, start_weight, start_weights};
+pub use placing::{number_in, place_weights, shores_with_weights};
+pub use points::{Point, negative, positive_weight, service_cost, service_costs, sum_within};
+pub use problem::PricingProblem;
+pub use ranks::{Ranked, sort_by_share};
+pub use scoring::{Scored, score};
+pub use starting::{start_prices, start_sizes, start_weight};
 pub use touring::{Cover, best_tour, excess_over, least_tour, load_of, tour_over};
-pub use town::Town;

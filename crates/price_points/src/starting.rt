@@ -29,16 +29,23 @@ fn start_price(set: &PriceSet, e: u32) -> i64
     clamped(floor(whole, set.unit()))
 }
 
-/// The weights of a set on shores by the denominator of the proposals, rounded towards 0. The only error is want of
-/// memory.
-pub fn start_weights(alloc: Global, set: &PriceSet) -> Result<Vec<i64>, Memory>
-    ensures { IfOk result (λ weights. All IsServicePrice weights.items) }
+/// The sizes of the weights of a set on shores by the denominator of the proposals, rounded towards 0. The only error is
+/// want of memory.
+pub fn start_sizes(alloc: Global, set: &PriceSet) -> Result<Vec<i64>, Memory>
+    ensures { IfOk result (λ sizes. All IsServicePrice sizes.items) }
 {
-    let mut weights = Vec::with_capacity(alloc, set.weights())?;
+    let mut sizes = Vec::with_capacity(alloc, set.weights())?;
     for place in 0..set.weights() {
-        weights.push(start_weight(set, place))?;
+        sizes.push(start_size(set, place))?;
     }
-    Ok(weights)
+    Ok(sizes)
+}
+
+fn start_size(set: &PriceSet, place: usize) -> i64
+    requires { place < length set.now.weights }
+    ensures { IsServicePrice result }
+{
+    clamped(i128::from(start_weight(set, place)).saturating_abs())
 }
 
 /// The weight at a place of a set by the denominator of the proposals, rounded towards 0.

@@ -10,11 +10,9 @@
 //!
 //! - `advising`: the adviser. `proposing`: the set that it offers.
 //! - `rounds`: the program over the shores found so far, and when the search for more ends.
-//! - `placing`: the shores with weights, placed in a pool.
 #![tactic(auto)]
 
 mod advising;
-mod placing;
 mod proposing;
 mod rounds;
 

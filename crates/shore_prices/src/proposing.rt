@@ -5,17 +5,13 @@ ghost use Rattle.cut_pool.specs.Pools.{IsGrown};
 ghost use Rattle.cut_pool.specs.Shores.{Belongs};
 ghost use Rattle.leaf_adviser.specs.Offers.{IsOffer};
 
-use crate::placing::place_weights;
 use crate::rounds::weighted_shores;
 use branch_rules::{Branch, PriceSet};
 use carp_base::{Edge, Instance, Memory};
 use cut_pool::ShorePool;
-use price_points::list_weights;
+use price_points::{UNIT, place_weights};
 use road_network::Network;
 use std::alloc::Global;
-
-// The denominator of the sets that are proposed.
-const UNIT: u64 = 1_000_000;
 
 // A price set under a branch: services at cost, and the weights of the linear program over shores after up to so many
 // rounds, at most 400, in parts of 1/1,000,000.
@@ -34,8 +30,7 @@ pub(crate) fn shore_prices(
     ensures belong { All (Belongs inst.now) pool.new }
 {
     let shores = weighted_shores(alloc, inst, net, pool, branch, rounds)?;
-    let placed = place_weights(alloc, inst, pool, shores)?;
-    let listed = list_weights(alloc, pool, &placed)?;
+    let listed = place_weights(alloc, inst, pool, shores)?;
     let services = service_prices(alloc, inst)?;
     inst.validity();
     PriceSet::new(alloc, UNIT, &services, &listed)

@@ -1,7 +1,7 @@
 // The program over the shores found so far, and the rounds of search for more.
 ghost use Rattle.std.specs.Prelude.{◌≡◌, All, IfOk, OnOk};
 ghost use Rattle.cut_pool.specs.Shores.{Belongs};
-ghost use Rattle.shore_prices.specs.Weights.{IsWeighted};
+ghost use Rattle.price_points.specs.Weights.{IsWeighted};
 
 use branch_rules::Branch;
 use capacity_cuts::shells;

@@ -5,7 +5,6 @@ use Rattle.carp_base.specs.Problem.{Problem}
 use Rattle.flow_cut.specs.declared.network.Arc.{Arc}
 use Rattle.flow_cut.specs.Flows.{HasEnds, HasFineRoom}
 use Rattle.shore_search.specs.declared.streets.Streets.{Streets}
-use Rattle.shore_search.specs.declared.growing.Growing.{Growing}
 use Rattle.shore_search.specs.Shortfall.{AreShort, shortfall}
 
 -- the place of a vertex
@@ -26,11 +25,6 @@ pub record AreStreets (s : Streets) : Type 0 where
 pub record AreShortBy (p : Problem) (x : List ℕ) (most least : ℕ) (shores : List (List ℕ)) : Type 0 where
   pub short : AreShort p x most shores
   pub above : All (λ shore. least ≤ shortfall p x shore) shores
-
--- so many places, of the set and of the empty one
-pub record IsGrowing (width : ℕ) (g : Growing) : Type 0 where
-  pub places : length g.places.items ≡ width
-  pub empty : length g.empty.items ≡ width
 
 -- arcs between so many nodes, with rooms within the limit
 pub record AreArcs (nodes : ℕ) (arcs : List Arc) : Type 0 where

@@ -3,9 +3,10 @@ ghost use Rattle.std.specs.Prelude.{◌<◌, ◌≤◌, IfOk, OnOk};
 ghost use Rattle.flow_cut.specs.Flows.{IsNode};
 ghost use Rattle.shore_search.specs.Tables.{AreArcs, AreStreets, IsStop};
 
-use crate::streets::{Half, Streets, UNIT};
+use crate::streets::{Half, Streets};
 use carp_base::Memory;
 use flow_cut::{Arc, max_flow};
+use set_search::UNIT;
 use std::alloc::Global;
 
 // The most room of an arc, and the most arcs of a network.

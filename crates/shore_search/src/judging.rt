@@ -10,10 +10,10 @@ ghost use Rattle.edge_components.specs.Parts.{AreParts, parts_of, parts_over};
 ghost use Rattle.shore_search.specs.Shortfall.{AreShort, shortfall};
 ghost use Rattle.shore_search.specs.Tables.{AreShortBy};
 
-use crate::best::Candidate;
 use carp_base::{Instance, Memory};
 use cut_pool::{Shore, need};
 use edge_components::vertices_are_listed;
+use set_search::Candidate;
 use std::alloc::Global;
 
 // Shortfalls up to a thousandth of a deadhead, in parts of 2^20, do not count.
@@ -143,7 +143,7 @@ pub(crate) fn answer(
     let mut shores = Vec::new(alloc);
     let mut last = u64::MAX;
     for set in sets {
-        if let Some(shore) = shore_of(alloc, inst, &set.marks)? {
+        if let Some(shore) = shore_of(alloc, inst, set.marks())? {
             last = place(inst, x, most, last, shore, &mut shores)?;
         }
     }

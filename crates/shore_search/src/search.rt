@@ -1,18 +1,17 @@
 // The public call.
-ghost use Rattle.std.specs.Prelude.{◌≡◌, ◌+◌, ◌≤◌, IfOk, OnOk};
+ghost use Rattle.std.specs.Prelude.{◌≡◌, ◌≤◌, IfOk};
 ghost use Rattle.edge_components.specs.Parts.{AreParts};
 ghost use Rattle.shore_search.specs.Shortfall.{AreShort};
-ghost use Rattle.shore_search.specs.Tables.{AreStreets, IsGrowing};
+ghost use Rattle.shore_search.specs.Tables.{AreStreets};
 
-use crate::draws::shuffle;
-use crate::judging::answer;
-use crate::separating::{Extent, Separation};
+use crate::judging::{TOLERANCE, answer};
+use crate::separating::{all_components, all_cuts, ground_of, single_vertices};
 use crate::streets::Streets;
 use carp_base::{Instance, Memory};
 use cut_pool::Shore;
-use edge_components::label_components;
 use rand_pcg::Lcg64Xsh32;
 use road_network::Network;
+use set_search::{Extent, Search, shuffle};
 use std::alloc::Global;
 
 // Above so many vertices sets that grow are much alike, and only some of them are kept.
@@ -28,25 +27,34 @@ pub enum Effort {
 }
 
 impl Effort {
-    // How far it goes among so many vertices.
-    fn extent(self, vertices: u32) -> Extent {
-        let sparse = MANY_VERTICES < vertices;
-        let growth = vertices.min(MANY_VERTICES);
+    // From how many vertices sets grow.
+    fn seeds(self, vertices: u32) -> usize {
         match self {
-            Effort::Quick => Extent {
-                seeds: 40,
-                growth,
-                starts: 8,
-                moves: vertices.min(60),
-                sparse,
-            },
-            Effort::Full => Extent {
-                seeds: if sparse { 60 } else { 400 },
-                growth,
-                starts: 30,
-                moves: vertices.saturating_mul(2).min(200),
-                sparse,
-            },
+            Effort::Quick => 40,
+            Effort::Full if MANY_VERTICES < vertices => 60,
+            Effort::Full => 400,
+        }
+    }
+
+    // How far it goes among so many vertices, for so many answers, where all take so many vehicles.
+    fn extent(self, vertices: u32, most: usize, most_vehicles: i64) -> Extent {
+        let growth = vertices.min(MANY_VERTICES);
+        let (starts, moves) = match self {
+            Effort::Quick => (8, vertices.min(60)),
+            Effort::Full => (30, vertices.saturating_mul(2).min(200)),
+        };
+        Extent {
+            most,
+            tolerance: TOLERANCE as i64,
+            least_members: 1,
+            sparse: MANY_VERTICES < vertices,
+            growth,
+            by_demand: true,
+            starts,
+            moves,
+            least_lack: i64::MIN,
+            most_vehicles,
+            aspiration: true,
         }
     }
 }
@@ -104,17 +112,20 @@ impl ShoreSearch {
         ensures short { IfOk result (λ shores. AreShort inst.now x.now most shores.items) }
         ensures counted { self.old.work ≤ self.new.work }
     {
-        let extent = effort.extent(inst.vertices());
         let streets = Streets::new(alloc, inst, net, x)?;
-        let mut separation = Separation::new(alloc, &streets, extent, most, &mut self.generator)?;
-        separation.single_vertices(alloc, &streets)?;
-        all_components(alloc, inst, net, x, &streets, &mut separation)?;
-        separation.all_cuts(alloc, &streets)?;
-        let seeds = draw_seeds(alloc, inst, extent.seeds, &mut self.generator)?;
-        separation.grow_all(alloc, &streets, &seeds, extent.growth)?;
-        separation.vary_all(alloc, &streets, extent.moves, &mut self.generator)?;
-        self.work = self.work.saturating_add(separation.growing.work);
-        answer(alloc, inst, x, &separation.found.sets, most)
+        let ground = ground_of(alloc, &streets)?;
+        let most_vehicles = ground.vehicles(streets.demand);
+        let extent = effort.extent(inst.vertices(), most, most_vehicles);
+        let mut search = Search::new(alloc, &ground, extent, &mut self.generator)?;
+        single_vertices(alloc, inst, &ground, &mut search)?;
+        all_components(alloc, inst, net, x, &ground, &mut search)?;
+        all_cuts(alloc, &streets, &ground, &mut search)?;
+        let seeds = effort.seeds(inst.vertices());
+        let seeds = draw_seeds(alloc, inst, seeds, &mut self.generator)?;
+        search.grow_all(alloc, &ground, &seeds)?;
+        search.vary_all(alloc, &ground, &mut self.generator)?;
+        self.work = self.work.saturating_add(search.work());
+        answer(alloc, inst, x, search.sets(), most)
     }
 }
 
@@ -134,27 +145,4 @@ fn draw_seeds(
     shuffle(&mut seeds, generator);
     seeds.truncate(most);
     Ok(seeds)
-}
-
-// Judges the components of the edges with any deadheads, and with some thirds of one.
-fn all_components(
-    alloc: Global,
-    inst: &Instance,
-    net: &Network,
-    x: &[u64],
-    streets: &Streets,
-    separation: &mut Separation,
-) -> Result<(), Memory>
-    requires net { net.now ≡ inst.now }
-    requires parts { AreParts inst.now x.now }
-    requires streets { AreStreets streets.now }
-    requires width { streets.now.width ≡ inst.now.vertices + 1 }
-    requires growing { IsGrowing streets.now.width separation.old.growing }
-    ensures { OnOk result (IsGrowing streets.now.width separation.new.growing) }
-{
-    for least in [1, 314_573, 629_146, 1_047_528] {
-        let labels = label_components(alloc, inst, net, x, least)?;
-        separation.components(alloc, streets, &labels)?;
-    }
-    Ok(())
 }

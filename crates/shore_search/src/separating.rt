@@ -1,370 +1,210 @@
 // The ways in which sets are looked for.
-ghost use Rattle.std.specs.Prelude.{◌≡◌, ◌<◌, IfOk, OnOk, length};
-ghost use Rattle.shore_search.specs.Tables.{AreStreets, IsGrowing};
+ghost use Rattle.std.specs.Prelude.{◌≡◌, ◌<◌, ◌≤◌, IfOk};
+ghost use Rattle.carp_base.specs.Problem.{IsEdgeNumber};
+ghost use Rattle.edge_components.specs.Parts.{AreParts};
+ghost use Rattle.shore_search.specs.Tables.{AreStreets};
 
-use crate::aims::{Aim, Joining, Target};
-use crate::best::Best;
 use crate::cuts::{FACTORS, least_cut};
-use crate::draws::draw;
-use crate::growing::Growing;
-use crate::judging::TOLERANCE;
-use crate::streets::Streets;
-use carp_base::Memory;
-use rand_pcg::Lcg64Xsh32;
+use crate::streets::{Half, Streets};
+use capacity_cuts::find_components;
+use carp_base::{Instance, Memory};
+use cut_pool::Shore;
+use edge_components::label_components;
+use road_network::Network;
+use set_search::{Element, Ground, Leaving, Link, Search};
 use std::alloc::Global;
-use std::mem;
 
-// In what order vertices join a set.
-#[derive(Clone, Copy)]
-enum Rule {
-    LeastCut,
-    MostDemand,
-    NextVehicle,
-}
+// From how many parts of 2^20 on a deadhead counts as a whole one, halved: one less the tolerance.
+const HALF_UNIT: u64 = 523_764;
 
-// How far a separation goes.
-#[derive(Clone, Copy)]
-pub(crate) struct Extent {
-    // From how many vertices sets grow, and for how many steps.
-    pub(crate) seeds: usize,
-    pub(crate) growth: u32,
-    // From how many sets vertices are moved in and out, and for how many steps.
-    pub(crate) starts: usize,
-    pub(crate) moves: u32,
-    // Whether of the sets that follow each other with equal numbers of vehicles only the best is kept.
-    pub(crate) sparse: bool,
-}
+// The parts from which on an edge joins its ends: some thirds of a deadhead.
+const THIRDS: [u64; 2] = [314_573, 629_146];
 
-// Sets that follow each other.
-#[derive(Clone, Copy)]
-struct Stretch {
-    number: u64,
-    vehicles: i64,
-    sparse: bool,
-}
-
-impl Stretch {
-    // The stretch of the next set, which takes so many vehicles.
-    fn next(self, vehicles: i64) -> Stretch {
-        let goes_on = self.sparse && vehicles == self.vehicles;
-        Stretch {
-            number: self.number.saturating_add(u64::from(!goes_on)),
-            vehicles,
-            sparse: self.sparse,
-        }
+// An edge as a link.
+fn link_of(half: Half) -> Link {
+    Link {
+        to: half.to,
+        cut: half.room,
+        demand: half.demand,
+        required: half.required,
+        tie: 1,
     }
 }
 
-// What a separation works on.
-#[derive(Drop)]
-pub(crate) struct Separation {
-    pub(crate) growing: Growing,
-    // The sets of greatest shortfall.
-    pub(crate) found: Best,
-    // The best set of each growth, from which vertices are moved in and out.
-    starts: Best,
-    growths: u64,
-    stretch: Stretch,
+// A place with its edges.
+fn element_of(alloc: Global, streets: &Streets, v: usize) -> Result<Element, Memory>
+    requires streets { AreStreets streets.now }
+    requires vertex { v < streets.now.width }
+{
+    let (first, end) = streets.at(v);
+    let mut links = Vec::with_capacity(alloc, end.saturating_sub(first))?;
+    for k in first..end {
+        links.push(link_of(streets.halves[k]))?;
+    }
+    Ok(Element {
+        fixed: v == streets.depot,
+        demand: 0,
+        links,
+    })
 }
 
-impl Separation {
-    pub(crate) fn new(
-        alloc: Global,
-        streets: &Streets,
-        extent: Extent,
-        most: usize,
-        generator: &mut Lcg64Xsh32,
-    ) -> Result<Separation, Memory>
-        requires { AreStreets streets.now }
-        ensures { IfOk result (λ separation. IsGrowing streets.now.width separation.growing) }
-    {
-        Ok(Separation {
-            growing: Growing::new(alloc, streets, generator)?,
-            found: Best::new(alloc, most),
-            starts: Best::new(alloc, extent.starts),
-            growths: 0,
-            stretch: Stretch {
-                number: 0,
-                vehicles: -1,
-                sparse: extent.sparse,
-            },
-        })
+// The vertices as a search over sets sees them.
+pub(crate) fn ground_of(alloc: Global, streets: &Streets) -> Result<Ground, Memory>
+    requires { AreStreets streets.now }
+{
+    let mut elements = Vec::with_capacity(alloc, streets.width)?;
+    for v in 0..streets.width {
+        elements.push(element_of(alloc, streets, v)?)?;
     }
+    Ok(Ground::new(elements, streets.capacity, Leaving::AtBorder))
+}
 
-    // Judges the set as it stands.
-    fn note(&mut self, alloc: Global, streets: &Streets) -> Result<(), Memory>
-        requires streets { AreStreets streets.now }
-        requires growing { IsGrowing streets.now.width self.old.growing }
-        ensures { OnOk result (IsGrowing streets.now.width self.new.growing) }
-    {
-        let vehicles = self.growing.vehicles(streets);
-        self.stretch = self.stretch.next(vehicles);
-        let shortfall = self.growing.shortfall(vehicles);
-        if (TOLERANCE as i64) < shortfall {
-            self.found
-                .offer(alloc, shortfall, self.stretch.number, &self.growing)?;
-        }
-        Ok(())
-    }
-
-    // Judges the set as it stands, with the others of its growth.
-    fn note_growth(&mut self, alloc: Global, streets: &Streets) -> Result<(), Memory>
-        requires streets { AreStreets streets.now }
-        requires growing { IsGrowing streets.now.width self.old.growing }
-        ensures { OnOk result (IsGrowing streets.now.width self.new.growing) }
-    {
-        let lack = self.growing.lack(self.growing.vehicles(streets));
-        self.starts.offer(alloc, lack, self.growths, &self.growing)?;
-        self.note(alloc, streets)
-    }
-
-    // The next set stands by itself.
-    fn leave(&mut self)
-        ensures { self.new.growing ≡ self.old.growing }
-    {
-        self.stretch.vehicles = -1;
-    }
-
-    // Judges each vertex but the depot.
-    pub(crate) fn single_vertices(&mut self, alloc: Global, streets: &Streets) -> Result<(), Memory>
-        requires streets { AreStreets streets.now }
-        requires growing { IsGrowing streets.now.width self.old.growing }
-        ensures { OnOk result (IsGrowing streets.now.width self.new.growing) }
-    {
-        self.growing.clear(streets.width);
-        for v in 1..streets.width {
-            if v == streets.depot {
-                continue;
-            }
-            self.leave();
-            self.growing.move_vertex(streets, v);
-            self.note(alloc, streets)?;
-            self.growing.move_vertex(streets, v);
-        }
-        Ok(())
-    }
-
-    // Moves each vertex of a label to the other side.
-    fn move_label(&mut self, streets: &Streets, labels: &[u32], label: usize)
-        requires streets { AreStreets streets.now }
-        requires growing { IsGrowing streets.now.width self.old.growing }
-        requires labels { length labels.now ≡ streets.now.width }
-        ensures { IsGrowing streets.now.width self.new.growing }
-    {
-        for v in label..streets.width {
-            if labels[v] as usize == label {
-                self.growing.move_vertex(streets, v);
-            }
+// Judges each vertex but the depot.
+pub(crate) fn single_vertices(
+    alloc: Global,
+    inst: &Instance,
+    ground: &Ground,
+    search: &mut Search,
+) -> Result<(), Memory> {
+    for v in 1..inst.vertices() + 1 {
+        if v != inst.depot() {
+            search.judge(alloc, ground, &[v])?;
         }
     }
+    Ok(())
+}
 
-    // Judges each component without the depot, where each vertex has the least vertex of its component as its label.
-    pub(crate) fn components(
-        &mut self,
-        alloc: Global,
-        streets: &Streets,
-        labels: &[u32],
-    ) -> Result<(), Memory>
-        requires streets { AreStreets streets.now }
-        requires growing { IsGrowing streets.now.width self.old.growing }
-        requires labels { length labels.now ≡ streets.now.width }
-        ensures { OnOk result (IsGrowing streets.now.width self.new.growing) }
-    {
-        let taken = labels.get(streets.depot).copied().unwrap_or(0) as usize;
-        self.growing.clear(streets.width);
-        for label in 1..streets.width {
-            if labels[label] as usize != label || label == taken {
-                continue;
-            }
-            self.leave();
-            self.move_label(streets, labels, label);
-            self.note(alloc, streets)?;
-            self.move_label(streets, labels, label);
-        }
-        Ok(())
+// The vertices of a shore.
+fn vertices_of(alloc: Global, shore: &Shore) -> Result<Vec<u32>, Memory> {
+    let mut vertices = Vec::with_capacity(alloc, shore.len())?;
+    for i in 0..shore.len() {
+        vertices.push(shore.vertex(i))?;
     }
+    Ok(vertices)
+}
 
-    // Judges the least cut for a factor.
-    fn cut(&mut self, alloc: Global, streets: &Streets, factor: i64) -> Result<(), Memory>
-        requires streets { AreStreets streets.now }
-        requires growing { IsGrowing streets.now.width self.old.growing }
-        ensures { OnOk result (IsGrowing streets.now.width self.new.growing) }
-    {
+// Judges shores.
+fn judge_shores(
+    alloc: Global,
+    ground: &Ground,
+    shores: &[Shore],
+    search: &mut Search,
+) -> Result<(), Memory> {
+    for shore in shores {
+        search.judge(alloc, ground, &vertices_of(alloc, shore)?)?;
+    }
+    Ok(())
+}
+
+// Half of the parts on an edge.
+fn half_of(inst: &Instance, x: &[u64], e: u32) -> u64
+    requires parts { AreParts inst.now x.now }
+    requires number { IsEdgeNumber inst.now e }
+    ensures { result ≤ 1000000000000 }
+{
+    x[e as usize - 1] / 2
+}
+
+// Half of the parts on each edge.
+fn halved(alloc: Global, inst: &Instance, x: &[u64]) -> Result<Vec<u64>, Memory>
+    requires { AreParts inst.now x.now }
+    ensures { IfOk result (λ halves. AreParts inst.now halves.items) }
+{
+    let mut halves = Vec::with_capacity(alloc, inst.edge_count() as usize)?;
+    for i in 0..inst.edge_count() {
+        halves.push(half_of(inst, x, i + 1))?;
+    }
+    Ok(halves)
+}
+
+// Judges components without the depot: of the edges with any deadheads, of those with some thirds of one, and of those
+// with a whole one. Where the need is above the deadheads over them by their contracts, they are those of
+// `parity_cuts` and `capacity_cuts`. No edge with deadheads crosses the first ones, so that each part counts as a
+// deadhead there.
+pub(crate) fn all_components(
+    alloc: Global,
+    inst: &Instance,
+    net: &Network,
+    x: &[u64],
+    ground: &Ground,
+    search: &mut Search,
+) -> Result<(), Memory>
+    requires net { net.now ≡ inst.now }
+    requires parts { AreParts inst.now x.now }
+{
+    let odd = parity_cuts::find(alloc, inst, net, x)?;
+    judge_shores(alloc, ground, &odd, search)?;
+    let apart = find_components(alloc, inst, net, x, 1)?;
+    judge_shores(alloc, ground, &apart, search)?;
+    part_components(alloc, inst, net, x, ground, search)?;
+    let halves = halved(alloc, inst, x)?;
+    let whole = find_components(alloc, inst, net, &halves, HALF_UNIT)?;
+    judge_shores(alloc, ground, &whole, search)
+}
+
+// The vertices of a label.
+fn labelled(alloc: Global, labels: &[u32], label: u32) -> Result<Vec<u32>, Memory> {
+    let mut vertices = Vec::new(alloc);
+    for (v, of) in labels.iter().enumerate() {
+        if *of == label
+            && let Ok(v) = u32::try_from(v)
+        {
+            vertices.push(v)?;
+        }
+    }
+    Ok(vertices)
+}
+
+// Judges each component without the depot, where each vertex has the least vertex of its component as its label.
+fn judge_labels(
+    alloc: Global,
+    inst: &Instance,
+    ground: &Ground,
+    labels: &[u32],
+    search: &mut Search,
+) -> Result<(), Memory> {
+    let taken = labels.get(inst.depot() as usize).copied().unwrap_or(0);
+    for label in 1..inst.vertices() + 1 {
+        if label != taken && labels.get(label as usize) == Some(&label) {
+            search.judge(alloc, ground, &labelled(alloc, labels, label)?)?;
+        }
+    }
+    Ok(())
+}
+
+// Judges the components of the edges with some thirds of a deadhead.
+fn part_components(
+    alloc: Global,
+    inst: &Instance,
+    net: &Network,
+    x: &[u64],
+    ground: &Ground,
+    search: &mut Search,
+) -> Result<(), Memory>
+    requires net { net.now ≡ inst.now }
+    requires parts { AreParts inst.now x.now }
+{
+    for least in THIRDS {
+        let labels = label_components(alloc, inst, net, x, least)?;
+        judge_labels(alloc, inst, ground, &labels, search)?;
+    }
+    Ok(())
+}
+
+// Judges the least cuts for all factors.
+pub(crate) fn all_cuts(
+    alloc: Global,
+    streets: &Streets,
+    ground: &Ground,
+    search: &mut Search,
+) -> Result<(), Memory>
+    requires { AreStreets streets.now }
+{
+    for &factor in &FACTORS {
         let (marks, arcs) = least_cut(alloc, streets, factor)?;
-        self.leave();
-        self.growths = self.growths.saturating_add(1);
-        self.growing.load(streets, &marks);
-        self.growing.count(arcs);
-        if self.growing.is_empty() {
-            return Ok(());
-        }
-        self.note_growth(alloc, streets)
+        // A greatest flow looks at each arc some ten times.
+        search.count(arcs.saturating_mul(10));
+        search.judge_start(alloc, ground, &marks)?;
     }
-
-    // Judges the least cuts for all factors.
-    pub(crate) fn all_cuts(&mut self, alloc: Global, streets: &Streets) -> Result<(), Memory>
-        requires streets { AreStreets streets.now }
-        requires growing { IsGrowing streets.now.width self.old.growing }
-        ensures { OnOk result (IsGrowing streets.now.width self.new.growing) }
-    {
-        for &factor in &FACTORS {
-            self.cut(alloc, streets, factor)?;
-        }
-        Ok(())
-    }
-
-    // What a rule aims at from the set as it stands.
-    fn aim(&self, streets: &Streets, rule: Rule) -> Aim
-        requires { AreStreets streets.now }
-    {
-        let capacity = i64::try_from(streets.capacity).unwrap_or(i64::MAX);
-        let scale = capacity.saturating_mul(1024);
-        Aim::Join(match rule {
-            Rule::LeastCut => Joining::LeastCut { scale },
-            Rule::MostDemand => Joining::MostDemand { capacity },
-            Rule::NextVehicle => Joining::NextVehicle {
-                scale,
-                carried: self.growing.vehicles(streets).saturating_mul(capacity),
-            },
-        })
-    }
-
-    // Lets a set grow from a vertex by a rule, and judges each set on the way.
-    fn grow(
-        &mut self,
-        alloc: Global,
-        streets: &Streets,
-        seed: usize,
-        rule: Rule,
-        steps: u32,
-    ) -> Result<(), Memory>
-        requires streets { AreStreets streets.now }
-        requires growing { IsGrowing streets.now.width self.old.growing }
-        requires vertex { seed < streets.now.width }
-        ensures { OnOk result (IsGrowing streets.now.width self.new.growing) }
-    {
-        self.leave();
-        self.growths = self.growths.saturating_add(1);
-        self.growing.clear(streets.width);
-        self.growing.move_vertex(streets, seed);
-        for _ in 0..steps {
-            self.note_growth(alloc, streets)?;
-            let aim = self.aim(streets, rule);
-            let (v, _) = self.growing.choose(streets.width, aim);
-            if v == 0 {
-                break;
-            }
-            self.growing.move_vertex(streets, v);
-        }
-        Ok(())
-    }
-
-    // Lets sets grow from vertices, by each rule. A number that is no place is passed over.
-    pub(crate) fn grow_all(
-        &mut self,
-        alloc: Global,
-        streets: &Streets,
-        seeds: &[u32],
-        steps: u32,
-    ) -> Result<(), Memory>
-        requires streets { AreStreets streets.now }
-        requires growing { IsGrowing streets.now.width self.old.growing }
-        ensures { OnOk result (IsGrowing streets.now.width self.new.growing) }
-    {
-        for &seed in seeds {
-            let seed = seed as usize;
-            if seed < streets.width {
-                self.grow(alloc, streets, seed, Rule::LeastCut, steps)?;
-                self.grow(alloc, streets, seed, Rule::MostDemand, steps)?;
-                self.grow(alloc, streets, seed, Rule::NextVehicle, steps)?;
-            }
-        }
-        Ok(())
-    }
-
-    // Moves vertices of a set in and out, towards a demand that takes so many vehicles, and judges each set on the way (tabu
-    // search, Glover 1989).
-    fn vary(
-        &mut self,
-        alloc: Global,
-        streets: &Streets,
-        start: &[bool],
-        vehicles: i64,
-        steps: u32,
-        generator: &mut Lcg64Xsh32,
-    ) -> Result<(), Memory>
-        requires streets { AreStreets streets.now }
-        requires growing { IsGrowing streets.now.width self.old.growing }
-        ensures { OnOk result (IsGrowing streets.now.width self.new.growing) }
-    {
-        let capacity = i64::try_from(streets.capacity).unwrap_or(i64::MAX);
-        let full = vehicles.saturating_sub(1).saturating_mul(capacity);
-        let wanted = full.saturating_add(1);
-        let mut record = i64::MAX;
-        self.leave();
-        self.growing.load(streets, start);
-        for step in 0..steps {
-            let target = Target {
-                capacity,
-                wanted,
-                step,
-                record,
-            };
-            let (v, value) = self.growing.choose(streets.width, Aim::Reach(target));
-            if v == 0 {
-                break;
-            }
-            self.growing.move_vertex(streets, v);
-            let until = step.saturating_add(5 + draw(generator, 8));
-            self.growing.rest(streets.width, v, until);
-            if self.growing.is_empty() {
-                break;
-            }
-            record = record.min(value);
-            self.note(alloc, streets)?;
-        }
-        Ok(())
-    }
-
-    // Varies a set towards the vehicles that it takes, and towards one more, where these are not enough for all.
-    fn vary_both(
-        &mut self,
-        alloc: Global,
-        streets: &Streets,
-        start: &[bool],
-        steps: u32,
-        generator: &mut Lcg64Xsh32,
-    ) -> Result<(), Memory>
-        requires streets { AreStreets streets.now }
-        requires growing { IsGrowing streets.now.width self.old.growing }
-        ensures { OnOk result (IsGrowing streets.now.width self.new.growing) }
-    {
-        self.growing.load(streets, start);
-        let vehicles = self.growing.vehicles(streets);
-        self.vary(alloc, streets, start, vehicles, steps, generator)?;
-        if vehicles < streets.vehicles(streets.demand) {
-            let more = vehicles.saturating_add(1);
-            self.vary(alloc, streets, start, more, steps, generator)?;
-        }
-        Ok(())
-    }
-
-    // Varies the best sets that have grown.
-    pub(crate) fn vary_all(
-        &mut self,
-        alloc: Global,
-        streets: &Streets,
-        steps: u32,
-        generator: &mut Lcg64Xsh32,
-    ) -> Result<(), Memory>
-        requires streets { AreStreets streets.now }
-        requires growing { IsGrowing streets.now.width self.old.growing }
-        ensures { OnOk result (IsGrowing streets.now.width self.new.growing) }
-    {
-        let starts = mem::replace(&mut self.starts, Best::new(alloc, 0));
-        for start in &starts.sets {
-            self.vary_both(alloc, streets, &start.marks, steps, generator)?;
-        }
-        Ok(())
-    }
+    Ok(())
 }

@@ -8,10 +8,8 @@ ghost use Rattle.shore_search.specs.Tables.{AreStreets};
 
 use carp_base::{Instance, Memory};
 use road_network::{Network, far_end};
+use set_search::UNIT;
 use std::alloc::Global;
-
-// One deadhead, in parts.
-pub(crate) const UNIT: i64 = 1 << 20;
 
 // An edge as it is seen from one of its ends.
 #[derive(Clone, Copy)]
@@ -118,13 +116,5 @@ impl Streets {
         ensures { result.1 ≤ length self.now.halves.items }
     {
         (self.starts[v], self.starts[v + 1].min(self.halves.len()))
-    }
-
-    // How many vehicles a demand takes.
-    pub(crate) fn vehicles(&self, demand: i64) -> i64
-        requires { AreStreets self.now }
-    {
-        let demand = u64::try_from(demand).unwrap_or(0);
-        i64::try_from(demand.div_ceil(self.capacity)).unwrap_or(i64::MAX)
     }
 }

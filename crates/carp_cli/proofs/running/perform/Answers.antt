@@ -1,7 +1,7 @@
 use Rattle.std.proofs.Common.{◌≡◌, ◌∙◌, ℕ, ◌+◌, ◌%◌, ◌^◌, map, refl, subst}
 use Rattle.std.specs.Prelude.{EachIndex, slice_index, IfOk, OnOk, Result, Ok, Err}
-use Rattle.command_words.specs.Forms.{command_in}
-use Rattle.command_works.specs.Outputs.{output_in}
+use Rattle.command_line.specs.Forms.{command_in}
+use Rattle.command_outputs.specs.Outputs.{output_in}
 use Rattle.carp_cli.proofs.Performed.{asks_alike, by_status, job_prepared, refusal_prepared, refused_asks_none}
 use Rattle.carp_cli.proofs.running.perform.Goals as goal
 

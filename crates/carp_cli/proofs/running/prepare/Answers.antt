@@ -1,8 +1,8 @@
 use Rattle.std.proofs.Common.{◌≡◌, Some, subst}
 use Rattle.std.specs.Prelude.{IfSome}
-use Rattle.command_words.specs.Forms.{command_in}
-use Rattle.command_words.specs.Laws.{HasBudget}
-use Rattle.command_words.specs.Words.{command_of, texts_of}
+use Rattle.command_line.specs.Forms.{command_in}
+use Rattle.command_line.specs.Laws.{HasBudget}
+use Rattle.command_line.specs.Words.{command_of, texts_of}
 use Rattle.carp_cli.proofs.running.prepare.Goals as goal
 
 pub perform-requires : goal.perform-requires

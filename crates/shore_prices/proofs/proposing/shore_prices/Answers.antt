@@ -7,14 +7,14 @@ use Rattle.shore_prices.proofs.proposing.shore_prices.Goals as goal
 
 pub new-requires : goal.new-requires
 new-requires c =
-    let services : c.deref-2.result.now ≡ map (λ x. pos (1000000 * x.service)) (required_edges c.args.inst.now) = search rules in
-    let weights : c.deref-3.result.now ≡ c.in_ok-listed.listed.items = search rules in
-    rw (services, weights) (set_fine c.args.inst.now c.validity.ensures _ c.in_ok-listed.listed.items c.list_weights.ensures.few c.in_ok-listed.ensures.listed)
+    let services : c.deref.result.now ≡ map (λ x. pos (1000000 * x.service)) (required_edges c.args.inst.now) = search rules in
+    let weights : c.deref-2.result.now ≡ c.in_ok-listed.listed.items = search rules in
+    rw (services, weights) (set_fine c.args.inst.now c.validity.ensures _ c.in_ok-listed.listed.items c.in_ok-listed.ensures.few c.in_ok-listed.ensures.listed)
 
 pub returns-clause-offer : goal.returns-clause-offer
 returns-clause-offer c =
-    let services : c.deref-2.result.now ≡ map (λ x. pos (1000000 * x.service)) (required_edges c.args.inst.now) = search rules in
-    let weights : c.deref-3.result.now ≡ c.in_ok-listed.listed.items = search rules in
+    let services : c.deref.result.now ≡ map (λ x. pos (1000000 * x.service)) (required_edges c.args.inst.now) = search rules in
+    let weights : c.deref-2.result.now ≡ c.in_ok-listed.listed.items = search rules in
     let offered = set_offered c.args.inst.now c.validity.ensures c.place_weights.new.pool c.in_ok-listed.listed.items c.place_weights.ensures.belong c.in_ok-listed.ensures.listed in
     IfOk-weaker c.new.result _ _
     (λ set is. subst (IsOffer c.args.inst.now c.place_weights.new.pool) (sym (is ∙ (rw (services, weights) refl))) offered) c.new.ensures

@@ -1,5 +1,0 @@
-use Rattle.std.proofs.Common.{◌≤◌, All}
-use Rattle.column_generation.proofs.easing.take_off.Given as goal
-
-abbrev pub invariant-loop-place : goal.invariant-loop-place
-invariant-loop-place l = All (λ n. n ≤ 4000000000000000000) l.prices

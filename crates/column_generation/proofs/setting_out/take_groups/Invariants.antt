@@ -1,6 +1,0 @@
-use Rattle.std.proofs.Common.{All}
-use Rattle.route_pricing.specs.Pricing.{IsServicePrice}
-use Rattle.column_generation.proofs.setting_out.take_groups.Given as goal
-
-abbrev pub invariant-loop-group : goal.invariant-loop-group
-invariant-loop-group l = All IsServicePrice l.weights.items

@@ -1,0 +1,5 @@
+use Rattle.command_inputs.proofs.Several.{parsed_of}
+use Rattle.command_inputs.proofs.texts.take_good.Goals as goal
+
+pub returns : goal.returns
+returns c = parsed_of c.deref.ensures.value c.parse_good.ensures

@@ -1,5 +1,0 @@
-use Rattle.command_jobs.proofs.Pairs.{tried_again}
-use Rattle.command_jobs.proofs.gathering.gather_fleet.Goals as goal
-
-pub returns-in-Err-clause-tried : goal.returns-in-Err-clause-tried
-returns-in-Err-clause-tried g c = tried_again c.in-Err.fail c.in-Err.ensures.read.tried

@@ -1,9 +1,0 @@
-use Rattle.command_jobs.proofs.Certificates.{of_instance}
-use Rattle.command_jobs.proofs.FileReads.{read_stops, read_then}
-use Rattle.command_jobs.proofs.reading.read_instance.Goals as goal
-
-pub returns-in-Ok-clause-read : goal.returns-in-Ok-clause-read
-returns-in-Ok-clause-read g c = read_then of_instance c.in-Ok.bytes c.deref.result.now c.parse_instance.result c.deref.ensures.value c.in-Ok.ensures.read c.parse_instance.ensures
-
-pub returns-in-Err-clause-read : goal.returns-in-Err-clause-read
-returns-in-Err-clause-read g c = read_stops c.in-Err.fail c.in-Err.ensures.read

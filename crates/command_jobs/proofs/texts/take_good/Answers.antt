@@ -1,5 +1,0 @@
-use Rattle.command_jobs.proofs.Several.{parsed_of}
-use Rattle.command_jobs.proofs.texts.take_good.Goals as goal
-
-pub returns : goal.returns
-returns c = parsed_of c.deref.ensures.value c.parse_good.ensures

@@ -1,9 +1,0 @@
-pub mod Numbers
-pub mod Options
-pub mod Walking
-pub mod Levels
-pub mod Entering
-pub mod Meaning
-pub mod Matched
-pub mod Budgets
-pub mod Adding

@@ -1,0 +1,6 @@
+use Rattle.std.proofs.Common.{All}
+use Rattle.route_pricing.specs.Pricing.{IsServicePrice}
+use Rattle.price_points.proofs.dual_repair.cut_all.Given as goal
+
+abbrev pub invariant-loop-place : goal.invariant-loop-place
+invariant-loop-place l = All IsServicePrice l.weights

@@ -1,6 +1,0 @@
-use Rattle.std.proofs.Common.{All}
-use Rattle.route_pricing.specs.Pricing.{IsServicePrice}
-use Rattle.price_points.proofs.starting.start_weights.Given as goal
-
-abbrev pub invariant-loop-place : goal.invariant-loop-place
-invariant-loop-place l = All IsServicePrice l.weights.items

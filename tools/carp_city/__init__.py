@@ -1,0 +1,1 @@
+"""A city with more streets than one instance holds: the parts of `tools/city`."""

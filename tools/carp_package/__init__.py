@@ -1,0 +1,1 @@
+"""Makes a package of Debian of the built program, the tools, and what tells of them."""
