@@ -363,6 +363,8 @@ def main() -> None:
     if not (os.path.isfile(program) and os.access(program, os.X_OK)):
         sys.exit(f"tools_city: no program at {program}")
     os.environ["CARP"] = program
+    # A shell that runs this in the background lets interrupts be ignored, and so would what is started here.
+    signal.signal(signal.SIGINT, signal.default_int_handler)
     packages = {"scipy": "python3-scipy", "distributed": "python3-distributed", "osmium": "python3-pyosmium"}
     for name, package in packages.items():
         if not HAS[name]:

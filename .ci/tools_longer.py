@@ -288,4 +288,6 @@ if __name__ == "__main__":
     if len(sys.argv) < 2:
         sys.exit(__doc__)
     PROGRAM = os.path.realpath(sys.argv.pop(1))
+    # A shell that runs this in the background lets interrupts be ignored, and so would what is started here.
+    signal.signal(signal.SIGINT, signal.default_int_handler)
     unittest.main()

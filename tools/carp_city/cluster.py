@@ -7,10 +7,11 @@ import logging
 import os
 import shutil
 import signal
+import sys
 import tempfile
 import zipfile
 from collections.abc import Callable, Iterator, Mapping
-from contextlib import ExitStack, suppress
+from contextlib import ExitStack, contextmanager, suppress
 from multiprocessing import resource_tracker
 
 import carp_run
@@ -28,6 +29,21 @@ WITH_PARENT = os.path.join(TOOLS, "carp_city", "with_parent")
 SENT = ("carp_run/__init__.py", "carp_run/calls.py", "carp_run/files.py", "carp_city/__init__.py", "carp_city/tasks.py")
 
 
+@contextmanager
+def silent_children() -> Iterator[None]:
+    """Drops what processes that start in this context print as errors: a dying worker prints a trace. This process prints as before."""
+    sys.stderr.flush()
+    before, own = sys.stderr, os.dup(2)
+    with open(os.devnull, "wb") as null, open(own, "w", encoding="utf-8", errors="replace", buffering=1) as printed:
+        os.dup2(null.fileno(), 2)
+        sys.stderr = printed
+        try:
+            yield
+        finally:
+            os.dup2(own, 2)
+            sys.stderr = before
+
+
 class Cluster:
     """Workers that do tasks; as a context it ends those that it started."""
 
@@ -38,8 +54,10 @@ class Cluster:
         self.stack = ExitStack()
 
     def __enter__(self) -> "Cluster":
-        for name in (name for name in logging.root.manager.loggerDict if name.startswith("distributed")):
+        # What Dask says of a worker that dies, or asyncio of a message that nobody waits for, is no error of this run.
+        for name in (name for name in logging.root.manager.loggerDict if name.startswith(("distributed", "asyncio"))):
             logging.getLogger(name).setLevel(logging.CRITICAL)
+        self.stack.enter_context(silent_children())
         scratch = self.stack.enter_context(tempfile.TemporaryDirectory(prefix="carp-city-"))
         # The workers that are started now block an interrupt of the terminal: this process takes it, and ends them.
         # What multiprocessing starts first would let interrupts through again, so that it is started before.
