@@ -57,6 +57,22 @@ for last; do [ -f "$last" ] && case "$last" in *new.cert) sed -i 's/^bound /boun
 exit $code
 """
 
+# An interrupt falls into the end of an object, where Python drops it.
+DROPPED = """
+import sys, time
+sys.path.insert(0, sys.argv[1])
+from carp_city import cluster
+class Ending:
+    def __del__(self):
+        raise KeyboardInterrupt
+cluster.silence_dask()
+Ending()
+try:
+    time.sleep(20)
+except KeyboardInterrupt:
+    sys.exit(130)
+"""
+
 
 class CityTest(FolderTest):
     """A test of the command in a new folder, with a small city."""
@@ -251,6 +267,10 @@ class Runs(CityTest):
             edges = [(edge.demand, edge.service) for edge in carp_run.read_instance(paths[0]).edges if edge.demand]
             self.assertEqual(edges, wanted)
         self.assertIn("No bound of the whole city is claimed", self.said)
+
+    def test_no_interrupt_is_lost(self) -> None:
+        done = subprocess.run([PYTHON, "-c", DROPPED, str(TOP / "tools")], capture_output=True, text=True)
+        self.assertEqual((done.returncode, done.stderr), (130, ""))
 
     def test_scheduler(self) -> None:
         """Workers of a scheduler, which have only the program on their path, give the plan that one here gives."""

@@ -9,10 +9,12 @@ import shutil
 import signal
 import sys
 import tempfile
+import threading
 import zipfile
 from collections.abc import Callable, Iterator, Mapping
 from contextlib import ExitStack, contextmanager, suppress
 from multiprocessing import resource_tracker
+from typing import Any
 
 import carp_run
 import dask
@@ -44,6 +46,22 @@ def silent_children() -> Iterator[None]:
             sys.stderr = before
 
 
+def silence_dask() -> None:
+    """Drops what Dask says of workers that die, asyncio of messages that nobody waits for, and futures of a cluster that is gone."""
+    for name in (name for name in logging.root.manager.loggerDict if name.startswith(("distributed", "asyncio"))):
+        logging.getLogger(name).setLevel(logging.CRITICAL)
+    tell = sys.unraisablehook
+
+    def tell_others(found: Any) -> None:
+        if issubclass(found.exc_type, KeyboardInterrupt):
+            # An interrupt that falls into the end of an object is dropped there, so that it comes again.
+            threading.Timer(0.1, os.kill, (os.getpid(), signal.SIGINT)).start()
+        elif not str(getattr(found.object, "__module__", "")).startswith("distributed"):
+            tell(found)
+
+    sys.unraisablehook = tell_others
+
+
 class Cluster:
     """Workers that do tasks; as a context it ends those that it started."""
 
@@ -54,9 +72,7 @@ class Cluster:
         self.stack = ExitStack()
 
     def __enter__(self) -> "Cluster":
-        # What Dask says of a worker that dies, or asyncio of a message that nobody waits for, is no error of this run.
-        for name in (name for name in logging.root.manager.loggerDict if name.startswith(("distributed", "asyncio"))):
-            logging.getLogger(name).setLevel(logging.CRITICAL)
+        silence_dask()
         self.stack.enter_context(silent_children())
         scratch = self.stack.enter_context(tempfile.TemporaryDirectory(prefix="carp-city-"))
         # The workers that are started now block an interrupt of the terminal: this process takes it, and ends them.
