@@ -1,6 +1,6 @@
 // The basis of a program with its inverse, its activities and its multipliers.
 ghost use Rattle.std.specs.Prelude.{◌≡◌, ◌≤◌, IfOk, length};
-ghost use Rattle.linear_program.specs.Corners.{IsCorner};
+ghost use Rattle.linear_program.specs.Bases.{IsBasis};
 
 use crate::fixed::{Amount, Fraction, ONE};
 use crate::ids::{COLUMNS, ROWS, RowId};
@@ -10,9 +10,9 @@ use std::alloc::Global;
 
 /// A basis of a program. The entry of row place k and basis place i of the inverse is at `k * MOST_ROWS + i`.
 #[derive(Drop)]
-pub(crate) struct Corner {
+pub(crate) struct Basis {
     /// The variable at each basis place. Places behind the last row have no meaning here, nor in the other lists.
-    pub basis: Vec<Variable>,
+    pub variables: Vec<Variable>,
     /// The activity at each basis place.
     pub activities: Vec<Amount>,
     /// The multiplier of each row of the store, 0 for rows that are not in use.
@@ -40,14 +40,14 @@ pub(crate) fn more_work(work: u64, entries: usize) -> u64 {
     work.saturating_add(entries as u64)
 }
 
-impl Corner {
+impl Basis {
     /// The basis of no row.
-    pub(crate) fn new(alloc: Global) -> Result<Corner, Memory>
-        ensures { IfOk result (IsCorner 0) }
+    pub(crate) fn new(alloc: Global) -> Result<Basis, Memory>
+        ensures { IfOk result (IsBasis 0) }
     {
         let none = Variable::Surplus(RowId::FIRST);
-        Ok(Corner {
-            basis: vec![in alloc; none; MOST_ROWS]?,
+        Ok(Basis {
+            variables: vec![in alloc; none; MOST_ROWS]?,
             activities: vec![in alloc; Amount::ZERO; MOST_ROWS]?,
             multipliers: vec![in alloc; Amount::ZERO; ROWS]?,
             inverse: Vec::new(alloc),
@@ -59,12 +59,12 @@ impl Corner {
     }
 
     /// A copy, for so many rows.
-    pub(crate) fn copy(&self, alloc: Global, rows: usize) -> Result<Corner, Memory>
-        requires { IsCorner rows self.now }
-        ensures { IfOk result (IsCorner rows) }
+    pub(crate) fn copy(&self, alloc: Global, rows: usize) -> Result<Basis, Memory>
+        requires { IsBasis rows self.now }
+        ensures { IfOk result (IsBasis rows) }
     {
-        Ok(Corner {
-            basis: Vec::from_slice(alloc, &self.basis)?,
+        Ok(Basis {
+            variables: Vec::from_slice(alloc, &self.variables)?,
             activities: Vec::from_slice(alloc, &self.activities)?,
             multipliers: Vec::from_slice(alloc, &self.multipliers)?,
             inverse: front(alloc, &self.inverse, rows * MOST_ROWS)?,
@@ -77,7 +77,7 @@ impl Corner {
 
     /// Whether no activity of the first places is below 0 by more than 2^-8.
     pub(crate) fn fits(&self, rows: usize) -> bool
-        requires { IsCorner rows self.now }
+        requires { IsBasis rows self.now }
     {
         self.activities[..rows]
             .iter()

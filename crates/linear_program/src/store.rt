@@ -50,16 +50,16 @@ pub(crate) struct Column {
 
 /// Rows and columns that many programs share. Contracts see the list of rows and that of columns.
 #[derive(Drop)]
-pub struct Columns {
+pub struct Store {
     forbidden_cost: Amount,
     rows: Vec<RowBounds>,
     columns: Vec<Column>,
 }
 
-impl Model for Columns {
-    ghost use Rattle.linear_program.specs.Stores.{Store};
+impl Model for Store {
+    ghost use Rattle.linear_program.specs.Stores.{Contents};
 
-    ghost Value = { Store };
+    ghost Value = { Contents };
 
     ghost view = { λ s. record { rows = s.rows.items; columns = s.columns.items } };
 }
@@ -185,16 +185,16 @@ fn forget_all(columns: &mut [Column], rows: usize) {
     }
 }
 
-impl Columns {
+impl Store {
     ghost use Rattle.linear_program.specs.Stores.{HasColumnAdded, HasRowAdded};
 
     /// A store with no row and no column. The basis of a program gives up a forbidden column as if it cost so much
     /// more, at most 2^55.
-    pub fn new(alloc: Global, forbidden_cost: u64) -> Columns
+    pub fn new(alloc: Global, forbidden_cost: u64) -> Store
         ensures rows { result.rows ≡ [] }
         ensures columns { result.columns ≡ [] }
     {
-        Columns {
+        Store {
             forbidden_cost: Amount::of(forbidden_cost.min(MOST_COST) as i64),
             rows: Vec::new(alloc),
             columns: Vec::new(alloc),
