@@ -1,3 +1,2 @@
 pub mod Surcharges
 pub mod Offered
-pub mod Pushed

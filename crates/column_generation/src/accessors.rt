@@ -13,7 +13,7 @@ use std::mem;
 impl Generation {
     /// The value of the program, in parts of 1/1,000,000 of a unit of cost. It counts no service costs.
     pub fn value(&self) -> i128 {
-        i128::from(self.program.value(&self.master.columns))
+        i128::from(self.program.value(&self.master.store))
     }
 
     /// The value that is enough, which counts no service costs either.

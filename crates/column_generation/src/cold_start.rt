@@ -202,9 +202,9 @@ pub(crate) fn first_program(
 }
 
 fn use_rows(alloc: Global, master: &Master, program: &mut Program) -> Result<(), Memory> {
-    for number in 0..master.columns.row_count() {
+    for number in 0..master.store.row_count() {
         if let Some(row) = RowId::new(number) {
-            program.use_row(alloc, &master.columns, row)?;
+            program.use_row(alloc, &master.store, row)?;
         }
     }
     Ok(())

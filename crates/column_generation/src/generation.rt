@@ -220,14 +220,14 @@ impl Generation {
         self.tolerance = tolerance_for(self.gap);
         self.program.set_tolerance(self.tolerance);
         let caps = Caps::by_rows(self.program.rows().len()).within(self.limits.work);
-        let columns = &self.master.columns;
+        let store = &self.master.store;
         match self.due {
             Due::Nothing => {}
             Due::Solve => {
-                self.program.solve(alloc, columns, false, &caps)?;
+                self.program.solve(alloc, store, false, &caps)?;
             }
             Due::SolveWithNewRows => {
-                self.program.solve(alloc, columns, true, &caps)?;
+                self.program.solve(alloc, store, true, &caps)?;
             }
         }
         Ok(())
@@ -436,7 +436,7 @@ impl Generation {
         let Some(column) = used else {
             return Ok(asked);
         };
-        let reduced = self.program.reduced_cost(&self.master.columns, column);
+        let reduced = self.program.reduced_cost(&self.master.store, column);
         let useful = reduced < 0 && reduced.unsigned_abs() > LEAST_TOLERANCE;
         Ok(Asked {
             value: asked.value,

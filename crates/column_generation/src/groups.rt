@@ -4,7 +4,7 @@ ghost use Rattle.std.specs.List.Sorted.{IsStrictlyIncreasing};
 ghost use Rattle.branch_rules.specs.Bonds.{IsGroup};
 ghost use Rattle.carp_base.specs.Problem.{IsRequired};
 ghost use Rattle.route_pricing.specs.Pricing.{IsServicePrice};
-ghost use Rattle.column_generation.specs.Groups.{AreOffered};
+ghost use Rattle.column_generation.specs.Groups.{AreOffered, most_edges, most_groups};
 
 use branch_rules::WeightedGroup;
 use carp_base::{Instance, Memory};
@@ -50,7 +50,7 @@ fn are_required(inst: &Instance, edges: &[u32]) -> bool
 /// Whether these are a group of at most 120 edges.
 pub(crate) fn is_small_group(inst: &Instance, edges: &[u32]) -> bool
     ensures group { IsTrue result → IsGroup inst.now edges.now }
-    ensures small { IsTrue result → length edges.now ≤ 120 }
+    ensures small { IsTrue result → length edges.now ≤ most_edges }
 {
     if edges.len() < 2 || MOST_EDGES < edges.len() {
         return false;
@@ -199,11 +199,11 @@ fn push_group(
     groups: &mut Vec<WeightedGroup>,
 ) -> Result<(), Memory>
     requires group { IsGroup inst.now edges.now }
-    requires small { length edges.now ≤ 120 }
+    requires small { length edges.now ≤ most_edges }
     requires some { weight ≢ pos 0 }
     requires pair { weight <ℤ pos 0 → length edges.now ≡ 2 }
     requires weight { IsServicePrice weight }
-    requires room { length groups.old.items < 500 }
+    requires room { length groups.old.items < most_groups }
     requires offered { AreOffered inst.now groups.old.items }
     ensures offered { OnOk result (AreOffered inst.now groups.new.items) }
 {

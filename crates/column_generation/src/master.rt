@@ -9,7 +9,7 @@ use branch_rules::Decision;
 use carp_base::{Edge, Instance, Memory};
 use cut_pool::Shore;
 use deadhead_paths::Distances;
-use linear_program::{ColumnId, Columns, Entry, RowBounds, RowId};
+use linear_program::{ColumnId, Entry, RowBounds, RowId, Store};
 use price_points::{Constraint, Demand, Members, UNIT};
 use std::alloc::Global;
 use std::collections::HashMap;
@@ -24,7 +24,7 @@ const NOISE: u64 = 256;
 /// deadheads before those of tours.
 #[derive(Drop)]
 pub(crate) struct Master {
-    pub(crate) columns: Columns,
+    pub(crate) store: Store,
     pub(crate) constraints: Vec<Constraint>,
     /// For each constraint, the search that put its row in use last.
     pub(crate) since: Vec<u32>,
@@ -40,11 +40,11 @@ impl Master {
         requires { dist.now.problem ≡ inst.now }
     {
         let scale = Scale::of(inst, dist);
-        let mut columns = Columns::new(alloc, scale.penalty());
-        add_services(inst, dist, scale, &mut columns)?;
-        add_deadheads(alloc, inst.edges(), &mut columns)?;
+        let mut store = Store::new(alloc, scale.penalty());
+        add_services(inst, dist, scale, &mut store)?;
+        add_deadheads(alloc, inst.edges(), &mut store)?;
         Ok(Master {
-            columns,
+            store,
             constraints: Vec::new(alloc),
             since: Vec::new(alloc),
             tours: Vec::new(alloc),
@@ -132,7 +132,7 @@ impl Master {
         self.constraints.truncate(count);
         self.since.truncate(count);
         let rows = count.saturating_add(inst.required() as usize);
-        self.columns.forget_rows(rows);
+        self.store.forget_rows(rows);
     }
 
     // Adds a constraint, and answers its place.
@@ -145,7 +145,7 @@ impl Master {
         let place = self.constraints.len();
         let bounds = self.bounds(inst.edges(), &constraint);
         let coefficients = self.coefficients(alloc, inst.edges(), &constraint)?;
-        if self.columns.add_row(bounds, &coefficients)?.is_none() {
+        if self.store.add_row(bounds, &coefficients)?.is_none() {
             return Ok(None);
         }
         self.constraints.push(constraint)?;
@@ -172,7 +172,7 @@ impl Master {
         edges: &[Edge],
         constraint: &Constraint,
     ) -> Result<Vec<i32>, Memory> {
-        let mut coefficients = Vec::with_capacity(alloc, self.columns.column_count())?;
+        let mut coefficients = Vec::with_capacity(alloc, self.store.column_count())?;
         push_deadheads(edges, constraint, &mut coefficients)?;
         push_tours(edges, &self.tours, constraint, &mut coefficients)?;
         Ok(coefficients)
@@ -194,7 +194,7 @@ impl Master {
         }
         let edges = inst.edges();
         let entries = self.entries(alloc, inst, &tour)?;
-        let added = self.columns.add_column(tour.cost(edges, number), entries)?;
+        let added = self.store.add_column(tour.cost(edges, number), entries)?;
         if let Some(column) = added {
             self.tours.push(tour)?;
             self.known.insert(number, column)?;
@@ -217,13 +217,13 @@ fn add_services(
     inst: &Instance,
     dist: &Distances,
     scale: Scale,
-    columns: &mut Columns,
+    store: &mut Store,
 ) -> Result<(), Memory>
     requires { dist.now.problem ≡ inst.now }
 {
     for e in 1..inst.required() + 1 {
         let bounds = service_bounds(inst, dist, scale, e);
-        columns.add_row(bounds, &[])?;
+        store.add_row(bounds, &[])?;
     }
     Ok(())
 }
@@ -237,9 +237,9 @@ fn service_bounds(inst: &Instance, dist: &Distances, scale: Scale, e: u32) -> Ro
 }
 
 // A column for each deadhead.
-fn add_deadheads(alloc: Global, edges: &[Edge], columns: &mut Columns) -> Result<(), Memory> {
+fn add_deadheads(alloc: Global, edges: &[Edge], store: &mut Store) -> Result<(), Memory> {
     for place in 0..edges.len() {
-        columns.add_column(deadhead_cost(&edges[place], place), Vec::new(alloc))?;
+        store.add_column(deadhead_cost(&edges[place], place), Vec::new(alloc))?;
     }
     Ok(())
 }

@@ -65,5 +65,5 @@ pub(crate) fn trim_columns(
         return Ok(());
     }
     let deadheads = inst.edge_count() as usize;
-    program.forget_columns(alloc, &master.columns, keep, deadheads)
+    program.forget_columns(alloc, &master.store, keep, deadheads)
 }

@@ -199,7 +199,7 @@ pub(crate) fn use_place(
     let Some(row) = master.row(inst, place) else {
         return Ok(false);
     };
-    let used = program.use_row(alloc, &master.columns, row)?;
+    let used = program.use_row(alloc, &master.store, row)?;
     if used {
         master.note_use(place, now);
     }

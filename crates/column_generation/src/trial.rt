@@ -38,7 +38,7 @@ impl Generation {
         let mut copy = self.program.copy(alloc)?;
         forbid_unlawful(alloc, inst, &self.master, allowed, &mut copy)?;
         use_decision(alloc, inst, pool, decision, &mut self.master, &mut copy)?;
-        let value = copy.estimate(alloc, &self.master.columns, STEPS)?;
+        let value = copy.estimate(alloc, &self.master.store, STEPS)?;
         let touched = copy.work().saturating_sub(self.program.work());
         self.spent = self.spent.saturating_add(touched);
         if count < self.master.constraints.len() {

@@ -89,7 +89,7 @@ impl Generation {
             .saturating_add(100);
         let deadheads = inst.edge_count() as usize;
         self.program
-            .forget_columns(alloc, &self.master.columns, keep, deadheads)
+            .forget_columns(alloc, &self.master.store, keep, deadheads)
     }
 
     /// Puts the rows of the decisions of a branch in use, and begins anew within limits.
@@ -146,7 +146,7 @@ fn program_of(
     use_columns(inst, allowed, master, kept, &mut program)?;
     use_basis(&kept.basis, &mut program)?;
     forbid_unlawful(alloc, inst, master, allowed, &mut program)?;
-    program.start_from(alloc, &master.columns, &kept.basis)?;
+    program.start_from(alloc, &master.store, &kept.basis)?;
     Ok(program)
 }
 
@@ -160,7 +160,7 @@ fn use_rows(
 ) -> Result<(), Memory> {
     for row in rows {
         if holds(inst, master, decisions, *row) {
-            program.use_row(alloc, &master.columns, *row)?;
+            program.use_row(alloc, &master.store, *row)?;
         }
     }
     Ok(())

@@ -1,6 +1,6 @@
 // Activities after a thousand steps, among which some pivots are small, for the cases of `data/linear_program`.
 
-use linear_program::{Basic, Caps, ColumnId, Columns, Entry, Program, RowBounds, RowId, Variable};
+use linear_program::{Basic, Caps, ColumnId, Entry, Program, RowBounds, RowId, Store, Variable};
 use rand_core::Rng;
 use rand_pcg::Lcg64Xsh32;
 use samples::number;
@@ -22,7 +22,7 @@ pub fn answer(alloc: Global, _over: &str, call: &str, input: &str) -> Result<Str
         Err("no such call")?
     }
     let mut generator = Lcg64Xsh32::new(number(input)?, 1);
-    let mut store = Columns::new(alloc, 1_000_000_000);
+    let mut store = Store::new(alloc, 1_000_000_000);
     let mut program = Program::new(alloc)?;
     let sides = add_rows(alloc, &mut store, &mut program, &mut generator)?;
     add_columns(alloc, &mut store, &mut program, &mut generator)?;
@@ -43,7 +43,7 @@ fn draw(generator: &mut Lcg64Xsh32, limit: u32) -> u32 {
 // Rows that are to be covered 1 to 20 times, and what each is, in parts of 2^40.
 fn add_rows(
     alloc: Global,
-    store: &mut Columns,
+    store: &mut Store,
     program: &mut Program,
     generator: &mut Lcg64Xsh32,
 ) -> Result<Vec<i128>, Fail> {
@@ -58,7 +58,7 @@ fn add_rows(
 
 fn add_row(
     alloc: Global,
-    store: &mut Columns,
+    store: &mut Store,
     program: &mut Program,
     right_side: i64,
 ) -> Result<(), Fail> {
@@ -74,7 +74,7 @@ fn add_row(
 
 fn add_columns(
     alloc: Global,
-    store: &mut Columns,
+    store: &mut Store,
     program: &mut Program,
     generator: &mut Lcg64Xsh32,
 ) -> Result<(), Fail> {
@@ -88,7 +88,7 @@ fn add_columns(
 // A column that costs 1,000 to 1,400 for each unit that it covers.
 fn add_column(
     alloc: Global,
-    store: &mut Columns,
+    store: &mut Store,
     generator: &mut Lcg64Xsh32,
 ) -> Result<ColumnId, Fail> {
     let mut sum: u32 = 0;
@@ -126,7 +126,7 @@ fn entry(row: usize, less_one: u8) -> Result<Entry, Fail> {
 // multiplier of a row.
 fn are_covered(
     alloc: Global,
-    store: &Columns,
+    store: &Store,
     program: &mut Program,
     generator: &mut Lcg64Xsh32,
     sides: &[i128],
@@ -153,7 +153,7 @@ fn change_range(program: &mut Program, generator: &mut Lcg64Xsh32) -> Result<(),
 // Whether each row gets its right side but for a thousandth, of which a quarter is the noise of the right sides.
 fn is_covered(
     alloc: Global,
-    store: &Columns,
+    store: &Store,
     program: &Program,
     sides: &[i128],
 ) -> Result<bool, Fail> {
@@ -166,7 +166,7 @@ fn is_covered(
 }
 
 // Takes from each row what a variable of the basis gives it, in parts of 2^40.
-fn take_basic(store: &Columns, basic: &Basic, left: &mut [i128]) {
+fn take_basic(store: &Store, basic: &Basic, left: &mut [i128]) {
     let activity = i128::from(basic.activity);
     match basic.variable {
         Variable::Column(column) => take_column(store.entries(column), activity, left),

@@ -3,12 +3,12 @@ use Rattle.std.specs.Prelude.{ℕ, ◌≤◌, List, length}
 use Rattle.std.specs.List.{All}
 use Rattle.std.specs.List.Sorted.{IsStrictlyIncreasing}
 use Rattle.carp_base.specs.Problem.{Problem}
-use Rattle.group_search.specs.Flows.{FlowTable}
+use Rattle.group_search.specs.Flows.{FlowTable, most_services}
 use Rattle.group_search.specs.Violation.{AreViolated, violation}
 
 -- at most 600 numbers of so many services
 pub record IsWithin (services : ℕ) (group : List ℕ) : Type 0 where
-  pub few : length group ≤ 600
+  pub few : length group ≤ most_services
   pub within : All (λ e. e ≤ services) group
 
 -- rising numbers from 1 to m

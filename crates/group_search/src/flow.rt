@@ -1,10 +1,13 @@
 // The flow between services.
 ghost use Rattle.std.specs.Prelude.{◌≡◌, ℕ, ◌+◌, ◌*◌, ◌<◌, ◌≤◌, length, min, IfOk};
-ghost use Rattle.group_search.specs.Flows.{IsAdded, IsRaised, between};
+ghost use Rattle.group_search.specs.Flows.{IsAdded, IsRaised, between, most_services, most_flow};
 
 use carp_base::{Instance, Memory};
 use std::alloc::Global;
 use std::marker::Model;
+
+// No flow from one service to another is greater.
+const MOST_FLOW: u64 = 4_294_967_295;
 
 /// How much of one service directly follows another in a fractional solution, in parts of 2^20: for each pair of
 /// required edges the sum of the multipliers of the tours in which the two follow each other, in either order. The
@@ -45,7 +48,7 @@ impl Flow {
     /// The number of services, 0 to 600. They are the required edges from 1 to this number.
     pub fn services(&self) -> u32
         ensures value { result ≡ self.now.services }
-        ensures few { result ≤ 600 }
+        ensures few { result ≤ most_services }
     {
         self.services
     }
@@ -56,7 +59,7 @@ impl Flow {
         requires e { e ≤ self.now.services }
         requires f { f ≤ self.now.services }
         ensures value { result ≡ between self.now e f }
-        ensures small { result ≤ 4294967295 }
+        ensures small { result ≤ most_flow }
     {
         u64::from(self.amounts[self.place(e, f)])
     }
@@ -97,8 +100,8 @@ impl Flow {
 
 // A flow and so many parts more, as far as a flow can go.
 fn sum_of(flow: u32, amount: u64) -> u32
-    ensures { result ≡ min (flow + amount) 4294967295 }
+    ensures { result ≡ min (flow + amount) most_flow }
 {
     let sum = u64::from(flow).saturating_add(amount);
-    sum.min(4_294_967_295) as u32
+    sum.min(MOST_FLOW) as u32
 }

@@ -2,6 +2,7 @@
 ghost use Rattle.std.specs.Prelude.{◌≡◌, ◌+◌, ◌<◌, ◌≤◌, ◌++◌, ◌∷◌, nat_eq, not, [], length, IfOk, OnOk, MatchOption, if◌then◌else◌};
 ghost use Rattle.std.specs.List.{All, list_any};
 ghost use Rattle.std.specs.Cmp.Lexicographic.{pointwise};
+ghost use Rattle.group_search.specs.Flows.{most_services, most_flow_out};
 ghost use Rattle.carp_base.specs.Problem.{IsRequired, edge_at};
 ghost use Rattle.cut_pool.specs.Shores.{vehicles};
 ghost use Rattle.branch_rules.specs.Bonds.{IsGroup, group_demand};
@@ -20,7 +21,7 @@ fn flow_to(flow: &Flow, group: &[u32], f: u32) -> u64
     requires group { IsWithin flow.now.services group.now }
     requires f { f ≤ flow.now.services }
     ensures value { result ≡ flow_to flow.now group.now f }
-    ensures small { result ≤ 2576980377000 }
+    ensures small { result ≤ most_flow_out }
 {
     let mut sum: u64 = 0;
     for e in group {
@@ -34,7 +35,7 @@ fn outward(flow: &Flow, group: &[u32], f: u32) -> u64
     requires group { IsWithin flow.now.services group.now }
     requires f { f ≤ flow.now.services }
     ensures value { result ≡ outward flow.now group.now f }
-    ensures small { result ≤ 2576980377000 }
+    ensures small { result ≤ most_flow_out }
 {
     if group.contains(&f) {
         0
@@ -69,7 +70,7 @@ pub(crate) fn demand_at(inst: &Instance, e: u32) -> u64
 
 // The demand of a group.
 fn demand_of(inst: &Instance, group: &[u32]) -> u64
-    requires few { length group.now ≤ 600 }
+    requires few { length group.now ≤ most_services }
     requires required { All (IsRequired inst.now) group.now }
     ensures value { result ≡ group_demand inst.now group.now }
     ensures small { result ≤ 18000000 }
@@ -83,7 +84,7 @@ fn demand_of(inst: &Instance, group: &[u32]) -> u64
 
 // How many vehicles the demand of a group takes.
 fn vehicles(inst: &Instance, group: &[u32]) -> u64
-    requires few { length group.now ≤ 600 }
+    requires few { length group.now ≤ most_services }
     requires required { All (IsRequired inst.now) group.now }
     ensures value { result ≡ vehicles inst.now (group_demand inst.now group.now) }
     ensures small { result ≤ 18000000 }

@@ -7,23 +7,23 @@
 //! offers a price set for a leaf, and a split of it: splits that look worth it are tried on copies of the program. It
 //! only offers: the pricing table says whether a set fits, and whoever takes a split judges it.
 //!
-//! - `advising`: the adviser. `programs`: its type, and the programs of a leaf.
-//! - `shelf`: programs that are kept, and for which leaf.
+//! - `adviser`: the adviser. `programs`: its type, and the programs of a leaf.
+//! - `kept_programs`: programs that are kept, and for which leaf.
 //! - `cuts`, `pairs`, `poor`, `candidates`: splits that look worth a trial.
 //! - `decisions`: the decisions of a split, and the branches of its children.
-//! - `trials`, `ranking`, `rivals`: what both children of a split come to, and which split is offered.
+//! - `trials`, `ranked_splits`, `rivals`: what both children of a split come to, and which split is offered.
 #![tactic(auto)]
 
-mod advising;
+mod adviser;
 mod candidates;
 mod cuts;
 mod decisions;
+mod kept_programs;
 mod pairs;
 mod poor;
 mod programs;
-mod ranking;
+mod ranked_splits;
 mod rivals;
-mod shelf;
 mod trials;
 
 pub use programs::LeafPrograms;

@@ -11,10 +11,10 @@ ghost use Rattle.leaf_adviser.specs.Leaves.{IsLeaf};
 ghost use Rattle.leaf_adviser.specs.Offers.{IsOffer};
 
 use crate::decisions::last_of;
+use crate::kept_programs::KeptPrograms;
 use crate::poor::Poor;
-use crate::ranking::ranked_splits;
+use crate::ranked_splits::ranked_splits;
 use crate::rivals::try_rivals;
-use crate::shelf::Shelf;
 use crate::trials::{Scored, Tried};
 use branch_rules::{Branch, Node, PriceSet};
 use carp_base::{Instance, Memory, Task};
@@ -61,7 +61,7 @@ const WORK_OF_TURN: u64 = 234_375_000;
 #[derive(Drop)]
 pub struct LeafPrograms {
     generation: Option<Generation>,
-    shelf: Shelf,
+    kept: KeptPrograms,
     poor: Poor,
     // So many entries and steps all leaves together may take.
     most_work: u64,
@@ -87,7 +87,7 @@ impl LeafPrograms {
     pub(crate) fn for_turns(alloc: Global, turns: u64) -> LeafPrograms {
         LeafPrograms {
             generation: None,
-            shelf: Shelf::new(alloc),
+            kept: KeptPrograms::new(alloc),
             poor: Poor::new(alloc),
             most_work: WORK_OF_TURN.saturating_mul(turns.max(FEW_TURNS)),
         }
@@ -226,7 +226,7 @@ impl LeafPrograms {
     {
         let held = mem::replace(&mut self.generation, None);
         let Some(generation) = held else {
-            self.shelf = Shelf::new(alloc);
+            self.kept = KeptPrograms::new(alloc);
             return begin(alloc, problem, table, pool, branch, from.set, from.enough);
         };
         self.next_generation(alloc, problem, table, pool, branch, from, generation)
@@ -252,12 +252,12 @@ impl LeafPrograms {
     {
         let enough = from.enough;
         let last = last_of(branch);
-        if let Some(kept) = self.shelf.find(from.number, last) {
+        if let Some(kept) = self.kept.find(from.number, last) {
             let found = taken_up(alloc, problem, pool, branch, kept, enough, generation)?;
-            self.shelf.forget(from.number, last);
+            self.kept.forget(from.number, last);
             return Ok(found);
         }
-        if let Some(kept) = self.shelf.last() {
+        if let Some(kept) = self.kept.last() {
             return adopted(
                 alloc, problem, table, pool, branch, kept, enough, generation,
             );
@@ -338,7 +338,7 @@ impl LeafPrograms {
         kept: Kept,
         ranked: &[Scored],
     ) -> Result<Option<Node>, Memory> {
-        self.shelf.put(number, None, kept)?;
+        self.kept.put(number, None, kept)?;
         Ok(ranked.first().map(|scored| scored.node))
     }
 
@@ -350,8 +350,8 @@ impl LeafPrograms {
             second: other,
             ..
         } = tried;
-        self.shelf.put(number, Some(node.first_decision()), one)?;
-        self.shelf.put(number, Some(node.second_decision()), other)?;
+        self.kept.put(number, Some(node.first_decision()), one)?;
+        self.kept.put(number, Some(node.second_decision()), other)?;
         Ok(Some(node))
     }
 }

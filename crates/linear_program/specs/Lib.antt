@@ -1,4 +1,5 @@
-pub mod Corners
+pub mod Bases
+pub mod Limits
 pub mod Programs
 pub mod Selections
 pub mod Stores

@@ -1,22 +1,23 @@
 // Whether a basis still gives what its rows demand.
 ghost use Rattle.std.specs.Prelude.{◌≡◌, length};
-ghost use Rattle.linear_program.specs.Corners.{IsCorner};
+ghost use Rattle.linear_program.specs.Limits.{store_row_limit};
+ghost use Rattle.linear_program.specs.Bases.{IsBasis};
 
-use crate::columns::{Columns, Entry};
-use crate::corner::Corner;
+use crate::basis::Basis;
 use crate::costs::term;
 use crate::fixed::{Amount, ONE};
 use crate::ids::RowId;
 use crate::selection::{Selection, Variable};
+use crate::store::{Entry, Store};
 use crate::workspace::Workspace;
 
 // What a row may get above or below its right side, 2^-10.
 const ROOM: u64 = (ONE >> 10) as u64;
 
 // The right side of each row in use, by row of the store.
-fn write_sides(store: &Columns, rows: &[RowId], sides: &mut [Amount])
-    requires { length sides.old ≡ 4000 }
-    ensures { length sides.new ≡ 4000 }
+fn write_sides(store: &Store, rows: &[RowId], sides: &mut [Amount])
+    requires { length sides.old ≡ store_row_limit }
+    ensures { length sides.new ≡ store_row_limit }
 {
     for row in rows {
         sides[row.number()] = store.noisy_right_side(*row);
@@ -25,8 +26,8 @@ fn write_sides(store: &Columns, rows: &[RowId], sides: &mut [Amount])
 
 // Takes from each row what a column gives it.
 fn take_column(entries: &[Entry], activity: Amount, sides: &mut [Amount])
-    requires { length sides.old ≡ 4000 }
-    ensures { length sides.new ≡ 4000 }
+    requires { length sides.old ≡ store_row_limit }
+    ensures { length sides.new ≡ store_row_limit }
 {
     for entry in entries {
         let row = entry.row().number();
@@ -36,9 +37,9 @@ fn take_column(entries: &[Entry], activity: Amount, sides: &mut [Amount])
 }
 
 // Takes from each row what a variable gives it.
-fn take(store: &Columns, variable: Variable, activity: Amount, sides: &mut [Amount])
-    requires { length sides.old ≡ 4000 }
-    ensures { length sides.new ≡ 4000 }
+fn take(store: &Store, variable: Variable, activity: Amount, sides: &mut [Amount])
+    requires { length sides.old ≡ store_row_limit }
+    ensures { length sides.new ≡ store_row_limit }
 {
     match variable {
         Variable::Column(column) => take_column(store.entries(column), activity, sides),
@@ -48,18 +49,18 @@ fn take(store: &Columns, variable: Variable, activity: Amount, sides: &mut [Amou
 }
 
 // Takes from each row what the basis gives it.
-fn take_all(store: &Columns, basis: &[Variable], activities: &[Amount], sides: &mut [Amount])
-    requires { length sides.old ≡ 4000 }
-    ensures { length sides.new ≡ 4000 }
+fn take_all(store: &Store, variables: &[Variable], activities: &[Amount], sides: &mut [Amount])
+    requires { length sides.old ≡ store_row_limit }
+    ensures { length sides.new ≡ store_row_limit }
 {
-    for (variable, activity) in basis.iter().zip(activities) {
+    for (variable, activity) in variables.iter().zip(activities) {
         take(store, *variable, *activity, sides);
     }
 }
 
 // Whether some row in use is left with more than a little.
 fn is_some_left(rows: &[RowId], sides: &[Amount]) -> bool
-    requires { length sides.now ≡ 4000 }
+    requires { length sides.now ≡ store_row_limit }
 {
     rows.iter()
         .any(|row| sides[row.number()].value().unsigned_abs() > ROOM)
@@ -68,20 +69,20 @@ fn is_some_left(rows: &[RowId], sides: &[Amount]) -> bool
 /// Whether the activities give some row 2^-10 more or less than its right side. It takes time in proportion to the
 /// entries of the basis.
 pub(crate) fn is_off(
-    store: &Columns,
+    store: &Store,
     selection: &Selection,
-    corner: &Corner,
+    basis: &Basis,
     space: &mut Workspace,
 ) -> bool
-    requires { IsCorner (length selection.now.rows.items) corner.now }
+    requires { IsBasis (length selection.now.rows.items) basis.now }
 {
     let rows = &selection.rows;
     write_sides(store, rows, &mut space.line);
     let count = rows.len();
     take_all(
         store,
-        &corner.basis[..count],
-        &corner.activities[..count],
+        &basis.variables[..count],
+        &basis.activities[..count],
         &mut space.line,
     );
     is_some_left(rows, &space.line)

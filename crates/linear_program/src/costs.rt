@@ -1,11 +1,12 @@
 // What variables cost, and by how much that is above what the multipliers give for them.
 ghost use Rattle.std.specs.Prelude.{◌≡◌, ◌≤◌, ◌^◌, ◌≤ℤ◌, length, pos, neg_ℤ};
 ghost use Rattle.std.specs.Int.RustNames.{unsigned_abs};
+ghost use Rattle.linear_program.specs.Limits.{store_row_limit};
 
-use crate::columns::{Columns, Entry};
 use crate::fixed::Amount;
 use crate::ids::{ColumnId, ROWS};
 use crate::selection::{Selection, Variable};
+use crate::store::{Entry, Store};
 
 /// A multiplier or an activity times a coefficient.
 pub(crate) fn term(value: i64, coefficient: i64) -> i128
@@ -19,7 +20,7 @@ pub(crate) fn term(value: i64, coefficient: i64) -> i128
 
 /// The sum of the coefficients times the values of their rows.
 pub(crate) fn weighted_sum(values: &[Amount], entries: &[Entry]) -> i128
-    requires { length values.now ≡ 4000 }
+    requires { length values.now ≡ store_row_limit }
     ensures high { result ≤ℤ pos (2 ^ 88) }
     ensures low { neg_ℤ (pos (2 ^ 88)) ≤ℤ result }
 {
@@ -32,7 +33,7 @@ pub(crate) fn weighted_sum(values: &[Amount], entries: &[Entry]) -> i128
 }
 
 // The cost of a column here.
-fn column_cost(store: &Columns, selection: &Selection, column: ColumnId) -> Amount {
+fn column_cost(store: &Store, selection: &Selection, column: ColumnId) -> Amount {
     let cost = store
         .column(column)
         .map_or(Amount::ZERO, |column| column.cost);
@@ -44,7 +45,7 @@ fn column_cost(store: &Columns, selection: &Selection, column: ColumnId) -> Amou
 }
 
 /// The cost of a variable.
-pub(crate) fn cost(store: &Columns, selection: &Selection, variable: Variable) -> Amount {
+pub(crate) fn cost(store: &Store, selection: &Selection, variable: Variable) -> Amount {
     match variable {
         Variable::Column(column) => column_cost(store, selection, column),
         Variable::Surplus(row) => selection.bounds[row.number()].least.negative(),
@@ -55,12 +56,12 @@ pub(crate) fn cost(store: &Columns, selection: &Selection, variable: Variable) -
 /// The reduced cost of a column: its cost less what the multipliers give for it. It takes time in proportion to its
 /// entries.
 pub(crate) fn column_reduced_cost(
-    store: &Columns,
+    store: &Store,
     selection: &Selection,
     multipliers: &[Amount],
     column: ColumnId,
 ) -> Amount
-    requires { length multipliers.now ≡ 4000 }
+    requires { length multipliers.now ≡ store_row_limit }
 {
     let cost = i128::from(column_cost(store, selection, column).value());
     Amount::clamped(cost - weighted_sum(multipliers, store.entries(column)))
@@ -68,12 +69,12 @@ pub(crate) fn column_reduced_cost(
 
 /// The reduced cost of a variable.
 pub(crate) fn reduced_cost(
-    store: &Columns,
+    store: &Store,
     selection: &Selection,
     multipliers: &[Amount],
     variable: Variable,
 ) -> Amount
-    requires { length multipliers.now ≡ 4000 }
+    requires { length multipliers.now ≡ store_row_limit }
 {
     match variable {
         Variable::Column(column) => column_reduced_cost(store, selection, multipliers, column),

@@ -1,9 +1,10 @@
 // A column through the inverse: by how much the activity at each basis place falls for each unit of it.
 ghost use Rattle.std.specs.Prelude.{◌≡◌, ◌*◌, ◌<◌, ◌≤◌, IfSome, length};
+ghost use Rattle.linear_program.specs.Limits.{program_row_limit};
 
-use crate::columns::{Columns, Entry};
 use crate::fixed::Fraction;
 use crate::selection::{MOST_ROWS, Selection, Variable};
+use crate::store::{Entry, Store};
 
 // Coefficients that sum to at most this, without their signs, times entries of the inverse fit in 64 bits.
 const LIGHT: u32 = 100;
@@ -44,7 +45,7 @@ fn add_lines(
     light: bool,
     sums: &mut [i64],
 )
-    requires { length selection.now.rows.items * 700 ≤ length inverse.now }
+    requires { length selection.now.rows.items * program_row_limit ≤ length inverse.now }
 {
     let rows = selection.rows.len();
     for entry in entries {
@@ -81,7 +82,7 @@ fn write_unit(
     negative: bool,
     direction: &mut [Fraction],
 )
-    requires long { length selection.now.rows.items * 700 ≤ length inverse.now }
+    requires long { length selection.now.rows.items * program_row_limit ≤ length inverse.now }
     requires place { IfSome place (λ place. place < length selection.now.rows.items) }
 {
     if let Some(place) = place {
@@ -94,15 +95,15 @@ fn write_unit(
 /// Writes a variable through the inverse. It takes time in proportion to the rows in use times the entries of the
 /// variable.
 pub(crate) fn write_direction(
-    store: &Columns,
+    store: &Store,
     selection: &Selection,
     inverse: &[Fraction],
     variable: Variable,
     sums: &mut [i64],
     direction: &mut [Fraction],
 )
-    requires inverse { length selection.now.rows.items * 700 ≤ length inverse.now }
-    requires sums { length sums.old ≡ 700 }
+    requires inverse { length selection.now.rows.items * program_row_limit ≤ length inverse.now }
+    requires sums { length sums.old ≡ program_row_limit }
 {
     match variable {
         Variable::Surplus(row) => {

@@ -1,9 +1,8 @@
 // The dual method: from multipliers that fit to activities that fit.
 ghost use Rattle.std.specs.Prelude.{◌<◌, length};
-ghost use Rattle.linear_program.specs.Corners.{IsCorner};
+ghost use Rattle.linear_program.specs.Bases.{IsBasis};
 
-use crate::columns::Columns;
-use crate::corner::{Corner, more_work};
+use crate::basis::{Basis, more_work};
 use crate::costs::reduced_cost;
 use crate::direction::write_direction;
 use crate::dual_entering::{dual_entering, entries_in_use};
@@ -13,6 +12,7 @@ use crate::pivoting::Exchange;
 use crate::program::Caps;
 use crate::rebuilding::{is_due, rebuild};
 use crate::selection::{Selection, Variable};
+use crate::store::Store;
 use crate::workspace::Workspace;
 
 // Two numbers agree if they differ by less than one part in 2^8.
@@ -47,22 +47,22 @@ fn agree(size: i64, entry: i64, slack: i64) -> bool {
 
 // The variable that enters for a place that leaves, if its entry there is great enough. Its direction is written.
 fn partner(
-    store: &Columns,
+    store: &Store,
     selection: &Selection,
-    corner: &Corner,
+    basis: &Basis,
     space: &mut Workspace,
     leaving: &Leaving,
     slack: i64,
 ) -> Option<Variable>
-    requires corner { IsCorner (length selection.now.rows.items) corner.now }
+    requires basis { IsBasis (length selection.now.rows.items) basis.now }
     requires leaving { leaving.now.place < length selection.now.rows.items }
 {
-    let entrant = dual_entering(store, selection, corner, leaving, slack, &mut space.line)?;
+    let entrant = dual_entering(store, selection, basis, leaving, slack, &mut space.line)?;
     let variable = entrant.variable;
     write_direction(
         store,
         selection,
-        &corner.inverse,
+        &basis.inverse,
         variable,
         &mut space.sums,
         &mut space.direction,
@@ -77,30 +77,30 @@ fn partner(
 
 // The step with a place that leaves.
 fn advance(
-    store: &Columns,
+    store: &Store,
     selection: &Selection,
-    corner: &mut Corner,
+    basis: &mut Basis,
     space: &mut Workspace,
     leaving: &Leaving,
     slack: i64,
     entries: usize,
 ) -> Outcome
-    requires corner { IsCorner (length selection.now.rows.items) corner.old }
+    requires basis { IsBasis (length selection.now.rows.items) basis.old }
     requires leaving { leaving.now.place < length selection.now.rows.items }
-    ensures { IsCorner (length selection.now.rows.items) corner.new }
+    ensures { IsBasis (length selection.now.rows.items) basis.new }
 {
-    corner.work = more_work(corner.work, entries);
-    match partner(store, selection, corner, space, leaving, slack) {
+    basis.work = more_work(basis.work, entries);
+    match partner(store, selection, basis, space, leaving, slack) {
         Some(variable) => {
             let exchange = Exchange {
                 place: leaving.place,
                 variable,
                 reduced: shifted(
-                    reduced_cost(store, selection, &corner.multipliers, variable),
+                    reduced_cost(store, selection, &basis.multipliers, variable),
                     slack,
                 ),
             };
-            corner.pivot(
+            basis.pivot(
                 &selection.rows,
                 &space.direction,
                 &mut space.terms,
@@ -108,9 +108,9 @@ fn advance(
             );
             Outcome::Taken
         }
-        None if corner.age == 0 => Outcome::Stuck,
+        None if basis.age == 0 => Outcome::Stuck,
         None => {
-            rebuild(store, selection, corner, space);
+            rebuild(store, selection, basis, space);
             Outcome::Taken
         }
     }
@@ -118,43 +118,43 @@ fn advance(
 
 // One step.
 fn step(
-    store: &Columns,
+    store: &Store,
     selection: &Selection,
-    corner: &mut Corner,
+    basis: &mut Basis,
     space: &mut Workspace,
     slack: i64,
     entries: usize,
 ) -> Outcome
-    requires { IsCorner (length selection.now.rows.items) corner.old }
-    ensures { IsCorner (length selection.now.rows.items) corner.new }
+    requires { IsBasis (length selection.now.rows.items) basis.old }
+    ensures { IsBasis (length selection.now.rows.items) basis.new }
 {
-    if is_due(corner, selection.rows.len()) {
-        rebuild(store, selection, corner, space);
+    if is_due(basis, selection.rows.len()) {
+        rebuild(store, selection, basis, space);
     }
-    match dual_leaving(selection, corner) {
-        Some(leaving) => advance(store, selection, corner, space, &leaving, slack, entries),
+    match dual_leaving(selection, basis) {
+        Some(leaving) => advance(store, selection, basis, space, &leaving, slack, entries),
         None => Outcome::Ended,
     }
 }
 
 /// Steps of the dual method, within caps. It answers whether all activities fit.
 pub(crate) fn run_dual(
-    store: &Columns,
+    store: &Store,
     selection: &Selection,
-    corner: &mut Corner,
+    basis: &mut Basis,
     space: &mut Workspace,
     slack: i64,
     caps: &Caps,
 ) -> bool
-    requires { IsCorner (length selection.now.rows.items) corner.old }
-    ensures { IsCorner (length selection.now.rows.items) corner.new }
+    requires { IsBasis (length selection.now.rows.items) basis.old }
+    ensures { IsBasis (length selection.now.rows.items) basis.new }
 {
     let entries = entries_in_use(store, selection);
     for _ in 0..caps.dual {
-        if corner.work > caps.work {
+        if basis.work > caps.work {
             return false;
         }
-        match step(store, selection, corner, space, slack, entries) {
+        match step(store, selection, basis, space, slack, entries) {
             Outcome::Taken => {}
             Outcome::Ended => return true,
             Outcome::Stuck => return false,

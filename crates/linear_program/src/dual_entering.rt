@@ -1,14 +1,15 @@
 // Which variable enters the basis in the dual method.
 ghost use Rattle.std.specs.Prelude.{◌≡◌, ◌*◌, ◌<◌, ◌≤◌, length};
-ghost use Rattle.linear_program.specs.Corners.{IsCorner};
+ghost use Rattle.linear_program.specs.Limits.{program_row_limit, store_row_limit};
+ghost use Rattle.linear_program.specs.Bases.{IsBasis};
 
-use crate::columns::Columns;
-use crate::corner::Corner;
+use crate::basis::Basis;
 use crate::costs::{column_reduced_cost, reduced_cost, weighted_sum};
 use crate::dual_leaving::Leaving;
 use crate::fixed::{Amount, Fraction, LEAST_PIVOT, product};
 use crate::ids::{ColumnId, RowId};
 use crate::selection::{MOST_ROWS, Selection, Variable};
+use crate::store::Store;
 
 // A reduced cost, or 0 if it is below 0, divided by the entry of a variable in the line that leaves, above 0.
 #[derive(Clone, Copy)]
@@ -66,10 +67,10 @@ impl Choice {
 
 // Writes the entries of a basis place by row of the store, with the sign by which the activity is to change.
 fn write_line(rows: &[RowId], inverse: &[Fraction], leaving: &Leaving, line: &mut [Amount])
-    requires rows { length rows.now ≤ 700 }
-    requires inverse { length rows.now * 700 ≤ length inverse.now }
+    requires rows { length rows.now ≤ program_row_limit }
+    requires inverse { length rows.now * program_row_limit ≤ length inverse.now }
     requires leaving { leaving.now.place < length rows.now }
-    requires line { length line.old ≡ 4000 }
+    requires line { length line.old ≡ store_row_limit }
 {
     for place in 0..rows.len() {
         let entry = inverse[place * MOST_ROWS + leaving.place].value();
@@ -79,14 +80,14 @@ fn write_line(rows: &[RowId], inverse: &[Fraction], leaving: &Leaving, line: &mu
 
 // Looks at a unit, if its entry is great enough.
 fn look_at_unit(
-    store: &Columns,
+    store: &Store,
     selection: &Selection,
     multipliers: &[Amount],
     variable: Variable,
     entry: i64,
     choice: &mut Choice,
 )
-    requires { length multipliers.now ≡ 4000 }
+    requires { length multipliers.now ≡ store_row_limit }
 {
     if entry < LEAST_PIVOT {
         return;
@@ -103,15 +104,15 @@ fn look_at_unit(
 
 // Looks at the units of all rows except the one that leaves.
 fn look_at_units(
-    store: &Columns,
+    store: &Store,
     selection: &Selection,
     multipliers: &[Amount],
     line: &[Amount],
     leaving: Variable,
     choice: &mut Choice,
 )
-    requires multipliers { length multipliers.now ≡ 4000 }
-    requires line { length line.now ≡ 4000 }
+    requires multipliers { length multipliers.now ≡ store_row_limit }
+    requires line { length line.now ≡ store_row_limit }
 {
     for row in &selection.rows {
         let entry = line[row.number()].value();
@@ -128,21 +129,21 @@ fn look_at_units(
 
 // Looks at the columns in use that may enter.
 fn look_at_columns(
-    store: &Columns,
+    store: &Store,
     selection: &Selection,
-    corner: &Corner,
+    basis: &Basis,
     line: &[Amount],
     choice: &mut Choice,
 )
-    requires corner { IsCorner (length selection.now.rows.items) corner.now }
-    requires line { length line.now ≡ 4000 }
+    requires basis { IsBasis (length selection.now.rows.items) basis.now }
+    requires line { length line.now ≡ store_row_limit }
 {
     for column in &selection.columns {
         let number = column.number();
-        if !corner.basic[number] && !selection.forbidden[number] {
+        if !basis.basic[number] && !selection.forbidden[number] {
             let entry = Amount::clamped(weighted_sum(line, store.entries(*column))).value();
             if entry >= LEAST_PIVOT {
-                choice.look(ratio_of(store, selection, corner, *column, entry));
+                choice.look(ratio_of(store, selection, basis, *column, entry));
             }
         }
     }
@@ -150,15 +151,15 @@ fn look_at_columns(
 
 // The ratio of a column with an entry that is great enough.
 fn ratio_of(
-    store: &Columns,
+    store: &Store,
     selection: &Selection,
-    corner: &Corner,
+    basis: &Basis,
     column: ColumnId,
     entry: i64,
 ) -> Ratio
-    requires { IsCorner (length selection.now.rows.items) corner.now }
+    requires { IsBasis (length selection.now.rows.items) basis.now }
 {
-    let reduced = column_reduced_cost(store, selection, &corner.multipliers, column);
+    let reduced = column_reduced_cost(store, selection, &basis.multipliers, column);
     Ratio {
         variable: Variable::Column(column),
         reduced: reduced.value().max(0),
@@ -177,29 +178,29 @@ pub(crate) struct Entrant {
 /// The variable that enters if a place leaves, by the least ratio except for a slack of the reduced costs, or `None` if
 /// no entry is great enough.
 pub(crate) fn dual_entering(
-    store: &Columns,
+    store: &Store,
     selection: &Selection,
-    corner: &Corner,
+    basis: &Basis,
     leaving: &Leaving,
     slack: i64,
     line: &mut [Amount],
 ) -> Option<Entrant>
-    requires corner { IsCorner (length selection.now.rows.items) corner.now }
+    requires basis { IsBasis (length selection.now.rows.items) basis.now }
     requires leaving { leaving.now.place < length selection.now.rows.items }
-    requires line { length line.old ≡ 4000 }
+    requires line { length line.old ≡ store_row_limit }
 {
-    write_line(&selection.rows, &corner.inverse, leaving, line);
-    let basic = corner.basis[leaving.place];
+    write_line(&selection.rows, &basis.inverse, leaving, line);
+    let basic = basis.variables[leaving.place];
     let mut choice = Choice::new(slack);
     look_at_units(
         store,
         selection,
-        &corner.multipliers,
+        &basis.multipliers,
         line,
         basic,
         &mut choice,
     );
-    look_at_columns(store, selection, corner, line, &mut choice);
+    look_at_columns(store, selection, basis, line, &mut choice);
     choice.best.map(|ratio| Entrant {
         variable: ratio.variable,
         entry: ratio.entry,
@@ -207,7 +208,7 @@ pub(crate) fn dual_entering(
 }
 
 /// How many entries the columns in use have.
-pub(crate) fn entries_in_use(store: &Columns, selection: &Selection) -> usize {
+pub(crate) fn entries_in_use(store: &Store, selection: &Selection) -> usize {
     let mut entries: usize = 0;
     for column in &selection.columns {
         entries = entries.saturating_add(store.entries(*column).len());

@@ -1,9 +1,10 @@
 // Which basis place leaves in the dual method.
 ghost use Rattle.std.specs.Prelude.{◌≡◌, ◌*◌, ◌<◌, ◌≤◌, ◌^◌, ◌⊎◌, IfSome, length};
 ghost use Rattle.std.specs.Int.RustNames.{unsigned_abs};
-ghost use Rattle.linear_program.specs.Corners.{IsCorner};
+ghost use Rattle.linear_program.specs.Limits.{program_row_limit};
+ghost use Rattle.linear_program.specs.Bases.{IsBasis};
 
-use crate::corner::{Corner, more_work};
+use crate::basis::{Basis, more_work};
 use crate::entering::{Score, square};
 use crate::fixed::{Fraction, ONE};
 use crate::selection::{MOST_ROWS, Selection, Variable};
@@ -36,8 +37,8 @@ fn is_forbidden(selection: &Selection, variable: Variable) -> bool {
 
 // The square of the length of the column of a basis place in the inverse, in parts of 2^-20.
 fn length_of(inverse: &[Fraction], rows: usize, place: usize) -> u64
-    requires rows { rows * 700 ≤ length inverse.now }
-    requires place { place < 700 }
+    requires rows { rows * program_row_limit ≤ length inverse.now }
+    requires place { place < program_row_limit }
 {
     let mut length: u64 = 1 << 20;
     for row in 0..rows {
@@ -47,21 +48,21 @@ fn length_of(inverse: &[Fraction], rows: usize, place: usize) -> u64
 }
 
 // Whether the activity at a place is to fall.
-fn falls_at(selection: &Selection, corner: &Corner, place: usize) -> bool
-    requires corner { IsCorner (length selection.now.rows.items) corner.now }
-    requires place { place < 700 }
+fn falls_at(selection: &Selection, basis: &Basis, place: usize) -> bool
+    requires basis { IsBasis (length selection.now.rows.items) basis.now }
+    requires place { place < program_row_limit }
 {
-    corner.activities[place].value() > 0 && is_forbidden(selection, corner.basis[place])
+    basis.activities[place].value() > 0 && is_forbidden(selection, basis.variables[place])
 }
 
 // By how much the activity at a place passes its bound.
-fn excess_at(selection: &Selection, corner: &Corner, place: usize) -> i64
-    requires corner { IsCorner (length selection.now.rows.items) corner.now }
-    requires place { place < 700 }
+fn excess_at(selection: &Selection, basis: &Basis, place: usize) -> i64
+    requires basis { IsBasis (length selection.now.rows.items) basis.now }
+    requires place { place < program_row_limit }
     ensures { unsigned_abs result ≤ 2 ^ 61 }
 {
-    let activity = corner.activities[place].value();
-    if falls_at(selection, corner, place) {
+    let activity = basis.activities[place].value();
+    if falls_at(selection, basis, place) {
         activity
     } else {
         -activity
@@ -70,30 +71,30 @@ fn excess_at(selection: &Selection, corner: &Corner, place: usize) -> i64
 
 /// The place whose activity passes its bound by the most for its length (dual steepest edge, Forrest and Goldfarb
 /// 1992), or `None` if none passes it.
-pub(crate) fn dual_leaving(selection: &Selection, corner: &mut Corner) -> Option<Leaving>
-    requires { IsCorner (length selection.now.rows.items) corner.old }
-    ensures corner { IsCorner (length selection.now.rows.items) corner.new }
+pub(crate) fn dual_leaving(selection: &Selection, basis: &mut Basis) -> Option<Leaving>
+    requires { IsBasis (length selection.now.rows.items) basis.old }
+    ensures basis { IsBasis (length selection.now.rows.items) basis.new }
     ensures place { IfSome result (λ leaving. leaving.place < length selection.now.rows.items) }
 {
     let rows = selection.rows.len();
     let mut best: Option<Choice> = None;
     let mut looked_at: usize = 0;
     for place in 0..rows {
-        let excess = excess_at(selection, corner, place);
+        let excess = excess_at(selection, basis, place);
         if excess > LEAST_EXCESS {
             looked_at += 1;
             let score = Score::new(
                 excess.unsigned_abs(),
-                length_of(&corner.inverse, rows, place),
+                length_of(&basis.inverse, rows, place),
             );
             best = better(best, Choice { place, score });
         }
     }
-    corner.work = more_work(corner.work, looked_at * (rows / 2));
+    basis.work = more_work(basis.work, looked_at * (rows / 2));
     match best {
         Some(choice) => Some(Leaving {
             place: choice.place,
-            falls: falls_at(selection, corner, choice.place),
+            falls: falls_at(selection, basis, choice.place),
         }),
         None => None,
     }

@@ -1,15 +1,16 @@
 // Which variable enters the basis in the primal method.
 ghost use Rattle.std.specs.Prelude.{◌*◌, ◌≤◌, length};
-ghost use Rattle.linear_program.specs.Corners.{IsCorner};
+ghost use Rattle.linear_program.specs.Limits.{program_row_limit};
+ghost use Rattle.linear_program.specs.Bases.{IsBasis};
 
-use crate::columns::Columns;
-use crate::corner::{Corner, more_work};
+use crate::basis::{Basis, more_work};
 use crate::costs::{column_reduced_cost, reduced_cost};
 use crate::direction::write_direction;
 use crate::fixed::{Amount, Fraction};
 use crate::ids::ColumnId;
 use crate::selection::{Selection, Variable};
 use crate::shortlist::{Candidate, Shortlist};
+use crate::store::Store;
 use crate::workspace::{Resting, Workspace};
 use std::mem;
 
@@ -64,11 +65,11 @@ impl Score {
 }
 
 // Whether a column may enter.
-fn may_enter(selection: &Selection, corner: &Corner, resting: &Resting, column: ColumnId) -> bool
-    requires { IsCorner (length selection.now.rows.items) corner.now }
+fn may_enter(selection: &Selection, basis: &Basis, resting: &Resting, column: ColumnId) -> bool
+    requires { IsBasis (length selection.now.rows.items) basis.now }
 {
     let number = column.number();
-    !corner.basic[number] && !selection.forbidden[number] && !resting.has(Variable::Column(column))
+    !basis.basic[number] && !selection.forbidden[number] && !resting.has(Variable::Column(column))
 }
 
 // Lists a variable if its reduced cost is low enough.
@@ -80,19 +81,19 @@ fn offer(shortlist: &mut Shortlist, variable: Variable, reduced: Amount, toleran
 
 // Lists the columns of least reduced cost of all in use, and answers how many entries were touched.
 fn list_columns(
-    store: &Columns,
+    store: &Store,
     selection: &Selection,
-    corner: &Corner,
+    basis: &Basis,
     resting: &Resting,
     tolerance: Amount,
     list: &mut Shortlist,
 ) -> u64
-    requires { IsCorner (length selection.now.rows.items) corner.now }
+    requires { IsBasis (length selection.now.rows.items) basis.now }
 {
     let mut touched: u64 = 0;
     for column in &selection.columns {
-        if may_enter(selection, corner, resting, *column) {
-            let reduced = column_reduced_cost(store, selection, &corner.multipliers, *column);
+        if may_enter(selection, basis, resting, *column) {
+            let reduced = column_reduced_cost(store, selection, &basis.multipliers, *column);
             offer(list, Variable::Column(*column), reduced, tolerance);
             touched = touched.saturating_add(store.entries(*column).len() as u64);
         }
@@ -102,19 +103,19 @@ fn list_columns(
 
 // Lists a variable of the list if it may still enter.
 fn offer_again(
-    store: &Columns,
+    store: &Store,
     selection: &Selection,
-    corner: &Corner,
+    basis: &Basis,
     resting: &Resting,
     variable: Variable,
     tolerance: Amount,
     front: &mut Shortlist,
 )
-    requires { IsCorner (length selection.now.rows.items) corner.now }
+    requires { IsBasis (length selection.now.rows.items) basis.now }
 {
     if let Variable::Column(column) = variable {
-        if may_enter(selection, corner, resting, column) {
-            let reduced = column_reduced_cost(store, selection, &corner.multipliers, column);
+        if may_enter(selection, basis, resting, column) {
+            let reduced = column_reduced_cost(store, selection, &basis.multipliers, column);
             offer(front, variable, reduced, tolerance);
         }
     }
@@ -122,37 +123,35 @@ fn offer_again(
 
 // Lists the variables of the list that may still enter.
 fn look_at_list(
-    store: &Columns,
+    store: &Store,
     selection: &Selection,
-    corner: &Corner,
+    basis: &Basis,
     resting: &Resting,
     list: &Shortlist,
     tolerance: Amount,
     front: &mut Shortlist,
 )
-    requires { IsCorner (length selection.now.rows.items) corner.now }
+    requires { IsBasis (length selection.now.rows.items) basis.now }
 {
     for candidate in list.items() {
         let variable = candidate.variable;
-        offer_again(
-            store, selection, corner, resting, variable, tolerance, front,
-        );
+        offer_again(store, selection, basis, resting, variable, tolerance, front);
     }
 }
 
 // Lists a unit if it may enter.
 fn offer_unit(
-    store: &Columns,
+    store: &Store,
     selection: &Selection,
-    corner: &Corner,
+    basis: &Basis,
     resting: &Resting,
     variable: Variable,
     tolerance: Amount,
     front: &mut Shortlist,
 )
-    requires { IsCorner (length selection.now.rows.items) corner.now }
+    requires { IsBasis (length selection.now.rows.items) basis.now }
 {
-    let reduced = reduced_cost(store, selection, &corner.multipliers, variable);
+    let reduced = reduced_cost(store, selection, &basis.multipliers, variable);
     if !resting.has(variable) {
         offer(front, variable, reduced, tolerance);
     }
@@ -160,78 +159,78 @@ fn offer_unit(
 
 // Lists the units that may enter.
 fn look_at_units(
-    store: &Columns,
+    store: &Store,
     selection: &Selection,
-    corner: &Corner,
+    basis: &Basis,
     resting: &Resting,
     tolerance: Amount,
     front: &mut Shortlist,
 )
-    requires { IsCorner (length selection.now.rows.items) corner.now }
+    requires { IsBasis (length selection.now.rows.items) basis.now }
 {
     for row in &selection.rows {
         let surplus = Variable::Surplus(*row);
-        offer_unit(store, selection, corner, resting, surplus, tolerance, front);
+        offer_unit(store, selection, basis, resting, surplus, tolerance, front);
         let penalty = Variable::Penalty(*row);
-        offer_unit(store, selection, corner, resting, penalty, tolerance, front);
+        offer_unit(store, selection, basis, resting, penalty, tolerance, front);
     }
 }
 
 // Lists the variables of the list and the units that may enter. It answers whether there are some.
 fn look(
-    store: &Columns,
+    store: &Store,
     selection: &Selection,
-    corner: &mut Corner,
+    basis: &mut Basis,
     space: &mut Workspace,
     tolerance: Amount,
 ) -> bool
-    requires { IsCorner (length selection.now.rows.items) corner.old }
-    ensures { IsCorner (length selection.now.rows.items) corner.new }
+    requires { IsBasis (length selection.now.rows.items) basis.old }
+    ensures { IsBasis (length selection.now.rows.items) basis.new }
 {
     let front = &mut space.front;
     front.clear();
     look_at_list(
         store,
         selection,
-        corner,
+        basis,
         &space.resting,
         &space.list,
         tolerance,
         front,
     );
-    look_at_units(store, selection, corner, &space.resting, tolerance, front);
-    corner.work = more_work(corner.work, selection.rows.len());
+    look_at_units(store, selection, basis, &space.resting, tolerance, front);
+    basis.work = more_work(basis.work, selection.rows.len());
     !space.front.items().is_empty()
 }
 
 // Makes the list anew from all columns in use, and looks at it. It answers whether some variable may enter.
 fn look_anew(
-    store: &Columns,
+    store: &Store,
     selection: &Selection,
-    corner: &mut Corner,
+    basis: &mut Basis,
     space: &mut Workspace,
     tolerance: Amount,
 ) -> bool
-    requires { IsCorner (length selection.now.rows.items) corner.old }
-    ensures { IsCorner (length selection.now.rows.items) corner.new }
+    requires { IsBasis (length selection.now.rows.items) basis.old }
+    ensures { IsBasis (length selection.now.rows.items) basis.new }
 {
     let list = &mut space.list;
     list.clear();
-    let touched = list_columns(store, selection, corner, &space.resting, tolerance, list);
-    corner.work = corner.work.saturating_add(touched);
-    !space.list.items().is_empty() && look(store, selection, corner, space, tolerance)
+    let touched = list_columns(store, selection, basis, &space.resting, tolerance, list);
+    basis.work = basis.work.saturating_add(touched);
+    !space.list.items().is_empty() && look(store, selection, basis, space, tolerance)
 }
 
 // Looks at one candidate: its direction becomes that of the step if its score is better.
 fn try_candidate(
-    store: &Columns,
+    store: &Store,
     selection: &Selection,
     inverse: &[Fraction],
     space: &mut Workspace,
     candidate: Candidate,
     best: Option<(Candidate, Score)>,
 ) -> Option<(Candidate, Score)>
-    requires { length selection.now.rows.items * 700 ≤ length inverse.now }
+    requires { length selection.now.rows.items * program_row_limit ≤ length inverse.now }
 {
     write_direction(
         store,
@@ -254,12 +253,12 @@ fn try_candidate(
 
 // The candidate of the best score, whose direction is written.
 fn choose(
-    store: &Columns,
+    store: &Store,
     selection: &Selection,
     inverse: &[Fraction],
     space: &mut Workspace,
 ) -> Option<Candidate>
-    requires { length selection.now.rows.items * 700 ≤ length inverse.now }
+    requires { length selection.now.rows.items * program_row_limit ≤ length inverse.now }
 {
     let mut best = None;
     for place in 0..space.front.items().len() {
@@ -274,22 +273,22 @@ fn choose(
 /// least reduced cost that of the greatest gain for its length (steepest edge, Goldfarb and Reid 1977). Columns come
 /// from a short list that is made anew if it has none.
 pub(crate) fn entering(
-    store: &Columns,
+    store: &Store,
     selection: &Selection,
-    corner: &mut Corner,
+    basis: &mut Basis,
     space: &mut Workspace,
     tolerance: Amount,
 ) -> Option<Candidate>
-    requires { IsCorner (length selection.now.rows.items) corner.old }
-    ensures { IsCorner (length selection.now.rows.items) corner.new }
+    requires { IsBasis (length selection.now.rows.items) basis.old }
+    ensures { IsBasis (length selection.now.rows.items) basis.new }
 {
-    let found = look(store, selection, corner, space, tolerance)
-        || look_anew(store, selection, corner, space, tolerance);
+    let found = look(store, selection, basis, space, tolerance)
+        || look_anew(store, selection, basis, space, tolerance);
     if !found {
         return None;
     }
     let each = 20 * selection.rows.len();
     let entries = each.saturating_mul(space.front.items().len());
-    corner.work = more_work(corner.work, entries);
-    choose(store, selection, &corner.inverse, space)
+    basis.work = more_work(basis.work, entries);
+    choose(store, selection, &basis.inverse, space)
 }

@@ -3,14 +3,14 @@
 //! In the field: the revised simplex method with an explicit inverse (Dantzig and Orchard-Hays 1954), as a primal and
 //! as a dual method (Lemke 1954).
 //!
-//! [`Columns`] holds rows and columns that many programs share. A [`Program`] takes some of them in use, and looks for
+//! [`Store`] holds rows and columns that many programs share. A [`Program`] takes some of them in use, and looks for
 //! multipliers of its rows at which no column in use has a reduced cost below 0. It works in fixed point, so what it
 //! finds is a proposal. Whoever uses it judges it anew.
 //!
 //! - `fixed`, `ids`: numbers in fixed point, and the numbers of rows and columns.
-//! - `columns`: the store of rows and columns.
+//! - `store`: the store of rows and columns.
 //! - `selection`, `costs`: what a program has in use, and what its variables cost.
-//! - `corner`, `workspace`: the basis with its inverse, and lists that the steps work in.
+//! - `basis`, `workspace`: the basis with its inverse, and lists that the steps work in.
 //! - `direction`, `pivoting`: a column through the inverse, and the step from one basis to the next.
 //! - `refreshing`, `rebuilding`: activities and multipliers from the inverse, and the inverse from the basis.
 //! - `checking`: whether a basis still gives what its rows demand.
@@ -20,9 +20,8 @@
 //! - `solving`, `program`: both methods in turn, and the public calls.
 #![tactic(auto)]
 
+mod basis;
 mod checking;
-mod columns;
-mod corner;
 mod costs;
 mod direction;
 mod dual;
@@ -41,10 +40,11 @@ mod rows;
 mod selection;
 mod shortlist;
 mod solving;
+mod store;
 mod trimming;
 mod workspace;
 
-pub use columns::{Columns, Entry, RowBounds};
 pub use ids::{ColumnId, RowId};
 pub use program::{Basic, Caps, Program, Range};
 pub use selection::Variable;
+pub use store::{Entry, RowBounds, Store};

@@ -1,9 +1,10 @@
 // The step from one basis to the next (Dantzig and Orchard-Hays 1954).
 ghost use Rattle.std.specs.Prelude.{◌≡◌, ◌*◌, ◌<◌, ◌≤◌, ◌^◌, length};
 ghost use Rattle.std.specs.Int.RustNames.{unsigned_abs};
-ghost use Rattle.linear_program.specs.Corners.{IsCorner};
+ghost use Rattle.linear_program.specs.Limits.{program_row_limit, store_row_limit};
+ghost use Rattle.linear_program.specs.Bases.{IsBasis};
 
-use crate::corner::{Corner, more_work};
+use crate::basis::{Basis, more_work};
 use crate::fixed::{Amount, Fraction, quotient};
 use crate::ids::RowId;
 use crate::selection::{MOST_ROWS, Variable};
@@ -20,8 +21,8 @@ pub(crate) struct Exchange {
 
 // Lists the entries of a direction that are not 0, except for the one of the pivot, and answers how many there are.
 fn list_terms(direction: &[Fraction], pivot: usize, terms: &mut [Term]) -> usize
-    requires few { length direction.now ≤ 700 }
-    requires terms { length terms.old ≡ 700 }
+    requires few { length direction.now ≤ program_row_limit }
+    requires terms { length terms.old ≡ program_row_limit }
     ensures { result ≤ length direction.now }
 {
     let mut count = 0;
@@ -36,7 +37,7 @@ fn list_terms(direction: &[Fraction], pivot: usize, terms: &mut [Term]) -> usize
 
 // Lowers the activities by a multiple of the direction.
 fn lower_activities(activities: &mut [Amount], terms: &[Term], step: Amount)
-    requires { length activities.old ≡ 700 }
+    requires { length activities.old ≡ program_row_limit }
 {
     for term in terms {
         let activity = activities[term.place];
@@ -46,7 +47,7 @@ fn lower_activities(activities: &mut [Amount], terms: &[Term], step: Amount)
 
 // Takes a near multiple of the terms from a line.
 fn reduce_near(line: &mut [Fraction], multiple: Fraction, terms: &[Term])
-    requires line { length line.old ≡ 700 }
+    requires line { length line.old ≡ program_row_limit }
     requires near { unsigned_abs multiple.value ≤ 2 ^ 47 }
 {
     for term in terms {
@@ -56,7 +57,7 @@ fn reduce_near(line: &mut [Fraction], multiple: Fraction, terms: &[Term])
 
 // Takes any multiple of the terms from a line.
 fn reduce_far(line: &mut [Fraction], multiple: Fraction, terms: &[Term])
-    requires { length line.old ≡ 700 }
+    requires { length line.old ≡ program_row_limit }
 {
     for term in terms {
         line[term.place] = line[term.place].less_product(multiple, term.factor);
@@ -65,8 +66,8 @@ fn reduce_far(line: &mut [Fraction], multiple: Fraction, terms: &[Term])
 
 // The step for one line of the inverse. It answers the new entry at the pivot.
 fn reduce_line(line: &mut [Fraction], place: usize, pivot: Fraction, terms: &[Term]) -> Fraction
-    requires line { length line.old ≡ 700 }
-    requires place { place < 700 }
+    requires line { length line.old ≡ program_row_limit }
+    requires place { place < program_row_limit }
 {
     if line[place].value() == 0 {
         return Fraction::ZERO;
@@ -93,10 +94,10 @@ fn reduce_lines(
     pivot: Fraction,
     terms: &[Term],
 ) -> u64
-    requires rows { length rows.now ≤ 700 }
-    requires inverse { length rows.now * 700 ≤ length inverse.old }
-    requires multipliers { length multipliers.old ≡ 4000 }
-    requires place { exchange.now.place < 700 }
+    requires rows { length rows.now ≤ program_row_limit }
+    requires inverse { length rows.now * program_row_limit ≤ length inverse.old }
+    requires multipliers { length multipliers.old ≡ store_row_limit }
+    requires place { exchange.now.place < program_row_limit }
 {
     let mut touched: u64 = 0;
     for place in 0..rows.len() {
@@ -114,20 +115,20 @@ fn reduce_lines(
     touched
 }
 
-impl Corner {
+impl Basis {
     // Notes which variable is in the basis at a place.
     fn exchange(&mut self, rows: usize, place: usize, variable: Variable)
-        requires corner { IsCorner rows self.old }
-        requires place { place < 700 }
-        ensures { IsCorner rows self.new }
+        requires basis { IsBasis rows self.old }
+        requires place { place < program_row_limit }
+        ensures { IsBasis rows self.new }
     {
-        if let Variable::Column(column) = self.basis[place] {
+        if let Variable::Column(column) = self.variables[place] {
             self.basic[column.number()] = false;
         }
         if let Variable::Column(column) = variable {
             self.basic[column.number()] = true;
         }
-        self.basis[place] = variable;
+        self.variables[place] = variable;
     }
 
     /// A variable enters the basis at a place, by its direction. It touches the entries of the inverse at the places
@@ -139,11 +140,11 @@ impl Corner {
         terms: &mut [Term],
         exchange: &Exchange,
     )
-        requires corner { IsCorner (length rows.now) self.old }
+        requires basis { IsBasis (length rows.now) self.old }
         requires direction { length rows.now ≤ length direction.now }
-        requires terms { length terms.old ≡ 700 }
+        requires terms { length terms.old ≡ program_row_limit }
         requires place { exchange.now.place < length rows.now }
-        ensures { IsCorner (length rows.now) self.new }
+        ensures { IsBasis (length rows.now) self.new }
     {
         let count = rows.len();
         let pivot = direction[exchange.place];

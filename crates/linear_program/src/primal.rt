@@ -1,9 +1,8 @@
 // The primal method: from activities that fit to ones of least cost.
 ghost use Rattle.std.specs.Prelude.{length};
-ghost use Rattle.linear_program.specs.Corners.{IsCorner};
+ghost use Rattle.linear_program.specs.Bases.{IsBasis};
 
-use crate::columns::Columns;
-use crate::corner::Corner;
+use crate::basis::Basis;
 use crate::costs::cost;
 use crate::entering::entering;
 use crate::fixed::Amount;
@@ -14,6 +13,7 @@ use crate::rebuilding::{is_due, renew};
 use crate::refreshing::{price, refresh_multipliers, write_costs};
 use crate::selection::{Selection, Variable};
 use crate::shortlist::Candidate;
+use crate::store::Store;
 use crate::workspace::Workspace;
 
 // Two reduced costs that differ by so much and half of the lower one differ by drift.
@@ -41,38 +41,43 @@ fn drifts(reduced: Amount, exact: Amount, tolerance: Amount) -> bool {
 
 // The reduced cost of the variable whose direction is written, by the inverse.
 fn exact_reduced_cost(
-    store: &Columns,
+    store: &Store,
     selection: &Selection,
-    corner: &Corner,
+    basis: &Basis,
     space: &mut Workspace,
     variable: Variable,
 ) -> Amount
-    requires { IsCorner (length selection.now.rows.items) corner.now }
+    requires { IsBasis (length selection.now.rows.items) basis.now }
 {
     let count = selection.rows.len();
-    write_costs(store, selection, &corner.basis[..count], &mut space.costs);
+    write_costs(
+        store,
+        selection,
+        &basis.variables[..count],
+        &mut space.costs,
+    );
     let given = price(&space.costs, &space.direction[..count]);
     cost(store, selection, variable).less(given)
 }
 
 // What is done about a variable whose reduced cost drifts. It answers whether the step ends with that.
 fn mend(
-    store: &Columns,
+    store: &Store,
     selection: &Selection,
-    corner: &mut Corner,
+    basis: &mut Basis,
     space: &mut Workspace,
     pace: &mut Pace,
     variable: Variable,
     too_high: bool,
 ) -> bool
-    requires { IsCorner (length selection.now.rows.items) corner.old }
-    ensures { IsCorner (length selection.now.rows.items) corner.new }
+    requires { IsBasis (length selection.now.rows.items) basis.old }
+    ensures { IsBasis (length selection.now.rows.items) basis.new }
 {
-    if corner.age >= LEAST_AGE {
-        renew(store, selection, corner, space);
+    if basis.age >= LEAST_AGE {
+        renew(store, selection, basis, space);
         true
     } else if pace.stale {
-        refresh_multipliers(store, selection, corner, &mut space.costs);
+        refresh_multipliers(store, selection, basis, &mut space.costs);
         pace.stale = false;
         true
     } else if too_high {
@@ -86,70 +91,70 @@ fn mend(
 // A variable enters, or rests if no activity falls.
 fn enter(
     selection: &Selection,
-    corner: &mut Corner,
+    basis: &mut Basis,
     space: &mut Workspace,
     variable: Variable,
     reduced: Amount,
 )
-    requires { IsCorner (length selection.now.rows.items) corner.old }
-    ensures { IsCorner (length selection.now.rows.items) corner.new }
+    requires { IsBasis (length selection.now.rows.items) basis.old }
+    ensures { IsBasis (length selection.now.rows.items) basis.new }
 {
     let rows = &selection.rows;
     let count = rows.len();
     let direction = &space.direction[..count];
-    match leaving(&corner.activities[..count], direction) {
+    match leaving(&basis.activities[..count], direction) {
         None => space.resting.add(variable),
         Some(place) => {
-            if corner.activities[place].value() < 0 {
-                corner.activities[place] = Amount::ZERO;
+            if basis.activities[place].value() < 0 {
+                basis.activities[place] = Amount::ZERO;
             }
             let exchange = Exchange {
                 place,
                 variable,
                 reduced,
             };
-            corner.pivot(rows, direction, &mut space.terms, &exchange);
+            basis.pivot(rows, direction, &mut space.terms, &exchange);
         }
     }
 }
 
 // The step with a variable that is to enter.
 fn advance(
-    store: &Columns,
+    store: &Store,
     selection: &Selection,
-    corner: &mut Corner,
+    basis: &mut Basis,
     space: &mut Workspace,
     pace: &mut Pace,
     tolerance: Amount,
     candidate: Candidate,
 )
-    requires { IsCorner (length selection.now.rows.items) corner.old }
-    ensures { IsCorner (length selection.now.rows.items) corner.new }
+    requires { IsBasis (length selection.now.rows.items) basis.old }
+    ensures { IsBasis (length selection.now.rows.items) basis.new }
 {
     let variable = candidate.variable;
-    let exact = exact_reduced_cost(store, selection, corner, space, variable);
+    let exact = exact_reduced_cost(store, selection, basis, space, variable);
     let too_high = exact.value() >= -tolerance.value();
     let mended = drifts(candidate.reduced, exact, tolerance)
-        && mend(store, selection, corner, space, pace, variable, too_high);
+        && mend(store, selection, basis, space, pace, variable, too_high);
     if !mended {
         pace.stale = true;
-        enter(selection, corner, space, variable, exact);
+        enter(selection, basis, space, variable, exact);
     }
 }
 
 // Builds the inverse anew if it is old.
 fn renew_if_due(
-    store: &Columns,
+    store: &Store,
     selection: &Selection,
-    corner: &mut Corner,
+    basis: &mut Basis,
     space: &mut Workspace,
     pace: &mut Pace,
 )
-    requires { IsCorner (length selection.now.rows.items) corner.old }
-    ensures { IsCorner (length selection.now.rows.items) corner.new }
+    requires { IsBasis (length selection.now.rows.items) basis.old }
+    ensures { IsBasis (length selection.now.rows.items) basis.new }
 {
-    if is_due(corner, selection.rows.len()) {
-        renew(store, selection, corner, space);
+    if is_due(basis, selection.rows.len()) {
+        renew(store, selection, basis, space);
         pace.fresh = true;
         space.resting.clear();
     }
@@ -157,26 +162,26 @@ fn renew_if_due(
 
 // One step. It answers whether no variable may enter by multipliers that are fresh.
 fn step(
-    store: &Columns,
+    store: &Store,
     selection: &Selection,
-    corner: &mut Corner,
+    basis: &mut Basis,
     space: &mut Workspace,
     pace: &mut Pace,
     tolerance: Amount,
 ) -> bool
-    requires { IsCorner (length selection.now.rows.items) corner.old }
-    ensures { IsCorner (length selection.now.rows.items) corner.new }
+    requires { IsBasis (length selection.now.rows.items) basis.old }
+    ensures { IsBasis (length selection.now.rows.items) basis.new }
 {
-    renew_if_due(store, selection, corner, space, pace);
-    match entering(store, selection, corner, space, tolerance) {
+    renew_if_due(store, selection, basis, space, pace);
+    match entering(store, selection, basis, space, tolerance) {
         Some(candidate) => {
             pace.fresh = false;
-            advance(store, selection, corner, space, pace, tolerance, candidate);
+            advance(store, selection, basis, space, pace, tolerance, candidate);
             false
         }
         None if pace.fresh => true,
         None => {
-            refresh_multipliers(store, selection, corner, &mut space.costs);
+            refresh_multipliers(store, selection, basis, &mut space.costs);
             pace.fresh = true;
             false
         }
@@ -186,15 +191,15 @@ fn step(
 /// Steps of the primal method, within caps. It answers whether no reduced cost is below 0 by more than the tolerance,
 /// as far as the inverse can tell.
 pub(crate) fn run_primal(
-    store: &Columns,
+    store: &Store,
     selection: &Selection,
-    corner: &mut Corner,
+    basis: &mut Basis,
     space: &mut Workspace,
     tolerance: Amount,
     caps: &Caps,
 ) -> bool
-    requires { IsCorner (length selection.now.rows.items) corner.old }
-    ensures { IsCorner (length selection.now.rows.items) corner.new }
+    requires { IsBasis (length selection.now.rows.items) basis.old }
+    ensures { IsBasis (length selection.now.rows.items) basis.new }
 {
     space.resting.clear();
     space.list.clear();
@@ -203,10 +208,10 @@ pub(crate) fn run_primal(
         stale: true,
     };
     for _ in 0..caps.primal {
-        if corner.work > caps.work {
+        if basis.work > caps.work {
             return false;
         }
-        if step(store, selection, corner, space, &mut pace, tolerance) {
+        if step(store, selection, basis, space, &mut pace, tolerance) {
             return true;
         }
     }

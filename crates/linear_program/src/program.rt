@@ -1,17 +1,18 @@
 // A linear program over rows and columns of a store.
 ghost use Rattle.std.specs.Prelude.{◌≡◌, ◌<◌, ◌≤◌, ◌^◌, ◌↔◌, [], ℕ, IfOk, IfSome, OnErr, IsTrue, length, slice_index_or, true, slice_set, is_some};
 ghost use Rattle.std.specs.Int.RustNames.{unsigned_abs};
+ghost use Rattle.linear_program.specs.Limits.{store_row_limit};
 ghost use Rattle.linear_program.specs.Programs.{HasNoMoreColumns, IsColumnOffered, IsRowOffered, IsRowTaken};
 ghost use Rattle.linear_program.specs.declared.selection.Bounds.{Bounds};
 
-use crate::columns::Columns;
-use crate::corner::Corner;
+use crate::basis::Basis;
 use crate::costs::column_reduced_cost;
 use crate::fixed::{Amount, product};
 use crate::ids::{ColumnId, RowId};
 use crate::rows::{drop_row, use_row};
 use crate::selection::{Bounds, MOST_ROWS, Selection, Variable};
 use crate::solving::{solve, start_from};
+use crate::store::Store;
 use crate::{solving, trimming};
 use carp_base::Memory;
 use std::alloc::Global;
@@ -92,21 +93,21 @@ pub struct Range {
 #[derive(Drop)]
 pub struct Program {
     selection: Selection,
-    corner: Corner,
+    basis: Basis,
     tolerance: Amount,
     slack: i64,
 }
 
 impl Model for Program {
     ghost use Rattle.std.specs.Prelude.{length};
-    ghost use Rattle.linear_program.specs.Corners.{IsCorner};
+    ghost use Rattle.linear_program.specs.Bases.{IsBasis};
     ghost use Rattle.linear_program.specs.Programs.{InUse};
 
     ghost Value = { InUse };
 
     ghost view = { λ p. record { rows = p.selection.rows.items; columns = p.selection.columns.items; bounds = p.selection.bounds.items; forbidden = p.selection.forbidden.items } };
 
-    ghost invariant = { λ p. IsCorner (length p.selection.rows.items) p.corner };
+    ghost invariant = { λ p. IsBasis (length p.selection.rows.items) p.basis };
 }
 
 impl Program {
@@ -117,7 +118,7 @@ impl Program {
     {
         Ok(Program {
             selection: Selection::new(alloc)?,
-            corner: Corner::new(alloc)?,
+            basis: Basis::new(alloc)?,
             tolerance: Amount::of(TOLERANCE),
             slack: 0,
         })
@@ -127,10 +128,10 @@ impl Program {
     pub fn copy(&self, alloc: Global) -> Result<Program, Memory>
         ensures { IfOk result (λ copy. copy ≡ self.now) }
     {
-        let corner = self.corner.copy(alloc, self.selection.rows.len())?;
+        let basis = self.basis.copy(alloc, self.selection.rows.len())?;
         Ok(Program {
             selection: self.selection.copy(alloc)?,
-            corner,
+            basis,
             tolerance: self.tolerance,
             slack: self.slack,
         })
@@ -153,7 +154,7 @@ impl Program {
     /// Puts a row of the store in use, with the bounds that the store has for it, and answers whether it did. It does
     /// not if the row is in use, or if 700 are. The surplus of the row becomes basic: its activity is below 0 if the
     /// activities do not give what the row demands. It takes time in proportion to the square of the rows in use.
-    pub fn use_row(&mut self, alloc: Global, store: &Columns, row: RowId) -> Result<bool, Memory>
+    pub fn use_row(&mut self, alloc: Global, store: &Store, row: RowId) -> Result<bool, Memory>
         ensures ok { IfOk result (λ used. IsRowOffered row used self.old self.new) }
         ensures err { OnErr result (self.new ≡ self.old) }
     {
@@ -161,7 +162,7 @@ impl Program {
         if full || self.selection.place_of(row).is_some() {
             return Ok(false);
         }
-        use_row(alloc, store, &mut self.selection, &mut self.corner, row)?;
+        use_row(alloc, store, &mut self.selection, &mut self.basis, row)?;
         Ok(true)
     }
 
@@ -173,7 +174,7 @@ impl Program {
         if place >= self.selection.rows.len() {
             return false;
         }
-        drop_row(&mut self.selection, &mut self.corner, place)
+        drop_row(&mut self.selection, &mut self.basis, place)
     }
 
     /// Puts a column in use, and answers whether it did. It does not if the column is in use.
@@ -194,13 +195,13 @@ impl Program {
     pub fn forget_columns(
         &mut self,
         alloc: Global,
-        store: &Columns,
+        store: &Store,
         keep: usize,
         fixed: usize,
     ) -> Result<(), Memory>
         ensures { HasNoMoreColumns self.old self.new }
     {
-        trimming::forget_columns(alloc, store, &mut self.selection, &self.corner, keep, fixed)
+        trimming::forget_columns(alloc, store, &mut self.selection, &self.basis, keep, fixed)
     }
 
     /// Sets the range of the multiplier of a row, in units of cost, each at most 2^61 from 0.
@@ -265,7 +266,7 @@ impl Program {
     pub fn solve(
         &mut self,
         alloc: Global,
-        store: &Columns,
+        store: &Store,
         after_new_rows: bool,
         caps: &Caps,
     ) -> Result<bool, Memory>
@@ -275,7 +276,7 @@ impl Program {
             alloc,
             store,
             &mut self.selection,
-            &mut self.corner,
+            &mut self.basis,
             self.tolerance,
             self.slack,
             after_new_rows,
@@ -287,7 +288,7 @@ impl Program {
     /// come to then, as `value` does. Without a slack, and if the program was at its least cost before rows came and
     /// columns were forbidden, that is a lower estimate of the least cost with them. It does not go on to the primal
     /// method, so the activities may not fit. A step takes time as in `solve`.
-    pub fn estimate(&mut self, alloc: Global, store: &Columns, steps: u32) -> Result<i64, Memory>
+    pub fn estimate(&mut self, alloc: Global, store: &Store, steps: u32) -> Result<i64, Memory>
         ensures same { self.new ≡ self.old }
         ensures small { IfOk result (λ value. unsigned_abs value ≤ 2 ^ 61) }
     {
@@ -295,7 +296,7 @@ impl Program {
             alloc,
             store,
             &mut self.selection,
-            &mut self.corner,
+            &mut self.basis,
             self.slack,
             &Caps {
                 dual: steps,
@@ -311,26 +312,26 @@ impl Program {
     pub fn start_from(
         &mut self,
         alloc: Global,
-        store: &Columns,
-        basis: &[Variable],
+        store: &Store,
+        variables: &[Variable],
     ) -> Result<(), Memory>
         ensures { self.new ≡ self.old }
     {
-        start_from(alloc, store, &self.selection, &mut self.corner, basis)
+        start_from(alloc, store, &self.selection, &mut self.basis, variables)
     }
 
     /// The multiplier of a row, in units of cost: 0 if the row is not in use.
     pub fn multiplier(&self, row: RowId) -> i64
         ensures { unsigned_abs result ≤ 2 ^ 61 }
     {
-        self.corner.multipliers[row.number()].value()
+        self.basis.multipliers[row.number()].value()
     }
 
     /// The reduced cost of a column of the store, in units of cost.
-    pub fn reduced_cost(&self, store: &Columns, column: ColumnId) -> i64
+    pub fn reduced_cost(&self, store: &Store, column: ColumnId) -> i64
         ensures { unsigned_abs result ≤ 2 ^ 61 }
     {
-        let multipliers = &self.corner.multipliers;
+        let multipliers = &self.basis.multipliers;
         column_reduced_cost(store, &self.selection, multipliers, column).value()
     }
 
@@ -341,8 +342,8 @@ impl Program {
     {
         if place < self.selection.rows.len() {
             Some(Basic {
-                variable: self.corner.basis[place],
-                activity: self.corner.activities[place].value(),
+                variable: self.basis.variables[place],
+                activity: self.basis.activities[place].value(),
             })
         } else {
             None
@@ -351,34 +352,34 @@ impl Program {
 
     /// What the multipliers of the rows in use give for their right sides, in units of cost. At the least cost it is
     /// that cost, except for rounding.
-    pub fn value(&self, store: &Columns) -> i64
+    pub fn value(&self, store: &Store) -> i64
         ensures { unsigned_abs result ≤ 2 ^ 61 }
     {
-        value_of(store, &self.selection.rows, &self.corner.multipliers).value()
+        value_of(store, &self.selection.rows, &self.basis.multipliers).value()
     }
 
     /// How many pivots there were so far. No clause speaks of it.
     pub fn pivots(&self) -> u64 {
-        self.corner.pivots
+        self.basis.pivots
     }
 
     /// How many entries were touched so far. No clause speaks of it.
     pub fn work(&self) -> u64 {
-        self.corner.work
+        self.basis.work
     }
 }
 
 // A multiplier times the right side of its row.
-fn share_of(store: &Columns, multipliers: &[Amount], row: RowId) -> Amount
-    requires { length multipliers.now ≡ 4000 }
+fn share_of(store: &Store, multipliers: &[Amount], row: RowId) -> Amount
+    requires { length multipliers.now ≡ store_row_limit }
 {
     let multiplier = multipliers[row.number()].value();
     Amount::clamped(product(multiplier, store.right_side(row)))
 }
 
 // The sum of the multipliers times the right sides.
-fn value_of(store: &Columns, rows: &[RowId], multipliers: &[Amount]) -> Amount
-    requires { length multipliers.now ≡ 4000 }
+fn value_of(store: &Store, rows: &[RowId], multipliers: &[Amount]) -> Amount
+    requires { length multipliers.now ≡ store_row_limit }
 {
     let mut sum: i64 = 0;
     for row in rows {

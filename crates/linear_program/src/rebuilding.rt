@@ -1,22 +1,23 @@
 // The inverse anew from the basis, and the basis that always fits.
 ghost use Rattle.std.specs.Prelude.{◌≡◌, ◌*◌, ◌<◌, ◌≤◌, IfSome, length};
-ghost use Rattle.linear_program.specs.Corners.{IsCorner};
+ghost use Rattle.linear_program.specs.Limits.{program_row_limit, store_column_limit};
+ghost use Rattle.linear_program.specs.Bases.{IsBasis};
 
-use crate::columns::Columns;
-use crate::corner::{Corner, more_work};
+use crate::basis::{Basis, more_work};
 use crate::direction::write_direction;
 use crate::fixed::{Amount, Fraction, LEAST_PIVOT};
 use crate::ids::{ColumnId, RowId};
 use crate::pivoting::Exchange;
 use crate::refreshing::{refresh_activities, refresh_multipliers};
 use crate::selection::{MOST_ROWS, Selection, Variable};
+use crate::store::Store;
 use crate::workspace::{Rank, Workspace};
 
 // After so many pivots, or two for each row, the inverse is built anew.
 const LEAST_AGE: usize = 500;
 
 // The unit of a row in a basis of units: its penalty, or in a cold one its surplus if that fits.
-fn unit_of(store: &Columns, row: RowId, cold: bool) -> Variable {
+fn unit_of(store: &Store, row: RowId, cold: bool) -> Variable {
     if cold && store.noisy_right_side(row).value() <= 0 {
         Variable::Surplus(row)
     } else {
@@ -25,7 +26,7 @@ fn unit_of(store: &Columns, row: RowId, cold: bool) -> Variable {
 }
 
 // Writes a unit for each row.
-fn write_units(store: &Columns, rows: &[RowId], cold: bool, units: &mut [Variable]) {
+fn write_units(store: &Store, rows: &[RowId], cold: bool, units: &mut [Variable]) {
     for (unit, row) in units.iter_mut().zip(rows) {
         *unit = unit_of(store, *row, cold);
     }
@@ -34,14 +35,14 @@ fn write_units(store: &Columns, rows: &[RowId], cold: bool, units: &mut [Variabl
 // Writes the units of a basis at the places of their rows, and marks these places.
 fn keep_units(
     selection: &Selection,
-    basis: &[Variable],
+    variables: &[Variable],
     units: &mut [Variable],
     placed: &mut [bool],
 )
-    requires units { length units.old ≡ 700 }
-    requires placed { length placed.old ≡ 700 }
+    requires units { length units.old ≡ program_row_limit }
+    requires placed { length placed.old ≡ program_row_limit }
 {
-    for variable in basis {
+    for variable in variables {
         let place = match *variable {
             Variable::Column(_) => None,
             Variable::Surplus(row) | Variable::Penalty(row) => selection.place_of(row),
@@ -54,11 +55,11 @@ fn keep_units(
 }
 
 // Lists the columns of a basis, and answers how many there are.
-fn list_columns(store: &Columns, basis: &[Variable], ranks: &mut [Rank]) -> usize
+fn list_columns(store: &Store, variables: &[Variable], ranks: &mut [Rank]) -> usize
     ensures { result ≤ length ranks.old }
 {
     let mut count = 0;
-    for variable in basis {
+    for variable in variables {
         if let Variable::Column(column) = *variable {
             if count < ranks.len() {
                 ranks[count] = Rank {
@@ -80,10 +81,10 @@ fn sort(ranks: &mut [Rank], count: usize)
 }
 
 /// Marks the columns of a basis as not basic.
-pub(crate) fn release(basis: &[Variable], basic: &mut [bool])
-    requires { length basic.old ≡ 64000 }
+pub(crate) fn release(variables: &[Variable], basic: &mut [bool])
+    requires { length basic.old ≡ store_column_limit }
 {
-    for variable in basis {
+    for variable in variables {
         if let Variable::Column(column) = *variable {
             basic[column.number()] = false;
         }
@@ -92,8 +93,8 @@ pub(crate) fn release(basis: &[Variable], basic: &mut [bool])
 
 // Writes the inverse of a basis of units.
 fn write_inverse(units: &[Variable], inverse: &mut [Fraction])
-    requires units { length units.now ≤ 700 }
-    requires inverse { length units.now * 700 ≤ length inverse.old }
+    requires units { length units.now ≤ program_row_limit }
+    requires inverse { length units.now * program_row_limit ≤ length inverse.old }
 {
     inverse[..units.len() * MOST_ROWS].fill(Fraction::ZERO);
     for place in 0..units.len() {
@@ -105,22 +106,22 @@ fn write_inverse(units: &[Variable], inverse: &mut [Fraction])
 }
 
 // Writes units at the first places of a basis.
-fn write_front(basis: &mut [Variable], units: &[Variable])
-    requires { length units.now ≤ length basis.old }
+fn write_front(variables: &mut [Variable], units: &[Variable])
+    requires { length units.now ≤ length variables.old }
 {
-    basis[..units.len()].copy_from_slice(units);
+    variables[..units.len()].copy_from_slice(units);
 }
 
 // Makes the units the basis.
-fn set_units(corner: &mut Corner, units: &[Variable])
-    requires { IsCorner (length units.now) corner.old }
-    ensures { IsCorner (length units.now) corner.new }
+fn set_units(basis: &mut Basis, units: &[Variable])
+    requires { IsBasis (length units.now) basis.old }
+    ensures { IsBasis (length units.now) basis.new }
 {
     let count = units.len();
-    release(&corner.basis[..count], &mut corner.basic);
-    write_front(&mut corner.basis, units);
-    write_inverse(units, &mut corner.inverse);
-    corner.work = more_work(corner.work, count * count);
+    release(&basis.variables[..count], &mut basis.basic);
+    write_front(&mut basis.variables, units);
+    write_inverse(units, &mut basis.inverse);
+    basis.work = more_work(basis.work, count * count);
 }
 
 // The place that has no variable yet where the direction is greatest without its sign, if it is great enough.
@@ -142,21 +143,21 @@ fn greatest_place(direction: &[Fraction], placed: &[bool]) -> Option<usize>
 
 // Puts a column in the basis where it is greatest. If it is too small everywhere, a unit stays there.
 fn place_column(
-    store: &Columns,
+    store: &Store,
     selection: &Selection,
-    corner: &mut Corner,
+    basis: &mut Basis,
     space: &mut Workspace,
     column: ColumnId,
 )
-    requires { IsCorner (length selection.now.rows.items) corner.old }
-    ensures { IsCorner (length selection.now.rows.items) corner.new }
+    requires { IsBasis (length selection.now.rows.items) basis.old }
+    ensures { IsBasis (length selection.now.rows.items) basis.new }
 {
     let variable = Variable::Column(column);
     let rows = &selection.rows;
     write_direction(
         store,
         selection,
-        &corner.inverse,
+        &basis.inverse,
         variable,
         &mut space.sums,
         &mut space.direction,
@@ -170,114 +171,109 @@ fn place_column(
         variable,
         reduced: Amount::ZERO,
     };
-    corner.pivot(rows, &space.direction, &mut space.terms, &exchange);
+    basis.pivot(rows, &space.direction, &mut space.terms, &exchange);
 }
 
 // Puts the listed columns in the basis.
 fn place_columns(
-    store: &Columns,
+    store: &Store,
     selection: &Selection,
-    corner: &mut Corner,
+    basis: &mut Basis,
     space: &mut Workspace,
     count: usize,
 )
-    requires corner { IsCorner (length selection.now.rows.items) corner.old }
-    requires count { count ≤ 700 }
-    ensures { IsCorner (length selection.now.rows.items) corner.new }
+    requires basis { IsBasis (length selection.now.rows.items) basis.old }
+    requires count { count ≤ program_row_limit }
+    ensures { IsBasis (length selection.now.rows.items) basis.new }
 {
     for place in 0..count {
         let column = space.ranks[place].column;
-        place_column(store, selection, corner, space, column);
+        place_column(store, selection, basis, space, column);
     }
 }
 
 // Makes a basis of units, and answers how many columns it had.
 fn begin(
-    store: &Columns,
+    store: &Store,
     selection: &Selection,
-    corner: &mut Corner,
+    basis: &mut Basis,
     space: &mut Workspace,
     cold: bool,
 ) -> usize
-    requires { IsCorner (length selection.now.rows.items) corner.old }
-    ensures corner { IsCorner (length selection.now.rows.items) corner.new }
-    ensures count { result ≤ 700 }
+    requires { IsBasis (length selection.now.rows.items) basis.old }
+    ensures basis { IsBasis (length selection.now.rows.items) basis.new }
+    ensures count { result ≤ program_row_limit }
 {
     let count = selection.rows.len();
     space.placed.fill(false);
     write_units(store, &selection.rows, cold, &mut space.units);
-    let basis = &corner.basis[..count];
-    let columns = list_columns(store, basis, &mut space.ranks);
+    let variables = &basis.variables[..count];
+    let columns = list_columns(store, variables, &mut space.ranks);
     if !cold {
-        keep_units(selection, basis, &mut space.units, &mut space.placed);
+        keep_units(selection, variables, &mut space.units, &mut space.placed);
     }
-    set_units(corner, &space.units[..count]);
+    set_units(basis, &space.units[..count]);
     columns
 }
 
 // Takes activities and multipliers anew.
-fn finish(store: &Columns, selection: &Selection, corner: &mut Corner, costs: &mut [Amount])
-    requires corner { IsCorner (length selection.now.rows.items) corner.old }
-    requires costs { length costs.old ≡ 700 }
-    ensures { IsCorner (length selection.now.rows.items) corner.new }
+fn finish(store: &Store, selection: &Selection, basis: &mut Basis, costs: &mut [Amount])
+    requires basis { IsBasis (length selection.now.rows.items) basis.old }
+    requires costs { length costs.old ≡ program_row_limit }
+    ensures { IsBasis (length selection.now.rows.items) basis.new }
 {
-    refresh_activities(store, &selection.rows, corner);
-    refresh_multipliers(store, selection, corner, costs);
-    corner.age = 0;
+    refresh_activities(store, &selection.rows, basis);
+    refresh_multipliers(store, selection, basis, costs);
+    basis.age = 0;
 }
 
 /// Builds the inverse anew from the basis: first the units, then each column, fewest entries first, at the place where
 /// it is greatest. It takes time in proportion to the cube of the rows in use.
 pub(crate) fn rebuild(
-    store: &Columns,
+    store: &Store,
     selection: &Selection,
-    corner: &mut Corner,
+    basis: &mut Basis,
     space: &mut Workspace,
 )
-    requires { IsCorner (length selection.now.rows.items) corner.old }
-    ensures { IsCorner (length selection.now.rows.items) corner.new }
+    requires { IsBasis (length selection.now.rows.items) basis.old }
+    ensures { IsBasis (length selection.now.rows.items) basis.new }
 {
-    let pivots = corner.pivots;
-    let count = begin(store, selection, corner, space, false);
+    let pivots = basis.pivots;
+    let count = begin(store, selection, basis, space, false);
     sort(&mut space.ranks, count);
-    place_columns(store, selection, corner, space, count);
-    corner.pivots = pivots;
-    finish(store, selection, corner, &mut space.costs);
+    place_columns(store, selection, basis, space, count);
+    basis.pivots = pivots;
+    finish(store, selection, basis, &mut space.costs);
 }
 
 /// Begins with a basis of units, which always fits.
 pub(crate) fn start_cold(
-    store: &Columns,
+    store: &Store,
     selection: &Selection,
-    corner: &mut Corner,
+    basis: &mut Basis,
     space: &mut Workspace,
 )
-    requires { IsCorner (length selection.now.rows.items) corner.old }
-    ensures { IsCorner (length selection.now.rows.items) corner.new }
+    requires { IsBasis (length selection.now.rows.items) basis.old }
+    ensures { IsBasis (length selection.now.rows.items) basis.new }
 {
-    begin(store, selection, corner, space, true);
-    finish(store, selection, corner, &mut space.costs);
+    begin(store, selection, basis, space, true);
+    finish(store, selection, basis, &mut space.costs);
 }
 
 /// Builds the inverse anew, and begins with units if the activities then do not fit.
-pub(crate) fn renew(
-    store: &Columns,
-    selection: &Selection,
-    corner: &mut Corner,
-    space: &mut Workspace,
-)
-    requires { IsCorner (length selection.now.rows.items) corner.old }
-    ensures { IsCorner (length selection.now.rows.items) corner.new }
+pub(crate) fn renew(store: &Store, selection: &Selection, basis: &mut Basis, space: &mut Workspace)
+    requires { IsBasis (length selection.now.rows.items) basis.old }
+    ensures { IsBasis (length selection.now.rows.items) basis.new }
 {
-    rebuild(store, selection, corner, space);
-    if !corner.fits(selection.rows.len()) {
-        start_cold(store, selection, corner, space);
+    rebuild(store, selection, basis, space);
+    if !basis.fits(selection.rows.len()) {
+        start_cold(store, selection, basis, space);
     }
 }
 
 /// Whether the inverse is old enough to be built anew.
-pub(crate) fn is_due(corner: &Corner, rows: usize) -> bool
-    requires { rows ≤ 700 }
+pub(crate) fn is_due(basis: &Basis, rows: usize) -> bool
+    requires { rows ≤ program_row_limit }
 {
-    corner.age as usize >= LEAST_AGE.max(2 * rows)
+    basis.age as usize >= LEAST_AGE.max(2 * rows)
 }

@@ -1,13 +1,14 @@
 // Multipliers and activities from the inverse.
 ghost use Rattle.std.specs.Prelude.{◌≡◌, ◌*◌, ◌≤◌, ◌^◌, ◌≤ℤ◌, length, pos, neg_ℤ};
-ghost use Rattle.linear_program.specs.Corners.{IsCorner};
+ghost use Rattle.linear_program.specs.Limits.{program_row_limit, store_row_limit};
+ghost use Rattle.linear_program.specs.Bases.{IsBasis};
 
-use crate::columns::Columns;
-use crate::corner::{Corner, more_work};
+use crate::basis::{Basis, more_work};
 use crate::costs::cost;
 use crate::fixed::{Amount, Fraction, product};
 use crate::ids::RowId;
 use crate::selection::{MOST_ROWS, Selection, Variable};
+use crate::store::Store;
 
 // These fraction bits are left out of each product, so that sums of products fit.
 const LEFT_OUT: u32 = 16;
@@ -28,7 +29,7 @@ fn share(cost: Amount, entry: Fraction) -> i128
 
 /// The sum of the costs times the entries.
 pub(crate) fn price(costs: &[Amount], entries: &[Fraction]) -> Amount
-    requires few { length entries.now ≤ 700 }
+    requires few { length entries.now ≤ program_row_limit }
     requires long { length entries.now ≤ length costs.now }
 {
     let mut sum: i128 = 0;
@@ -40,12 +41,12 @@ pub(crate) fn price(costs: &[Amount], entries: &[Fraction]) -> Amount
 
 /// Writes the costs of a basis.
 pub(crate) fn write_costs(
-    store: &Columns,
+    store: &Store,
     selection: &Selection,
-    basis: &[Variable],
+    variables: &[Variable],
     costs: &mut [Amount],
 ) {
-    for (place, variable) in costs.iter_mut().zip(basis) {
+    for (place, variable) in costs.iter_mut().zip(variables) {
         *place = cost(store, selection, *variable);
     }
 }
@@ -57,10 +58,10 @@ fn write_multipliers(
     costs: &[Amount],
     multipliers: &mut [Amount],
 )
-    requires rows { length rows.now ≤ 700 }
-    requires inverse { length rows.now * 700 ≤ length inverse.now }
-    requires costs { length costs.now ≡ 700 }
-    requires multipliers { length multipliers.old ≡ 4000 }
+    requires rows { length rows.now ≤ program_row_limit }
+    requires inverse { length rows.now * program_row_limit ≤ length inverse.now }
+    requires costs { length costs.now ≡ program_row_limit }
+    requires multipliers { length multipliers.old ≡ store_row_limit }
 {
     let count = rows.len();
     for place in 0..count {
@@ -71,19 +72,19 @@ fn write_multipliers(
 
 /// Takes the multipliers anew from the inverse. It takes time in proportion to the square of the rows in use.
 pub(crate) fn refresh_multipliers(
-    store: &Columns,
+    store: &Store,
     selection: &Selection,
-    corner: &mut Corner,
+    basis: &mut Basis,
     costs: &mut [Amount],
 )
-    requires corner { IsCorner (length selection.now.rows.items) corner.old }
-    requires costs { length costs.old ≡ 700 }
-    ensures { IsCorner (length selection.now.rows.items) corner.new }
+    requires basis { IsBasis (length selection.now.rows.items) basis.old }
+    requires costs { length costs.old ≡ program_row_limit }
+    ensures { IsBasis (length selection.now.rows.items) basis.new }
 {
     let rows = &selection.rows;
-    write_costs(store, selection, &corner.basis[..rows.len()], costs);
-    write_multipliers(rows, &corner.inverse, costs, &mut corner.multipliers);
-    corner.work = more_work(corner.work, rows.len() * rows.len());
+    write_costs(store, selection, &basis.variables[..rows.len()], costs);
+    write_multipliers(rows, &basis.inverse, costs, &mut basis.multipliers);
+    basis.work = more_work(basis.work, rows.len() * rows.len());
 }
 
 // Adds a right side times a line of the inverse.
@@ -94,9 +95,9 @@ fn add_side(activities: &mut [Amount], line: &[Fraction], side: Amount) {
 }
 
 // Adds the right sides of all rows times their lines.
-fn add_sides(store: &Columns, rows: &[RowId], inverse: &[Fraction], activities: &mut [Amount])
-    requires rows { length rows.now ≤ 700 }
-    requires inverse { length rows.now * 700 ≤ length inverse.now }
+fn add_sides(store: &Store, rows: &[RowId], inverse: &[Fraction], activities: &mut [Amount])
+    requires rows { length rows.now ≤ program_row_limit }
+    requires inverse { length rows.now * program_row_limit ≤ length inverse.now }
 {
     for place in 0..rows.len() {
         let line = &inverse[place * MOST_ROWS..place * MOST_ROWS + rows.len()];
@@ -105,11 +106,11 @@ fn add_sides(store: &Columns, rows: &[RowId], inverse: &[Fraction], activities: 
 }
 
 /// Takes the activities anew from the inverse. It takes time in proportion to the square of the rows in use.
-pub(crate) fn refresh_activities(store: &Columns, rows: &[RowId], corner: &mut Corner)
-    requires { IsCorner (length rows.now) corner.old }
-    ensures { IsCorner (length rows.now) corner.new }
+pub(crate) fn refresh_activities(store: &Store, rows: &[RowId], basis: &mut Basis)
+    requires { IsBasis (length rows.now) basis.old }
+    ensures { IsBasis (length rows.now) basis.new }
 {
-    corner.activities.fill(Amount::ZERO);
-    add_sides(store, rows, &corner.inverse, &mut corner.activities);
-    corner.work = more_work(corner.work, rows.len() * rows.len());
+    basis.activities.fill(Amount::ZERO);
+    add_sides(store, rows, &basis.inverse, &mut basis.activities);
+    basis.work = more_work(basis.work, rows.len() * rows.len());
 }

@@ -1,9 +1,10 @@
 // What a program has in use: rows and columns of the store, and the bounds of its multipliers.
 ghost use Rattle.std.specs.Prelude.{◌≡◌, ◌+◌, ◌<◌, ◌≤◌, [], IfOk, IfSome, OnOk, OnErr, length, true};
+ghost use Rattle.linear_program.specs.Limits.{program_row_limit, store_column_limit, store_row_limit};
 
-use crate::columns::Columns;
 use crate::fixed::Amount;
 use crate::ids::{COLUMNS, ColumnId, ROWS, RowId};
+use crate::store::Store;
 use carp_base::Memory;
 use std::alloc::Global;
 
@@ -46,11 +47,11 @@ pub(crate) struct Selection {
     pub forbidden: Vec<bool>,
     /// Whether a forbidden column in the basis costs more.
     pub charged: bool,
-    ghost few_rows: { length rows.items ≤ 700 },
-    ghost places_long: { length places.items ≡ 4000 },
-    ghost bounds_long: { length bounds.items ≡ 4000 },
-    ghost used_long: { length used.items ≡ 64000 },
-    ghost forbidden_long: { length forbidden.items ≡ 64000 },
+    ghost few_rows: { length rows.items ≤ program_row_limit },
+    ghost places_long: { length places.items ≡ store_row_limit },
+    ghost bounds_long: { length bounds.items ≡ store_row_limit },
+    ghost used_long: { length used.items ≡ store_column_limit },
+    ghost forbidden_long: { length forbidden.items ≡ store_column_limit },
 }
 
 impl Selection {
@@ -105,8 +106,8 @@ impl Selection {
     }
 
     /// Puts a row in use, with the bounds that the store has for it.
-    pub(crate) fn use_row(&mut self, store: &Columns, row: RowId) -> Result<(), Memory>
-        requires { length self.old.rows.items < 700 }
+    pub(crate) fn use_row(&mut self, store: &Store, row: RowId) -> Result<(), Memory>
+        requires { length self.old.rows.items < program_row_limit }
         ensures ok { OnOk result (IsRowOffered row true (in_use self.old) (in_use self.new)) }
         ensures more { OnOk result (length self.new.rows.items ≡ length self.old.rows.items + 1) }
         ensures err { OnErr result (in_use self.new ≡ in_use self.old) }
@@ -137,8 +138,8 @@ impl Selection {
 
 // Notes the place of each row.
 fn place_rows(rows: &[RowId], places: &mut [u32])
-    requires rows { length rows.now ≤ 700 }
-    requires places { length places.old ≡ 4000 }
+    requires rows { length rows.now ≤ program_row_limit }
+    requires places { length places.old ≡ store_row_limit }
 {
     for place in 0..rows.len() {
         places[rows[place].number()] = place as u32;

@@ -1,5 +1,6 @@
 // Lists that the steps work in, so that they need no memory of their own.
 ghost use Rattle.std.specs.Prelude.{◌≡◌, ◌<◌, length};
+ghost use Rattle.linear_program.specs.Limits.{program_row_limit, store_column_limit, store_row_limit};
 
 use crate::fixed::{Amount, Fraction};
 use crate::ids::{COLUMNS, ColumnId, ROWS, RowId};
@@ -19,13 +20,13 @@ const LOOKED_AT: usize = 6;
 pub(crate) struct Term {
     pub place: usize,
     pub factor: Fraction,
-    ghost in_range: { place < 700 },
+    ghost in_range: { place < program_row_limit },
 }
 
 impl Term {
     /// The term of a place.
     pub(crate) fn new(place: usize, factor: Fraction) -> Term
-        requires { place < 700 }
+        requires { place < program_row_limit }
     {
         Term { place, factor }
     }
@@ -47,9 +48,9 @@ pub(crate) struct Resting {
     surpluses: Vec<bool>,
     /// Whether the penalty of each row of the store rests.
     penalties: Vec<bool>,
-    ghost columns_long: { length columns.items ≡ 64000 },
-    ghost surpluses_long: { length surpluses.items ≡ 4000 },
-    ghost penalties_long: { length penalties.items ≡ 4000 },
+    ghost columns_long: { length columns.items ≡ store_column_limit },
+    ghost surpluses_long: { length surpluses.items ≡ store_row_limit },
+    ghost penalties_long: { length penalties.items ≡ store_row_limit },
 }
 
 /// Lists of a fixed length.
@@ -78,15 +79,15 @@ pub(crate) struct Workspace {
     /// The variables that are looked at for the next step.
     pub front: Shortlist,
     pub resting: Resting,
-    ghost sums_long: { length sums.items ≡ 700 },
-    ghost direction_long: { length direction.items ≡ 700 },
-    ghost trial_long: { length trial.items ≡ 700 },
-    ghost terms_long: { length terms.items ≡ 700 },
-    ghost costs_long: { length costs.items ≡ 700 },
-    ghost line_long: { length line.items ≡ 4000 },
-    ghost units_long: { length units.items ≡ 700 },
-    ghost placed_long: { length placed.items ≡ 700 },
-    ghost ranks_long: { length ranks.items ≡ 700 },
+    ghost sums_long: { length sums.items ≡ program_row_limit },
+    ghost direction_long: { length direction.items ≡ program_row_limit },
+    ghost trial_long: { length trial.items ≡ program_row_limit },
+    ghost terms_long: { length terms.items ≡ program_row_limit },
+    ghost costs_long: { length costs.items ≡ program_row_limit },
+    ghost line_long: { length line.items ≡ store_row_limit },
+    ghost units_long: { length units.items ≡ program_row_limit },
+    ghost placed_long: { length placed.items ≡ program_row_limit },
+    ghost ranks_long: { length ranks.items ≡ program_row_limit },
 }
 
 impl Workspace {

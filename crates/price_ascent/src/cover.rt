@@ -1,5 +1,6 @@
 // How the tours that a point leaves least serve and cross.
 ghost use Rattle.std.specs.Prelude.{◌≡◌, ◌≤◌};
+ghost use Rattle.shore_search.specs.Shortfall.{unit};
 ghost use Rattle.carp_base.specs.Problem.{IsRequired};
 ghost use Rattle.route_pricing.specs.Values.{IsRate};
 ghost use Rattle.price_points.specs.Services.{IsFilledOn};
@@ -61,7 +62,7 @@ fn add_tour_over(
 // The part of a vehicle's capacity that an edge takes.
 fn parts_of(inst: &Instance, e: u32) -> u64
     requires { IsRequired inst.now e }
-    ensures { result ≤ 1048576 }
+    ensures { result ≤ unit }
 {
     inst.validity();
     let whole = (PARTS as u64).saturating_mul(inst.edge(e).demand);

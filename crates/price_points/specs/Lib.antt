@@ -1,3 +1,4 @@
+pub mod Limits
 pub mod Points
 pub mod Problems
 pub mod Services

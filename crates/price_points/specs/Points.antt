@@ -6,7 +6,7 @@ use Rattle.route_pricing.specs.Pricing.{IsServicePrice}
 use Rattle.route_pricing.specs.Values.{IsRate}
 use Rattle.price_points.specs.Services.{AreServicePrices}
 use Rattle.price_points.specs.declared.points.Point.{Point}
-use Rattle.price_points.specs.declared.scoring.Scored.{Scored}
+use Rattle.price_points.specs.declared.scores.Scored.{Scored}
 
 -- prices of services, and weights within the limits
 pub record IsPoint (p : Problem) (point : Point) : Type 0 where

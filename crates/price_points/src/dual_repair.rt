@@ -1,5 +1,6 @@
 // Weights that no street is overloaded by, and the deadhead prices that they leave.
 ghost use Rattle.std.specs.Prelude.{◌≡◌, ◌≤◌, All, IfOk, length};
+ghost use Rattle.price_points.specs.Limits.{most_price};
 ghost use Rattle.deadhead_paths.specs.Prices.{ArePrices};
 ghost use Rattle.route_pricing.specs.Pricing.{IsServicePrice};
 
@@ -86,7 +87,7 @@ fn positive_weights(alloc: Global, weights: &[i64]) -> Result<Vec<i64>, Memory>
 // The deadhead prices without weights.
 fn full_prices(alloc: Global, inst: &Instance) -> Result<Vec<u64>, Memory>
     ensures one_each { IfOk result (λ prices. length prices.items ≡ length inst.now.edges) }
-    ensures small { IfOk result (λ prices. All (λ n. n ≤ 4000000000000000000) prices.items) }
+    ensures small { IfOk result (λ prices. All (λ n. n ≤ most_price) prices.items) }
 {
     let edges = inst.edges();
     let mut prices = Vec::with_capacity(alloc, edges.len())?;
@@ -97,15 +98,15 @@ fn full_prices(alloc: Global, inst: &Instance) -> Result<Vec<u64>, Memory>
 }
 
 fn full_price(edge: &Edge) -> u64
-    ensures { result ≤ 4000000000000000000 }
+    ensures { result ≤ most_price }
 {
     edge.cost.saturating_mul(UNIT).min(MOST_PRICE)
 }
 
 // Adds the weights of shores over which there are to be few deadheads to the prices.
 fn charge_all(edges: &[Edge], constraints: &[Constraint], weights: &[i64], prices: &mut [u64])
-    requires { All (λ n. n ≤ 4000000000000000000) prices.old }
-    ensures { All (λ n. n ≤ 4000000000000000000) prices.new }
+    requires { All (λ n. n ≤ most_price) prices.old }
+    ensures { All (λ n. n ≤ most_price) prices.new }
 {
     for place in 0..constraints.len() {
         if let Some(shore) = constraints[place].spares_over() {
@@ -117,8 +118,8 @@ fn charge_all(edges: &[Edge], constraints: &[Constraint], weights: &[i64], price
 
 // Puts a weight on the prices over a shore.
 fn put_on(edges: &[Edge], shore: &Shore, prices: &mut [u64], weight: u64)
-    requires { All (λ n. n ≤ 4000000000000000000) prices.old }
-    ensures { All (λ n. n ≤ 4000000000000000000) prices.new }
+    requires { All (λ n. n ≤ most_price) prices.old }
+    ensures { All (λ n. n ≤ most_price) prices.new }
 {
     for place in 0..edges.len().min(prices.len()) {
         if shore.crosses(&edges[place]) {
@@ -203,9 +204,9 @@ fn ease_all(
     prices: &mut [u64],
 )
     requires weights { All IsServicePrice weights.old }
-    requires prices { All (λ n. n ≤ 4000000000000000000) prices.old }
+    requires prices { All (λ n. n ≤ most_price) prices.old }
     ensures weights { All IsServicePrice weights.new }
-    ensures prices { All (λ n. n ≤ 4000000000000000000) prices.new }
+    ensures prices { All (λ n. n ≤ most_price) prices.new }
 {
     for rank in ranks {
         ease_at(edges, constraints, rank.place, weights, prices);
@@ -221,9 +222,9 @@ fn ease_at(
     prices: &mut [u64],
 )
     requires weights { All IsServicePrice weights.old }
-    requires prices { All (λ n. n ≤ 4000000000000000000) prices.old }
+    requires prices { All (λ n. n ≤ most_price) prices.old }
     ensures weights { All IsServicePrice weights.new }
-    ensures prices { All (λ n. n ≤ 4000000000000000000) prices.new }
+    ensures prices { All (λ n. n ≤ most_price) prices.new }
 {
     if place < constraints.len() && place < weights.len() {
         if let Some(shore) = constraints[place].asks_over() {
@@ -250,8 +251,8 @@ fn least_price(edges: &[Edge], shore: &Shore, prices: &[u64], weight: i64) -> i6
 
 // Takes a weight off the prices over a shore.
 fn take_off(edges: &[Edge], shore: &Shore, prices: &mut [u64], weight: u64)
-    requires { All (λ n. n ≤ 4000000000000000000) prices.old }
-    ensures { All (λ n. n ≤ 4000000000000000000) prices.new }
+    requires { All (λ n. n ≤ most_price) prices.old }
+    ensures { All (λ n. n ≤ most_price) prices.new }
 {
     for place in 0..edges.len().min(prices.len()) {
         if shore.crosses(&edges[place]) {

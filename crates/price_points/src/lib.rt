@@ -8,12 +8,12 @@
 //!
 //! - `problem`: what a set is proposed for. `numbers`: the denominator of proposals, and sums that stay within limits.
 //! - `constraints`, `members`: what tours and deadheads meet together, beside the services.
-//! - `points`: prices and weights. `starting`: the numbers of a set to begin with.
-//! - `scoring`: a point made one that pays, with `dual_repair` and `ranks` (weights that no street is overloaded by) and
-//!   `paying` (prices that pay).
-//! - `touring`: tours that a filled table tells, and how often they serve and cross each edge. `deadheads`: deadheads in
+//! - `points`: prices and weights. `start`: the numbers of a set to begin with.
+//! - `scores`: a point made one that pays, with `dual_repair` and `ranks` (weights that no street is overloaded by) and
+//!   `paying_prices` (prices that pay).
+//! - `tours`: tours that a filled table tells, and how often they serve and cross each edge. `deadheads`: deadheads in
 //!   parts.
-//! - `placing`: shores with weights that are placed in a pool, and the list of their weights.
+//! - `placed_weights`: shores with weights that are placed in a pool, and the list of their weights.
 #![tactic(auto)]
 
 mod constraints;
@@ -21,24 +21,24 @@ mod deadheads;
 mod dual_repair;
 mod members;
 mod numbers;
-mod paying;
-mod placing;
+mod paying_prices;
+mod placed_weights;
 mod points;
 mod problem;
 mod ranks;
-mod scoring;
-mod starting;
-mod touring;
+mod scores;
+mod start;
+mod tours;
 
 pub use constraints::{Constraint, Demand};
 pub use deadheads::parts_of;
 pub use dual_repair::Easing;
 pub use members::Members;
 pub use numbers::{PARTS, UNIT, add_at, clamped, floor, number_at, quotient};
-pub use placing::{number_in, place_weights, shores_with_weights};
+pub use placed_weights::{number_in, place_weights, shores_with_weights};
 pub use points::{Point, negative, positive_weight, service_cost, service_costs, sum_within};
 pub use problem::PricingProblem;
 pub use ranks::{Ranked, sort_by_share};
-pub use scoring::{Scored, score};
-pub use starting::{start_prices, start_sizes, start_weight};
-pub use touring::{Cover, best_tour, excess_over, least_tour, load_of, tour_over};
+pub use scores::{Scored, score};
+pub use start::{start_prices, start_sizes, start_weight};
+pub use tours::{Cover, best_tour, excess_over, least_tour, load_of, tour_over};

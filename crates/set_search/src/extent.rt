@@ -12,17 +12,18 @@ pub struct Extent {
     pub least_members: i64,
     /// Whether of sets that follow each other with equal numbers of vehicles it keeps only the best.
     pub sparse: bool,
-    /// For how many steps sets grow.
+    /// A set that grows takes in so many elements at most.
     pub growth: u32,
     /// Whether by the rule of the next vehicle the least demand comes first of elements with equal cuts.
     pub by_demand: bool,
-    /// From how many sets elements are moved in and out, and for how many steps.
+    /// Elements are moved in and out of so many sets at most: the best ones that have grown.
     pub starts: usize,
+    /// So many elements are moved at most from each of them towards one number of vehicles.
     pub moves: u32,
     /// It moves elements of a set that has grown only if two crossings for each of its vehicles, less its cut, are more
     /// than this.
     pub least_lack: i64,
-    /// For how many vehicles at most it looks.
+    /// Elements are moved towards one vehicle more only up to so many vehicles.
     pub most_vehicles: i64,
     /// Whether an element that rests may move if that gives a least value so far.
     pub aspiration: bool,

@@ -10,6 +10,9 @@ use rand_pcg::Lcg64Xsh32;
 use std::alloc::Global;
 use std::mem;
 
+// One part of a cut stands before so many loads of demand: demand only tells apart elements of equal cuts.
+const TIE: i64 = 1024;
+
 // In what order elements join a set.
 #[derive(Clone, Copy)]
 enum Rule {
@@ -131,7 +134,7 @@ impl Search {
     // What a rule aims at from the set as it stands.
     fn aim(&self, ground: &Ground, rule: Rule) -> Aim {
         let capacity = ground.load();
-        let scale = capacity.saturating_mul(1024);
+        let scale = capacity.saturating_mul(TIE);
         let by_demand = self.extent.by_demand;
         Aim::Join(match rule {
             Rule::LeastCut => Joining::LeastCut { scale },

@@ -14,22 +14,23 @@ use Rattle.branch_rules.specs.declared.weight.Weight.{Weight}
 use Rattle.price_points.specs.Weights.{AreListed}
 use Rattle.leaf_adviser.specs.Offers.{IsOffer}
 use Rattle.shore_prices.proofs.Levels.{service_small}
+use Rattle.price_points.specs.Limits.{denominator}
 
-services_count : (p : Problem) → IsValid p → length (map (λ x. pos (1000000 * x.service)) (required_edges p)) ≡ p.required
+services_count : (p : Problem) → IsValid p → length (map (λ x. pos (denominator * x.service)) (required_edges p)) ≡ p.required
 services_count p valid = rw (length-map, length-take) (omega (arith, valid.required_in))
 
-services_fine : (p : Problem) → IsValid p → All IsPriceNumber (map (λ x. pos (1000000 * x.service)) (required_edges p))
+services_fine : (p : Problem) → IsValid p → All IsPriceNumber (map (λ x. pos (denominator * x.service)) (required_edges p))
 services_fine p valid =
-    All-from_get_or IsPriceNumber (map (λ x. pos (1000000 * x.service)) (required_edges p)) (pos 0) (λ i within.
+    All-from_get_or IsPriceNumber (map (λ x. pos (denominator * x.service)) (required_edges p)) (pos 0) (λ i within.
     let inside : i < p.required = subst (λ n. i < n) (services_count p valid) within in
     let small = service_small p valid i inside in
-    let is : get_or (map (λ x. pos (1000000 * x.service)) (required_edges p)) i (pos 0) ≡ pos (1000000 * (get_or (required_edges p) i no_edge).service) =
-    get_or-map (λ x. pos (1000000 * x.service)) (required_edges p) i no_edge in
+    let is : get_or (map (λ x. pos (denominator * x.service)) (required_edges p)) i (pos 0) ≡ pos (denominator * (get_or (required_edges p) i no_edge).service) =
+    get_or-map (λ x. pos (denominator * x.service)) (required_edges p) i no_edge in
     rw is (record { low = omega (arith, ints); high = omega (arith, ints, small) }))
 
 -- the set
 abbrev pub set_of : Problem → List Weight → Prices
-set_of p weights = record { unit = 1000000; services = map (λ x. pos (1000000 * x.service)) (required_edges p); weights = weights; groups = [] }
+set_of p weights = record { unit = denominator; services = map (λ x. pos (denominator * x.service)) (required_edges p); weights = weights; groups = [] }
 
 pub set_fine : (p : Problem) → IsValid p → (limit : ℕ) (weights : List Weight) → limit ≤ 2000 → AreListed (limit + 1) weights → IsPriceSet (set_of p weights)
 set_fine p valid limit weights few are = record {

@@ -1,6 +1,6 @@
 // Least cuts in networks where demand counts for more and more.
 ghost use Rattle.std.specs.Prelude.{◌<◌, ◌≤◌, IfOk, OnOk};
-ghost use Rattle.flow_cut.specs.Flows.{IsNode};
+ghost use Rattle.flow_cut.specs.Flows.{IsNode, room_limit};
 ghost use Rattle.shore_search.specs.Tables.{AreArcs, AreStreets, IsStop};
 
 use crate::streets::{Half, Streets};
@@ -24,14 +24,14 @@ fn worth(half: Half, factor: i64) -> i64 {
 
 // A number as the room of an arc.
 fn room_of(amount: i64) -> u64
-    ensures { result ≤ 1000000000000000000 }
+    ensures { result ≤ room_limit }
 {
     u64::try_from(amount).unwrap_or(0).min(MOST_ROOM)
 }
 
 // The room of an edge: what it adds to a border, less half of what its demand is worth.
 fn room(capacity: i64, half: Half, factor: i64) -> u64
-    ensures { result ≤ 1000000000000000000 }
+    ensures { result ≤ room_limit }
 {
     room_of(
         half.room
@@ -44,7 +44,7 @@ fn room(capacity: i64, half: Half, factor: i64) -> u64
 fn gain(streets: &Streets, v: usize, factor: i64) -> u64
     requires streets { AreStreets streets.now }
     requires vertex { v < streets.now.width }
-    ensures { result ≤ 1000000000000000000 }
+    ensures { result ≤ room_limit }
 {
     let mut gain: i64 = 0;
     let (first, end) = streets.at(v);
@@ -58,7 +58,7 @@ fn gain(streets: &Streets, v: usize, factor: i64) -> u64
 fn add_both(nodes: u32, u: u32, v: u32, room: u64, arcs: &mut Vec<Arc>) -> Result<(), Memory>
     requires u { IsNode nodes u }
     requires v { IsNode nodes v }
-    requires room { room ≤ 1000000000000000000 }
+    requires room { room ≤ room_limit }
     requires arcs { AreArcs nodes arcs.old.items }
     ensures { OnOk result (AreArcs nodes arcs.new.items) }
 {

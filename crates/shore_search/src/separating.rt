@@ -14,11 +14,11 @@ use road_network::Network;
 use set_search::{Element, Ground, Leaving, Link, Search};
 use std::alloc::Global;
 
-// From how many parts of 2^20 on a deadhead counts as a whole one, halved: one less the tolerance.
+// Half of the parts that count as a whole deadhead: those of a unit, less the tolerance.
 const HALF_UNIT: u64 = 523_764;
 
-// The parts from which on an edge joins its ends: some thirds of a deadhead.
-const THIRDS: [u64; 2] = [314_573, 629_146];
+// An edge with so many parts joins its ends: with three tenths of a deadhead, and with six tenths.
+const TENTHS: [u64; 2] = [314_573, 629_146];
 
 // An edge as a link.
 fn link_of(half: Half) -> Link {
@@ -117,8 +117,8 @@ fn halved(alloc: Global, inst: &Instance, x: &[u64]) -> Result<Vec<u64>, Memory>
     Ok(halves)
 }
 
-// Judges components without the depot: of the edges with any deadheads, of those with some thirds of one, and of those
-// with a whole one. Where the need is above the deadheads over them by their contracts, they are those of
+// Judges components without the depot: of the edges with any deadheads, of those with three tenths of one or six,
+// and of those with a whole one. Where the need is above the deadheads over them by their contracts, they are those of
 // `parity_cuts` and `capacity_cuts`. No edge with deadheads crosses the first ones, so that each part counts as a
 // deadhead there.
 pub(crate) fn all_components(
@@ -172,7 +172,7 @@ fn judge_labels(
     Ok(())
 }
 
-// Judges the components of the edges with some thirds of a deadhead.
+// Judges the components of the edges with three tenths of a deadhead, and those with six tenths.
 fn part_components(
     alloc: Global,
     inst: &Instance,
@@ -184,7 +184,7 @@ fn part_components(
     requires net { net.now ≡ inst.now }
     requires parts { AreParts inst.now x.now }
 {
-    for least in THIRDS {
+    for least in TENTHS {
         let labels = label_components(alloc, inst, net, x, least)?;
         judge_labels(alloc, inst, ground, &labels, search)?;
     }

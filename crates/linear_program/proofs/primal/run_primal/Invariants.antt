@@ -1,6 +1,6 @@
 use Rattle.std.proofs.Common.{length}
-use Rattle.linear_program.specs.Corners.{IsCorner}
+use Rattle.linear_program.specs.Bases.{IsBasis}
 use Rattle.linear_program.proofs.primal.run_primal.Given as goal
 
 abbrev pub invariant-loop : goal.invariant-loop
-invariant-loop l = IsCorner (length l.selection.rows.items) l.corner
+invariant-loop l = IsBasis (length l.selection.rows.items) l.basis

@@ -1,8 +1,0 @@
--- One more number within the limits at the end of a list.
-use Rattle.std.proofs.Common.{◌≡◌, ℤ, List, [], ◌∷◌, ◌++◌, sym, subst}
-use Rattle.std.specs.List.{All}
-use Rattle.std.proofs.lemmas.List.Elements.{All-push}
-use Rattle.route_pricing.specs.Pricing.{IsServicePrice}
-
-pub within_push : (after xs : List ℤ) (x : ℤ) → after ≡ xs ++ x ∷ [] → All IsServicePrice xs → IsServicePrice x → All IsServicePrice after
-within_push after xs x is all one = subst (All IsServicePrice) (sym is) (All-push IsServicePrice xs x all one)

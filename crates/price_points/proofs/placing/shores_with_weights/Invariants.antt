@@ -1,6 +1,0 @@
-use Rattle.std.proofs.Common.{All}
-use Rattle.price_points.specs.Weights.{IsWeighted}
-use Rattle.price_points.proofs.placing.shores_with_weights.Given as goal
-
-abbrev pub invariant-loop-place : goal.invariant-loop-place
-invariant-loop-place l = All (IsWeighted l.inst) l.shores.items
