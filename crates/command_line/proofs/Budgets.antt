@@ -9,9 +9,7 @@ use Rattle.command_line.specs.Commands.{Command}
 use Rattle.command_line.specs.Laws.{HasBudget}
 use Rattle.command_line.specs.Words.{Form, are_names, are_options, are_turns, command_of, command_with, forms, given, is_followed, is_given, is_number, is_option, number_of, seed_word, turns_word}
 use Rattle.command_line.proofs.Numbers.{both}
-
-abbrev IsBudget : ℕ → Type 0
-IsBudget turns = (1 ≤ turns) × (turns ≤ 1048576)
+use Rattle.command_line.proofs.Rows.{IsBudget, IsRow, each_row}
 
 -- a number that stands behind the word of the turns
 turns_in : (number : List ℕ) → are_turns number ≡ true → IsBudget (number_of number)
@@ -40,43 +38,11 @@ given_in seed default fits (word ∷ number ∷ words) are =
       by true same is rest = turns_in number (option_turns seed word number same is)
       by false same is rest = rest
 
--- the command of a row asks for no turns, or for those that it is given, if they are in range
-abbrev Keeps : Form → Type 0
-Keeps form = (names : List (List ℕ)) (turns seed : ℕ) → (is_some form.turns ≡ true → IsBudget turns) → HasBudget (form.command names turns seed)
-
-each_keeps : AllByRecursion Keeps forms
-each_keeps = (
-  λ names turns seed fits. fits refl,
-  (
-    λ names turns seed fits. tt,
-    (
-      λ names turns seed fits. tt,
-      (
-        λ names turns seed fits. tt,
-        (
-          λ names turns seed fits. fits refl,
-          (
-            λ names turns seed fits. tt,
-            (λ names turns seed fits. tt, (λ names turns seed fits. fits refl, (λ names turns seed fits. tt, (λ names turns seed fits. fits refl, tt)))),
-          ),
-        ),
-      ),
-    ),
-  ),
-)
-
--- the turns of a row, if it has any, are in range
-abbrev Defaults : Form → Type 0
-Defaults form = IfSome form.turns IsBudget
-
-each_default : AllByRecursion Defaults forms
-each_default = ((omega arith, omega arith), (tt, (tt, (tt, ((omega arith, omega arith), (tt, (tt, ((omega arith, omega arith), (tt, ((omega arith, omega arith), tt))))))))))
-
 abbrev made : List (List ℕ) → Form → Option Command
 made words form = if is_followed form words then Some (command_with form words) else None
 
-in_row : (words : List (List ℕ)) (form : Form) → Keeps form → Defaults form → IfSome (made words form) HasBudget
-in_row words form keeps default = by (is_followed form words) refl where
+in_row : (words : List (List ℕ)) (form : Form) → IsRow form → IfSome (made words form) HasBudget
+in_row words form row = by (is_followed form words) refl where
   turns_fit : (turns : Option ℕ) → IfSome turns IsBudget → are_options (is_some turns) (is_some form.seed) (drop form.names words) ≡ true → is_some turns ≡ true
       → IsBudget (given turns_word (unwrap_or turns 0) (drop form.names words))
   turns_fit None fits are some = absurd (true≢false (sym some))
@@ -86,18 +52,18 @@ in_row words form keeps default = by (is_followed form words) refl where
   by false is = tt
   by true is =
       let k = both (nat_le form.names (length words) && are_names (take form.names words)) (are_options (is_some form.turns) (is_some form.seed) (drop form.names words)) is in
-      keeps (take form.names words) _ _ (turns_fit form.turns default k.1)
+      row.keeps (take form.names words) _ _ (turns_fit form.turns row.default k.1)
 
 -- each row of a table
-by_rows : (rows : List Form) (verb : List ℕ) (words : List (List ℕ)) → AllByRecursion Keeps rows → AllByRecursion Defaults rows
+by_rows : (rows : List Form) (verb : List ℕ) (words : List (List ℕ)) → AllByRecursion IsRow rows
     → IfSome (option_and_then (made words) (find (λ form. bytes_eq form.verb verb) rows)) HasBudget
-by_rows [] verb words keep default = tt
-by_rows (form ∷ rows) verb words keep default = by (bytes_eq form.verb verb) (by_rows rows verb words keep.1 default.1) where
+by_rows [] verb words each = tt
+by_rows (form ∷ rows) verb words each = by (bytes_eq form.verb verb) (by_rows rows verb words each.1) where
   by : (b : Bool) → IfSome (option_and_then (made words) (find (λ form. bytes_eq form.verb verb) rows)) HasBudget
       → IfSome (option_and_then (made words) (if b then Some form else find (λ form. bytes_eq form.verb verb) rows)) HasBudget
-  by true others = in_row words form keep.0 default.0
+  by true others = in_row words form each.0
   by false others = others
 
 pub budget_in : (words : List (List ℕ)) → IfSome (command_of words) HasBudget
 budget_in [] = tt
-budget_in (verb ∷ words) = by_rows forms verb words each_keeps each_default
+budget_in (verb ∷ words) = by_rows forms verb words each_row

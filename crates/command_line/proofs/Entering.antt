@@ -1,7 +1,7 @@
 -- How `clap` comes to the words after a verb.
 use Rattle.std.proofs.Common.{◌≡◌, ◌∙◌, ◌&&◌, ap, sym, true, false, List, [], ◌∷◌, ◌++◌, refl, Some}
 use Rattle.std.specs.Prelude.{find, fold, is_some}
-use Rattle.std.specs.List.{AllByRecursion, list_all}
+use Rattle.std.specs.List.{list_all}
 use Rattle.clap.proofs.OnLiterals.{clap_on_literals}
 use Rattle.clap.proofs.WalkLemmas.{walk_stopped}
 use Rattle.clap.specs.Simple.{Shape, built, entered, label_of, names_of}
@@ -9,20 +9,19 @@ use Rattle.clap.specs.Takes.{default_passes, entered_passes, is_valid, level_pas
 use Rattle.clap.specs.Walk.{Names, Text, Walk, answers_to, finished, nothing_held, rows_after, walk, walk_from, walked}
 use Rattle.clap.specs.Words.{subcommand_of}
 use Rattle.command_line.specs.Grammar.{grammar_app}
-use Rattle.command_line.specs.Words.{Form, forms}
 use Rattle.command_line.proofs.Levels.{leaf}
 
-top : Shape
+unfoldable pub top : Shape
 top = (built grammar_app).top
 
-names : Names
+unfoldable pub names : Names
 names = names_of (built grammar_app)
 
-start : Walk
+unfoldable pub start : Walk
 start = walk_from nothing_held
 
 -- where the walk stands after a verb
-abbrev at_verb : Text → List Text → Walk
+abbrev pub at_verb : Text → List Text → Walk
 at_verb verb words = record (walk_from nothing_held) { stopped = Some (verb, words) }
 
 -- words after a verb are left to it
@@ -54,28 +53,9 @@ module _ (verb : Text) (passes : turn_passes top names start verb ≡ true) (sto
   unfolding clap_on_literals top names
   taken words level = rw (found, level, goes words) refl
 
-  enters : Enters verb
+  pub enters : Enters verb
   unfolding top names start
   enters = record {
     takes_is = λ words level. rw (comes words) (taken words level);
     rows_are = λ words. rw (comes words, found) refl;
   }
-
-pub each_enters : AllByRecursion (λ (form : Form). Enters form.verb) forms
-unfolding clap_on_literals top names start
-each_enters = (
-  enters _ refl refl refl,
-  (
-    enters _ refl refl refl,
-    (
-      enters _ refl refl refl,
-      (
-        enters _ refl refl refl,
-        (
-          enters _ refl refl refl,
-          (enters _ refl refl refl, (enters _ refl refl refl, (enters _ refl refl refl, (enters _ refl refl refl, (enters _ refl refl refl, tt))))),
-        ),
-      ),
-    ),
-  ),
-)

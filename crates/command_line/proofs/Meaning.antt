@@ -14,7 +14,7 @@ use Rattle.command_line.specs.Grammar.{AreDigits, AreRead, command_by, digits_gi
 use Rattle.command_line.specs.Words.{Form, are_names, are_options, are_turns, command_of, command_with, form_of, forms, given, is_digit, is_followed, is_given, is_name, is_number, is_option, is_plain, number_of, seed_word, turns_word}
 use Rattle.command_line.proofs.Numbers.{both}
 use Rattle.command_line.proofs.Levels.{IsReadAs, no_option, seed_alone, seed_first, turns_alone, turns_first}
-use Rattle.command_line.proofs.Entering.{Enters, each_enters}
+use Rattle.command_line.proofs.Rows.{IsRow, each_row}
 use Rattle.command_line.proofs.Walking.{IsPlainText, plain_text}
 
 -- plain words are taken, and read as the names and the options of a row of the table
@@ -182,9 +182,6 @@ read_as verb names options few are e =
     (seed_first verb names few plain) options e
 
 -- the words after a verb of the table
-abbrev Takes : Form → Type 0
-Takes form = nat_le form.names 5 ≡ true
-
 abbrev Follows : List Text → Form → Type 0
 Follows words form = form_of form.verb ≡ Some form → is_followed form words ≡ true → Means (form.verb ∷ words)
 
@@ -201,12 +198,12 @@ has_command form words row e =
     ap (option_and_then (λ (f : Form). if is_followed f words then Some (command_with f words) else None)) row
     ∙ ap (λ b. if b then Some (command_with form words) else None) e
 
-follows : (words : List Text) (form : Form) → Enters form.verb → Takes form → Follows words form
-follows words form enters few row e =
+follows : (words : List Text) (form : Form) → IsRow form → Follows words form
+follows words form is row e =
     let k = both (nat_le form.names (length words) && are_names (take form.names words)) (are_options (is_some form.turns) (is_some form.seed) (drop form.names words)) e in
     let m = both (nat_le form.names (length words)) (are_names (take form.names words)) k.0 in
     let options = all_taken (is_some form.turns) (is_some form.seed) (drop form.names words) k.1 in
-    let level = read_as form.verb (take form.names words) (drop form.names words) (rw (length-take-le form.names words (leb-true form.names (length words) m.0)) few) m.1 options in
+    let level = read_as form.verb (take form.names words) (drop form.names words) (rw (length-take-le form.names words (leb-true form.names (length words) m.0)) is.few) m.1 options in
     let whole : take form.names words ++ drop form.names words ≡ words = take-append-drop form.names words in
     record {
       verb = form.verb;
@@ -215,9 +212,9 @@ follows words form enters few row e =
       options = drop form.names words;
       is = has_command form words row e ∙ ap Some (commands_agree form words);
       of_verb = row;
-      taken = enters.takes_is words (rw whole at level.level.passes);
+      taken = is.enters.takes_is words (rw whole at level.level.passes);
       rows = level.rows;
-      entered = enters.rows_are words ∙ ap (λ rows. Some (form.verb, rows)) (rw whole at level.level.rows_are);
+      entered = is.enters.rows_are words ∙ ap (λ rows. Some (form.verb, rows)) (rw whole at level.level.rows_are);
       read = level.read;
       digits = record { turns_are = digits_are turns_word (drop form.names words) options; seed_is = digits_are seed_word (drop form.names words) options };
     }
@@ -235,9 +232,6 @@ found_in P verb (row ∷ rows) form e all = by (bytes_eq row.verb verb) refl e (
   by true is e rest = subst (λ (f : Form). P f × (bytes_eq f.verb verb ≡ true)) (inside e) (all.0, is)
   by false is e rest = rest e
 
-each_takes : AllByRecursion Takes forms
-each_takes = (refl, (refl, (refl, (refl, (refl, (refl, (refl, (refl, (refl, (refl, tt))))))))))
-
 -- the verb of plain words is one of the table
 pub plain_means : (words : List Text) → is_plain words ≡ true → Means words
 plain_means [] e = cc
@@ -245,6 +239,6 @@ plain_means (verb ∷ words) e = by (form_of verb) refl e where
   by : (o : Option Form) → form_of verb ≡ o → option_map_or (λ form. is_followed form words) o false ≡ true → Means (verb ∷ words)
   by None is e = cc
   by (Some form) is e =
-      let enters = found_in (λ f. Enters f.verb) verb forms form is each_enters in
-      let verb_is = same form.verb verb enters.1 in
-      subst (λ v. Means (v ∷ words)) verb_is (follows words form enters.0 (found_in Takes verb forms form is each_takes).0 (ap form_of verb_is ∙ is) e)
+      let row = found_in IsRow verb forms form is each_row in
+      let verb_is = same form.verb verb row.1 in
+      subst (λ v. Means (v ∷ words)) verb_is (follows words form row.0 (ap form_of verb_is ∙ is) e)

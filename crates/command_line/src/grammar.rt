@@ -1,5 +1,5 @@
 // Reads plain words by `clap`.
-ghost use Rattle.std.specs.Prelude.{◌≡◌, ℕ, List, Option, Some, IfOk, IfSome, IsSomeAnd, true, false, codes, map, slice_index_or, [], unwrap_or};
+ghost use Rattle.std.specs.Prelude.{◌≡◌, ℕ, List, Option, Some, IfOk, IfSome, IsSomeAnd, true, false, codes, map, unwrap_or};
 ghost use Rattle.std.specs.Option.{option_map_or};
 ghost use Rattle.clap.specs.Walk.{Row, all_of, one_of, rows_of, rule_of};
 ghost use Rattle.clap.specs.Simple.{app_of, subcommand_rows_of, with_rule, with_subcommand};
@@ -11,7 +11,7 @@ ghost use Rattle.command_line.specs.Forms.{command_in};
 ghost use Rattle.command_line.specs.Grammar.{AreDigits, AreRead, command_by, grammar_app, names_rule, option_rule, verb_app, with_verbs};
 
 use crate::command::Command;
-use crate::table::{FORMS, Form, form_of};
+use crate::table::{FORMS, Form, command_by, form_of};
 use carp_base::Memory;
 use clap::error::ErrorKind;
 use clap::{Arg, ArgMatches};
@@ -124,54 +124,4 @@ fn number_in(matches: &ArgMatches<'_>, id: &str, default: u64) -> u64
     ensures { (given : Option (List ℕ)) → one_of id.now (rows_of (found_of matches.now)) ≡ given → IfSome given (λ t. is_number t ≡ true) → result ≡ option_map_or number_of given default }
 {
     matches.get_one::<u64>(id).unwrap_or(default)
-}
-
-// The name at a place.
-fn name_at<'a>(names: &[&'a str], place: usize) -> &'a str
-    ensures { result.now ≡ slice_index_or (map (λ name. name.now) names.now) place [] }
-{
-    names.get(place).copied().unwrap_or("")
-}
-
-// The command of a verb with these names and numbers.
-fn command_by<'a>(verb: &str, names: &[&'a str], turns: u64, seed: u64) -> Option<Command<'a>>
-    ensures { (form : words.Form) → form_of verb.now ≡ Some form → IsSomeAnd result (λ r. command_in r ≡ form.command (map (λ name. name.now) names.now) turns seed) }
-{
-    let file = name_at(names, 0);
-    let cert = name_at(names, 1);
-    let third = name_at(names, 2);
-    match verb {
-        "solve" => Some(Command::Solve {
-            file,
-            cert,
-            turns,
-            seed,
-        }),
-        "check" => Some(Command::Check { file, cert }),
-        "sheet" => Some(Command::Sheet { file, cert }),
-        "make" => Some(Command::Make { file, seed }),
-        "drill" => Some(Command::Drill { turns, seed }),
-        "upgrade" => Some(Command::Upgrade {
-            file,
-            cert,
-            renewed: third,
-        }),
-        "postman" => Some(Command::Postman { file }),
-        "fleet" => Some(Command::Fleet { file, turns }),
-        "edit" => Some(Command::Edit {
-            file,
-            cert,
-            edits: third,
-            edited: name_at(names, 3),
-            carried: name_at(names, 4),
-        }),
-        "improve" => Some(Command::Improve {
-            file,
-            cert,
-            improved: third,
-            turns,
-            seed,
-        }),
-        _ => None,
-    }
 }

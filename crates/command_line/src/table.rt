@@ -1,8 +1,11 @@
-// The table of verbs.
-ghost use Rattle.std.specs.Prelude.{◌≡◌, None, MatchOption, IsSomeAnd, find, map, option_map};
+// The table of verbs, and the command of each.
+ghost use Rattle.std.specs.Prelude.{◌≡◌, None, Some, [], MatchOption, IsSomeAnd, find, map, option_map, slice_index_or};
 ghost use Rattle.std.specs.Str.{bytes_eq};
+ghost use Rattle.command_line.specs.Words as words;
 ghost use Rattle.command_line.specs.Words.{form_of};
-ghost use Rattle.command_line.specs.Forms.{row_in, row_of};
+ghost use Rattle.command_line.specs.Forms.{command_in, row_in, row_of};
+
+use crate::command::Command;
 
 /// What may follow a verb: so many names, and then the options that stand here, with the number that holds if they are not given.
 #[derive(Clone, Copy)]
@@ -98,4 +101,59 @@ pub(crate) fn form_of(verb: &str) -> Option<Form>
     ensures { MatchOption result (form_of verb.now ≡ None) (λ f. IsSomeAnd (form_of verb.now) (λ form. row_in f ≡ row_of form)) }
 {
     row_of(&FORMS, verb)
+}
+
+// The name at a place.
+fn name_at<'a>(names: &[&'a str], place: usize) -> &'a str
+    ensures { result.now ≡ slice_index_or (map (λ name. name.now) names.now) place [] }
+{
+    names.get(place).copied().unwrap_or("")
+}
+
+/// The command of a verb with these names and numbers.
+pub(crate) fn command_by<'a>(
+    verb: &str,
+    names: &[&'a str],
+    turns: u64,
+    seed: u64,
+) -> Option<Command<'a>>
+    ensures { (form : words.Form) → form_of verb.now ≡ Some form → IsSomeAnd result (λ r. command_in r ≡ form.command (map (λ name. name.now) names.now) turns seed) }
+{
+    let file = name_at(names, 0);
+    let cert = name_at(names, 1);
+    let third = name_at(names, 2);
+    match verb {
+        "solve" => Some(Command::Solve {
+            file,
+            cert,
+            turns,
+            seed,
+        }),
+        "check" => Some(Command::Check { file, cert }),
+        "sheet" => Some(Command::Sheet { file, cert }),
+        "make" => Some(Command::Make { file, seed }),
+        "drill" => Some(Command::Drill { turns, seed }),
+        "upgrade" => Some(Command::Upgrade {
+            file,
+            cert,
+            renewed: third,
+        }),
+        "postman" => Some(Command::Postman { file }),
+        "fleet" => Some(Command::Fleet { file, turns }),
+        "edit" => Some(Command::Edit {
+            file,
+            cert,
+            edits: third,
+            edited: name_at(names, 3),
+            carried: name_at(names, 4),
+        }),
+        "improve" => Some(Command::Improve {
+            file,
+            cert,
+            improved: third,
+            turns,
+            seed,
+        }),
+        _ => None,
+    }
 }

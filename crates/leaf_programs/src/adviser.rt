@@ -22,7 +22,7 @@ impl Adviser for LeafPrograms {
         best: &PriceSet,
         aim: Aim,
     ) -> Result<Option<PriceSet>, Memory> {
-        self.raise(alloc, leaf, table, pool, best, aim.number, aim.cost)
+        self.raise(alloc, leaf, table, pool, best, aim)
     }
 
     fn split(

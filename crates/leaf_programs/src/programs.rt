@@ -20,7 +20,7 @@ use branch_rules::{Branch, Node, PriceSet};
 use carp_base::{Instance, Memory, Task};
 use column_generation::{Generation, Kept, adopted, begin, enough_for, is_small, taken_up};
 use cut_pool::ShorePool;
-use leaf_adviser::Leaf;
+use leaf_adviser::{Aim, Leaf};
 use price_points::PricingProblem;
 use route_pricing::Table;
 use std::alloc::Global;
@@ -67,9 +67,10 @@ pub struct LeafPrograms {
     most_work: u64,
 }
 
-// Where a leaf begins if there is no program to go on from, and when it ends.
+// A leaf by its decisions, where it begins if there is no program to go on from, and when it ends.
 #[derive(Clone, Copy)]
 struct Start<'a> {
+    branch: &'a Branch,
     // The set that the leaf names, and its number.
     set: &'a PriceSet,
     number: u32,
@@ -93,7 +94,8 @@ impl LeafPrograms {
         }
     }
 
-    // A price set for a leaf of a branch that names the set `start` of a number, or `None`. A bound of `cost` is enough.
+    // A price set for a leaf of a branch that names the set `start` of the aim's number, or `None`. A bound of the aim's
+    // cost is enough.
     pub(crate) fn raise(
         &mut self,
         alloc: Global,
@@ -101,8 +103,7 @@ impl LeafPrograms {
         table: &mut Table,
         pool: &mut ShorePool,
         start: &PriceSet,
-        number: u32,
-        cost: u64,
+        aim: Aim,
     ) -> Result<Option<PriceSet>, Memory>
         requires leaf { IsLeaf leaf.now }
         requires room { IsRoom leaf.now.inst.now table.old }
@@ -118,9 +119,10 @@ impl LeafPrograms {
             return Ok(None);
         }
         let from = Start {
+            branch: leaf.branch,
             set: start,
-            number,
-            enough: enough_for(leaf.inst, cost),
+            number: aim.number,
+            enough: enough_for(leaf.inst, aim.cost),
         };
         match self.generation_at(alloc, leaf, table, pool, &from)? {
             Some(generation) => self.put_back(alloc, leaf, pool, start, generation),
@@ -171,7 +173,7 @@ impl LeafPrograms {
             net: leaf.net,
             allowed: &allowed,
         };
-        self.finished_generation(alloc, &problem, table, pool, leaf.branch, from)
+        self.finished_generation(alloc, &problem, table, pool, from)
     }
 
     // The same for a problem.
@@ -181,7 +183,6 @@ impl LeafPrograms {
         problem: &PricingProblem<'_>,
         table: &mut Table,
         pool: &ShorePool,
-        branch: &Branch,
         from: &Start<'_>,
     ) -> Result<Option<Generation>, Memory>
         requires problem { IsPricingProblem problem.now }
@@ -191,7 +192,7 @@ impl LeafPrograms {
         ensures generation { IfOk result (λ found. IfSome found (IsGeneration problem.now.inst.now)) }
         ensures room { IsRoom problem.now.inst.now table.new }
     {
-        let begun = self.generation_for(alloc, problem, table, pool, branch, from)?;
+        let begun = self.generation_for(alloc, problem, table, pool, from)?;
         let Some(mut generation) = begun else {
             return Ok(None);
         };
@@ -214,7 +215,6 @@ impl LeafPrograms {
         problem: &PricingProblem<'_>,
         table: &mut Table,
         pool: &ShorePool,
-        branch: &Branch,
         from: &Start<'_>,
     ) -> Result<Option<Generation>, Memory>
         requires problem { IsPricingProblem problem.now }
@@ -227,9 +227,10 @@ impl LeafPrograms {
         let held = mem::replace(&mut self.generation, None);
         let Some(generation) = held else {
             self.kept = KeptPrograms::new(alloc);
-            return begin(alloc, problem, table, pool, branch, from.set, from.enough);
+            let Start { branch, enough, .. } = *from;
+            return begin(alloc, problem, table, pool, branch, from.set, enough);
         };
-        self.next_generation(alloc, problem, table, pool, branch, from, generation)
+        self.next_generation(alloc, problem, table, pool, from, generation)
     }
 
     // The same from the generation of another leaf.
@@ -239,7 +240,6 @@ impl LeafPrograms {
         problem: &PricingProblem<'_>,
         table: &mut Table,
         pool: &ShorePool,
-        branch: &Branch,
         from: &Start<'_>,
         generation: Generation,
     ) -> Result<Option<Generation>, Memory>
@@ -250,7 +250,7 @@ impl LeafPrograms {
         ensures generation { IfOk result (λ found. IfSome found (IsGeneration problem.now.inst.now)) }
         ensures room { IsRoom problem.now.inst.now table.new }
     {
-        let enough = from.enough;
+        let Start { branch, enough, .. } = *from;
         let last = last_of(branch);
         if let Some(kept) = self.kept.find(from.number, last) {
             let found = taken_up(alloc, problem, pool, branch, kept, enough, generation)?;

@@ -38,7 +38,6 @@ impl Adviser for AscentAdviser {
         best: &PriceSet,
         aim: Aim,
     ) -> Result<Option<PriceSet>, Memory> {
-        let Leaf { inst, net, branch } = *leaf;
-        ascend(alloc, inst, net, table, pool, branch, best, aim.rounds)
+        ascend(alloc, leaf, table, pool, best, aim.rounds)
     }
 }

@@ -3,18 +3,18 @@ ghost use Rattle.std.specs.Prelude.{◌≡◌, All, IfOk, IfSome, length};
 ghost use Rattle.cut_pool.specs.Pools.{IsGrown};
 ghost use Rattle.cut_pool.specs.Shores.{Belongs};
 ghost use Rattle.branch_rules.specs.Limits.{IsShoreOf};
-ghost use Rattle.decision_chains.specs.Pairs.{ArePairsIn};
 ghost use Rattle.route_pricing.specs.Tables.{IsRoom};
+ghost use Rattle.leaf_adviser.specs.Leaves.{IsLeaf};
 ghost use Rattle.leaf_adviser.specs.Offers.{IsOffer};
 ghost use Rattle.price_ascent.specs.Ascents.{IsAscent};
 
 use crate::ascent::Ascent;
 use crate::start::start_of;
-use branch_rules::{Branch, PriceSet};
+use branch_rules::PriceSet;
 use carp_base::{Instance, Memory};
 use cut_pool::ShorePool;
+use leaf_adviser::Leaf;
 use price_points::{PricingProblem, UNIT, place_weights, shores_with_weights};
-use road_network::Network;
 use route_pricing::Table;
 use std::alloc::Global;
 
@@ -30,31 +30,28 @@ const WORK: u64 = 1_650_000_000;
 // instance is so large that 60 fills of the table pass a measure of work.
 pub(crate) fn ascend(
     alloc: Global,
-    inst: &Instance,
-    net: &Network,
+    leaf: &Leaf<'_>,
     table: &mut Table,
     pool: &mut ShorePool,
-    branch: &Branch,
     start: &PriceSet,
     rounds: u32,
 ) -> Result<Option<PriceSet>, Memory>
-    requires net { net.now ≡ inst.now }
-    requires room { IsRoom inst.now table.old }
-    requires pairs { ArePairsIn inst.now branch.now }
-    requires belong { All (Belongs inst.now) pool.old }
-    requires shores { All (λ w. IsShoreOf inst.now pool.old w.shore) start.now.weights }
-    requires one_each { length start.now.services ≡ inst.now.required }
-    ensures offer { IfOk result (λ set. IfSome set (IsOffer inst.now pool.new)) }
+    requires leaf { IsLeaf leaf.now }
+    requires room { IsRoom leaf.now.inst.now table.old }
+    requires belong { All (Belongs leaf.now.inst.now) pool.old }
+    requires shores { All (λ w. IsShoreOf leaf.now.inst.now pool.old w.shore) start.now.weights }
+    requires one_each { length start.now.services ≡ leaf.now.inst.now.required }
+    ensures offer { IfOk result (λ set. IfSome set (IsOffer leaf.now.inst.now pool.new)) }
     ensures grown { IsGrown pool.old pool.new }
-    ensures belong { All (Belongs inst.now) pool.new }
-    ensures room { IsRoom inst.now table.new }
+    ensures belong { All (Belongs leaf.now.inst.now) pool.new }
+    ensures room { IsRoom leaf.now.inst.now table.new }
 {
-    let fills = fills_for(inst, rounds);
+    let fills = fills_for(leaf.inst, rounds);
     if fills == 0 {
         return Ok(None);
     }
-    match best_ascent(alloc, inst, net, table, pool, branch, start, fills)? {
-        Some(ascent) => Ok(Some(offer(alloc, inst, pool, &ascent)?)),
+    match best_ascent(alloc, leaf, table, pool, start, fills)? {
+        Some(ascent) => Ok(Some(offer(alloc, leaf.inst, pool, &ascent)?)),
         None => Ok(None),
     }
 }
@@ -80,30 +77,26 @@ fn fills_for(inst: &Instance, rounds: u32) -> u32 {
 // The ascent after so many fills.
 fn best_ascent(
     alloc: Global,
-    inst: &Instance,
-    net: &Network,
+    leaf: &Leaf<'_>,
     table: &mut Table,
     pool: &ShorePool,
-    branch: &Branch,
     start: &PriceSet,
     fills: u32,
 ) -> Result<Option<Ascent>, Memory>
-    requires net { net.now ≡ inst.now }
-    requires room { IsRoom inst.now table.old }
-    requires pairs { ArePairsIn inst.now branch.now }
-    requires shores { All (λ w. IsShoreOf inst.now pool.now w.shore) start.now.weights }
-    requires one_each { length start.now.services ≡ inst.now.required }
-    ensures ascent { IfOk result (λ found. IfSome found (IsAscent inst.now)) }
-    ensures room { IsRoom inst.now table.new }
+    requires leaf { IsLeaf leaf.now }
+    requires room { IsRoom leaf.now.inst.now table.old }
+    requires shores { All (λ w. IsShoreOf leaf.now.inst.now pool.now w.shore) start.now.weights }
+    requires one_each { length start.now.services ≡ leaf.now.inst.now.required }
+    ensures ascent { IfOk result (λ found. IfSome found (IsAscent leaf.now.inst.now)) }
+    ensures room { IsRoom leaf.now.inst.now table.new }
 {
-    inst.validity();
-    let allowed = branch.allowed(alloc, inst)?;
+    let allowed = leaf.branch.allowed(alloc, leaf.inst)?;
     let problem = PricingProblem {
-        inst,
-        net,
+        inst: leaf.inst,
+        net: leaf.net,
         allowed: &allowed,
     };
-    let start = start_of(alloc, inst, pool, branch, start)?;
+    let start = start_of(alloc, leaf.inst, pool, leaf.branch, start)?;
     let Some(mut ascent) = Ascent::begin(alloc, &problem, table, start)? else {
         return Ok(None);
     };

@@ -2,7 +2,7 @@ use Rattle.std.proofs.Common.{◌≡◌, ◌∙◌, sym, false, refl, rules, cod
 use Rattle.std.specs.Str.{bytes_eq}
 use Rattle.command_line.specs.Words.{form_of}
 use Rattle.command_line.proofs.Matched.{none_is_not_some}
-use Rattle.command_line.proofs.grammar.command_by.Goals as goal
+use Rattle.command_line.proofs.table.command_by.Goals as goal
 
 pub returns-in_default : goal.returns-in_default
 returns-in_default c = λ form is.
