@@ -199,7 +199,8 @@ class Stubbed(FolderTest):
         lock = self.folder / "town.cert.lock"
         self.plan('{"other": [10, 10, 0]}')
         with lock.open("w") as file:
-            fcntl.flock(file, fcntl.LOCK_EX)
+            # Others may share this lock. So a run that asks for less than the lock alone is noticed, too.
+            fcntl.flock(file, fcntl.LOCK_SH)
             self.refused(7, "another run of tools/longer holds")
         lock.write_text("mine")
         self.refused(7, "is no lock of tools/longer")
